@@ -26,7 +26,7 @@ who_fits:
 
 # Compiles without a proof and runs the example, in about a minute.
 try:
-	bin/try.sh
+	examples/try.sh
 
 example: build
 	out/inrc2pb encode --sce examples/n005w4/ward.txt --his examples/n005w4/history-0.txt \
@@ -34,7 +34,7 @@ example: build
 
 # A week to a solver and back, each command shown before it runs.
 tour: build
-	bin/tour.sh
+	examples/tour.sh
 
 # Installs cbc from Debian, as root, plans the weeks of docs/solvers.md, and writes its table: takes some minutes.
 solvers: build
@@ -94,7 +94,7 @@ install:
 	test ! -x "$(BOUND)" || install -m 755 "$(BOUND)" "$(BIN)/inrc2pb-bound"
 	test ! -x "$(PERIOD_BOUND)" || install -m 755 "$(PERIOD_BOUND)" "$(BIN)/inrc2pb-period-bound"
 	test ! -x "$(FITS)" || install -m 755 "$(FITS)" "$(BIN)/inrc2pb-fits"
-	$(if $(HELPERS),install -m 755 $(HELPERS) "$(BIN)")
+	for helper in $(notdir $(HELPERS)); do install -m 755 helpers/launcher.py "$(BIN)/$$helper" || exit; done
 	for module in $(MODULES:helpers/%=%); do install -D -m 644 "helpers/$$module" "$(SHARE)/inrc2pb/$$module" || exit; done
 	install -m 644 man/*.1 "$(SHARE)/man/man1"
 	for helper in $(notdir $(HELPERS)); do echo '.so man1/inrc2pb-helpers.1' > "$(SHARE)/man/man1/$$helper.1"; done

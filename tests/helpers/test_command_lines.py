@@ -94,7 +94,7 @@ class Starting(HelperTest):
         library.mkdir()
         (library / "__init__.py").write_text("import os, signal\nos.kill(os.getpid(), signal.SIGINT)\n")
         for name in NAMES:
-            shutil.copy(HELPERS / f"inrc2pb-{name}", self.folder)
+            shutil.copy(HELPERS / "launcher.py", self.folder / f"inrc2pb-{name}")
             self.assertEqual(self.interrupted(name), (-signal.SIGINT, b"", b""), name)
 
     def test_ctrl_c_later_is_caught(self):

@@ -111,8 +111,8 @@ class Finding(HelperTest):
         self.assertEqual((ran.stdout[:28], ran.stderr), (b"ward, week 0: 33 assignments", b""))
 
     def test_a_helper_of_another_name(self):
-        ran = subprocess.run([str(HELPERS / "launcher")], stdout=subprocess.PIPE, stderr=subprocess.PIPE)
-        self.assertEqual((ran.returncode, ran.stderr[:46]), (1, b"launcher: no helper has this name: give it one"))
+        ran = subprocess.run([str(HELPERS / "launcher.py")], stdout=subprocess.PIPE, stderr=subprocess.PIPE)
+        self.assertEqual((ran.returncode, ran.stderr[:46]), (1, b"launcher.py: no helper has this name: give it "))
 
     def test_a_clone_uses_its_own_program(self):
         clone, other = self.folder / "clone", self.folder / "other"

@@ -1,7 +1,7 @@
 #!/usr/bin/env python3
 """Finds the helpers' library, in this folder or installed, and runs the helper whose name it has.
 
-Each command of this folder is a copy of this file: the gate takes no links.
+Each command of this folder imports this file, and an installed command is a copy of it.
 """
 
 import os
@@ -24,4 +24,5 @@ else:
 
 from inrc2pb.commands.launch import launch  # noqa: E402
 
-launch()
+if __name__ == "__main__":
+    launch()

@@ -1,13 +1,13 @@
 #!/usr/bin/env bash
 # Goes once around with the built program and a solver: a week, its model, an answer, a roster, and back.
 #
-#   bin/tour.sh [SOLVER]      clasp, minisat+ or sat4j; without one, the first of them that is installed
+#   examples/tour.sh [SOLVER]      clasp, minisat+ or sat4j; without one, the first of them that is installed
 #
 # Each command is shown before it runs, and stopped after LIMIT seconds (120). The files stay in out/tour.
 # PROGRAM and BOUND name other programs than out/inrc2pb and out/inrc2pb-bound.
 set -u
 cd "$(dirname "$0")/.." || exit 2
-. bin/solver_commands.sh
+. examples/solver_commands.sh
 
 limit=${LIMIT:-120}
 program=${PROGRAM:-out/inrc2pb}

@@ -1,7 +1,7 @@
 #!/usr/bin/env bash
 # Compiles the program without proving anything, and runs `encode` and `decode` on the week of five nurses.
 #
-#   bin/try.sh
+#   examples/try.sh
 #
 # Needs Rattle's command `rt`. Takes about a minute, and keeps no program.
 set -u
