@@ -5,7 +5,7 @@
     bench/many.py run LINE              runs the command of a line, and prints its result as a line of JSON
     bench/many.py table RESULTS         prints a table of all results
 
-A line is a command of a shell, such as `inrc2pb-improve $WEEK --time 60 --seed 1 --sol {}/roster.txt` with a week's files. It
+A line is a command of a shell, such as `inrc2pb-improve $WEEK --time 60 --sol {}/roster.txt` with a week's files. It
 runs in this clone's folder, which may be on another machine, with the clone's helpers first in PATH, and {} is an empty folder of
 its own. bench/many.sh and bench/many_slurm.sh run the lines that are left, by GNU parallel and by Slurm.
 """
@@ -30,7 +30,7 @@ PENALTY = re.compile(r"^(?:penalty|period) +([0-9]+)\b", re.MULTILINE)
 BOUND = re.compile(r"^lower bound ([0-9]+)\b", re.MULTILINE)
 # The shell reports with greater statuses that a signal ended a command: the line is still to be run.
 LAST_STATUS = 127
-HIDDEN = ("--sce", "--his", "--sol", "--out", "--seed", "--rand", "--cusOut")
+HIDDEN = ("--sce", "--his", "--sol", "--out", "--rand", "--cusOut")
 
 
 class Result(NamedTuple):
@@ -114,9 +114,9 @@ def _row(name: str, results: List[Result], alike: bool = True) -> str:
     """A row of the table. The penalties of lines that are not alike are left out."""
     solved = [result for result in results if result.penalty is not None]
     proved = [result for result in solved if result.penalty == result.bound]
-    gaps = [round(100 * (of.penalty - of.bound) / of.penalty, 1) for of in solved if of.penalty and of.bound is not None]
-    figures = [_spread(of.penalty for of in results if alike), _spread(of.bound for of in results if alike), _spread(gaps)]
-    costs = [_spread(of.seconds for of in results), _spread(of.processor for of in results), str(max(of.megabytes for of in results))]
+    gaps = [round(100 * (run.penalty - run.bound) / run.penalty, 1) for run in solved if run.penalty and run.bound is not None]
+    figures = [_spread(run.penalty for run in results if alike), _spread(run.bound for run in results if alike), _spread(gaps)]
+    costs = [_spread(run.seconds for run in results), _spread(run.processor for run in results), str(max(run.megabytes for run in results))]
     return f"| {' | '.join([name.replace('|', f'{chr(92)}|'), *map(str, map(len, (results, solved, proved))), *figures, *costs])} |"
 
 
@@ -125,12 +125,12 @@ def table(results: Iterable[Result]) -> List[str]:
     settings: Dict[str, List[Result]] = {}
     for result in results:
         settings.setdefault(_setting(result.line), []).append(result)
-    every = [result for of in settings.values() for result in of]
+    every = [result for run in settings.values() for result in run]
     if not every:
         return ["no result yet"]
     head = ["| line | runs | rosters | proved | penalty | bound | gap, % | seconds | processor seconds | MB |", "|---|" + "---:|" * 9]
-    faults = [f"status {of.status}: {of.line}: {of.fault}" for of in every if of.status]
-    return [*head, *(_row(name, of) for name, of in sorted(settings.items())), _row("all", every, False), *[""] * bool(faults), *faults]
+    faults = [f"status {run.status}: {run.line}: {run.fault}" for run in every if run.status]
+    return [*head, *(_row(name, run) for name, run in sorted(settings.items())), _row("all", every, False), *[""] * bool(faults), *faults]
 
 
 def main() -> int:

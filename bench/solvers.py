@@ -109,8 +109,8 @@ def machine() -> str:
 def table(runs: Dict[str, Run]) -> str:
     """The table of these runs."""
     lines = ["| week | penalty | lower bound | the best | seconds | of processors | MB |", "|---|---:|---:|---|---:|---:|---:|"]
-    for name, of in runs.items():
-        lines.append(f"| `{name}` | {of.penalty} | {of.bound} | {of.proved} | {of.seconds:.1f} | {of.processor:.1f} | {of.memory} |")
+    for name, run in runs.items():
+        lines.append(f"| `{name}` | {run.penalty} | {run.bound} | {run.proved} | {run.seconds:.1f} | {run.processor:.1f} | {run.memory} |")
     return "\n".join(lines)
 
 

@@ -37,7 +37,7 @@ def random_cases(plan, chance, number):
     """Cases of some nurses and days, with any prices."""
     prices = lambda: [chance.choice([0, 15, 30, 200]) * POINT for _ in plan.demand]  # noqa: E731
     off = [(chance.randrange(len(plan.nurses)), chance.randrange(7)) for _ in range(number)]
-    return [PricedCase(of, prices()) for of in [*dict.fromkeys(off), None]]
+    return [PricedCase(nurse_day, prices()) for nurse_day in [*dict.fromkeys(off), None]]
 
 
 class CaseBounds(unittest.TestCase):

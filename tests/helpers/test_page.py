@@ -260,8 +260,8 @@ class Calendars(PageTest):
         self.assertEqual({name: lines.count("BEGIN:VEVENT") for name, lines in found.items()}, Counter(f"{row.nurse}.ics" for row in rows))
         chen = found["Chen.ics"]
         for lines in (("DTSTART;VALUE=DATE:20261202", "SUMMARY:Late Nurse"), ("DTSTART:20261206T220000", "DTEND:20261207T061500", "SUMMARY:Night Nurse")):
-            at = chen.index(lines[0])
-            self.assertEqual(chen[at : at + len(lines)], list(lines))
+            begin = chen.index(lines[0])
+            self.assertEqual(chen[begin : begin + len(lines)], list(lines))
         numbers = [line for lines in found.values() for line in lines if line.startswith("UID:")]
         self.assertEqual(len(set(numbers)), len(rows))
         self.assertTrue(all("DTSTAMP:20261130T000000Z" in lines for lines in found.values()))

@@ -64,7 +64,7 @@ class Proofs(FakeProver):
     def search(self, price, is_final=True, points=BY_PYTHON.points):
         """A search with this price at each place of an even number."""
         crews = Crews(self.plan)
-        prices = [price * (at % 2 == 0) for at in range(len(crews.places))]
+        prices = [price * (number % 2 == 0) for number in range(len(crews.places))]
         return SimpleNamespace(bound=0, lower_bound=points, prices=prices, pricing=SimpleNamespace(crews=crews), plan=self.plan, complete=is_final)
 
     def found(self, proof, *searches):

@@ -222,8 +222,8 @@ class Tables(HelperTest):
     def test_colors_have_the_order_of_the_scenario(self):
         pictures = [run("table", "--svg", *words)[1] for words in (TWO_WEEKS, ("--sce", SCENARIO, ROSTER))]
         for picture in pictures:
-            at = [picture.rindex(f">{shift}</text>") for shift in ("Day", "Late", "Night")]
-            self.assertEqual(at, sorted(at))
+            places = [picture.rindex(f">{shift}</text>") for shift in ("Day", "Late", "Night")]
+            self.assertEqual(places, sorted(places))
             xml.dom.minidom.parseString(picture)
 
     def test_a_full_disk(self):

@@ -68,13 +68,13 @@ class Rows(unittest.TestCase):
         for seed in range(60):
             plan, chance = random_plan(seed, 1 + seed % 2)
             pricing = pricing_of(plan)
-            for at, nurse in enumerate(plan.nurses):
+            for index, nurse in enumerate(plan.nurses):
                 for _ in range(6):
                     row = bytes(chance.randrange(len(plan.scenario.shift_types) + 1) for _ in range(plan.days))
                     wanted = cost_by_rules(plan, nurse, cells_of(plan, nurse, row))
                     if any(row) and not plan.scenario.nurses[nurse].skills:
                         wanted = None
-                    self.assertEqual(pricing.cost(at, row), wanted, (seed, nurse, row))
+                    self.assertEqual(pricing.cost(index, row), wanted, (seed, nurse, row))
 
     def test_the_cheapest_row_and_all_rows_within_a_gap(self):
         for seed in range(6):
@@ -83,11 +83,11 @@ class Rows(unittest.TestCase):
             prices = [chance.randrange(40 * POINT) for _ in pricing.crews.places]
             gains = pricing.crews.gains(prices)
             for nurse in range(2):
-                of, values = pricing.crews.of[nurse], {}
+                table, values = pricing.crews.of[nurse], {}
                 for choices in itertools.product(range(len(plan.scenario.shift_types) + 1), repeat=7):
                     cost = pricing.cost(nurse, bytes(choices))
                     if cost is not None:
-                        values[bytes(choices)] = cost * POINT - sum(gains[of[day][choice]] for day, choice in enumerate(choices))
+                        values[bytes(choices)] = cost * POINT - sum(gains[table[day][choice]] for day, choice in enumerate(choices))
                 best = pricing.cheapest(nurse, gains)
                 self.assertEqual((best.value, values[best.row]), (min(values.values()), best.value))
                 within = {row for row, value in values.items() if value <= best.value + 50 * POINT}
@@ -110,7 +110,7 @@ class Rows(unittest.TestCase):
                 if rule is None:
                     total = sum(costs(week, roster.cells, plan.early).values())
                     self.assertLessEqual(bound, total * POINT)
-                    self.assertEqual(total, sum(pricing.cost(at, row) for at, row in enumerate(rows)) + 30 * roster.missing)
+                    self.assertEqual(total, sum(pricing.cost(index, row) for index, row in enumerate(rows)) + 30 * roster.missing)
 
     def test_a_bound_counts_rosters_that_break_absences(self):
         for seed in range(10):

@@ -110,8 +110,8 @@ class Formats(HelperTest):
     def test_files_that_are_no_spreadsheets(self):
         good = (DATA / "libreoffice.ods").read_bytes()
         with zipfile.ZipFile(DATA / "libreoffice.ods") as archive:
-            at = archive.getinfo("content.xml").header_offset + 60
-        flipped = good[:at] + bytes(200) + good[at + 200 :]
+            begin = archive.getinfo("content.xml").header_offset + 60
+        flipped = good[:begin] + bytes(200) + good[begin + 200 :]
         bomb = '<!DOCTYPE x [<!ENTITY a "aaaaaaaaaa"><!ENTITY b "&a;&a;&a;&a;">]><x>&b;</x>'
         for name, data, said in (
             ("old.xls", b"\xd0\xcf\x11\xe0" + bytes(600), "this is an old Excel file, or one with a password: save it without one as .xlsx or .ods"),

@@ -265,7 +265,7 @@ class Command(HelperTest):
         folder = self.folder / "sheets"
         folder.mkdir()
         for name, rows in SHEETS.items():
-            wrong = [[cell if not at or not number else "x" for at, cell in enumerate(row)] for number, row in enumerate(rows)]
+            wrong = [[cell if not column or not number else "x" for column, cell in enumerate(row)] for number, row in enumerate(rows)]
             text = io.StringIO()
             csv.writer(text).writerows(wrong if name == "plan" else rows)
             (folder / f"{name}.csv").write_text(text.getvalue())

@@ -1,6 +1,6 @@
 """Reads the result files of MIP solvers, as answers that `inrc2pb decode` reads.
 
-Known are the files of cbc, glpsol, HiGHS and SCIP, Gurobi's list of names and values, and toulbar2's list.
+Known are the files of cbc, glpsol and HiGHS, and Gurobi's list of names and values.
 """
 
 import re
@@ -196,22 +196,6 @@ def _until_comment(lines: Iterator[Line]) -> Iterator[Tuple[int, List[str]]]:
         yield number, words
 
 
-def _of_scip(first: Line, lines: Iterator[Line], _ended: str) -> Answer:
-    """`solution status: ..`, `objective value: ..`, then a name, a value and `(obj:..)` a line."""
-    says = first[1].partition(":")[2].strip()
-    if says == "infeasible":
-        return Answer("UNSATISFIABLE")
-    second = next(lines, (0, ""))[1]
-    if not second.startswith("objective value:"):
-        return Answer("UNKNOWN")
-    status = "optimal" if says == "optimal solution found" else "stopped"
-    return Answer(STATUSES[status], _objective(second.partition(":")[2].strip()), _values(_words(lines)))
-
-
-def _of_raw_glpsol(_first: Line, _lines: Iterator[Line], _ended: str) -> Answer:
-    raise SolutionFault("this is the solution without names that `glpsol -w` writes: let `glpsol -o` write it")
-
-
 def _of_list(first: Line, lines: Iterator[Line], ended: str) -> Answer:
     """Names and values, as Gurobi and others write them; `# Objective value = ..` in front, if at all."""
     objective = None
@@ -223,24 +207,9 @@ def _of_list(first: Line, lines: Iterator[Line], ended: str) -> Answer:
     return Answer(STATUSES[ended], objective, _values(_words(line for part in (rows, lines) for line in part)))
 
 
-def _of_toulbar2(first: Line, lines: Iterator[Line], ended: str) -> Answer:
-    """`x1=v0 x2=v1 ..` on one line: the last line is the last solution."""
-    last = first
-    for last in lines:
-        pass
-    variables = array("L")
-    for word in last[1].split():
-        name, _, value = word.partition("=")
-        _put_value(last[0], name, value[1:] if value.startswith("v") else value, variables)
-    return Answer(STATUSES[ended], None, variables)
-
-
 _READERS: List[Tuple["re.Pattern[str]", Callable[[Line, Iterator[Line], str], Answer]]] = [
-    (re.compile(r"solution status:"), _of_scip),
     (re.compile(r"Model status$"), _of_highs),
     (re.compile(r"Problem:"), _of_glpsol),
-    (re.compile(r"c Problem:"), _of_raw_glpsol),
     (re.compile(r".* - objective value"), _of_cbc),
-    (re.compile(r"x[0-9]+="), _of_toulbar2),
     (re.compile(r"#|x[0-9]+\s"), _of_list),
 ]
