@@ -43,7 +43,7 @@ def _options() -> argparse.ArgumentParser:
     return options
 
 
-def _ward_name(path: Path) -> str:
+def ward_name(path: Path) -> str:
     """A name for the ward, from that of the file."""
     return re.sub("[(),= ]", "_", tidy(path.resolve().stem)) or "ward"
 
@@ -153,7 +153,7 @@ def main() -> int:
     book = read_book(given.tables)
     days = read_days(book)
     weeks = _period(days, days.weeks if given.weeks is None else given.weeks)
-    files = ward_files(book, _ward_name(given.tables), days, weeks, reasons)
+    files = ward_files(book, ward_name(given.tables), days, weeks, reasons)
     old = list(_old_histories(given.out, files.texts["history-0.txt"], weeks))
     _write(given.out, files.texts)
     for line in files.warnings:

@@ -21,7 +21,7 @@ from ..rows.row_arrays import INSTALL as INSTALL_NUMPY
 from ..rows.row_arrays import numpy
 from ..rows.row_run import RowRun
 from ..rows.row_search import GIVEN
-from ..rows.skills import staffed
+from ..rows.skills import rows_of, staffed
 
 # The cells of a plan from which on NumPy makes a difference.
 LARGE = 400
@@ -34,15 +34,18 @@ Keep = Callable[[Sequence[Cell]], None]
 
 class PeriodSearch:
     """A search within the time of its clock. `keep` gets each better plan, after `inrc2pb extend` has checked its rosters; `prices` is the
-    folder for the prices of the bound, if any.
+    folder for the prices of the bound, and `start` the plan to begin with, if any. It may break rules: then its weeks of nurses are of use.
 
     `penalty` is that of the best plan, with the forecast of weeks that are not known; `bound` is what no plan costs less than.
     """
 
-    def __init__(self, weeks: PlannedWeeks, keep: Keep, clock: Clock, progress: Progress, prices: Optional[Path] = None) -> None:
+    def __init__(
+        self, weeks: PlannedWeeks, keep: Keep, clock: Clock, progress: Progress, prices: Optional[Path] = None, start: Optional[Sequence[Cell]] = None
+    ) -> None:
         self._weeks, self._keep, self._clock, self._progress, self._prices = weeks, keep, clock, progress, prices
         self._processes = Processes()
         self._proof = PeriodBound(weeks, clock, progress.warn)
+        self._start = start
         self.penalty: Optional[int] = None
         self.bound: Optional[Bound] = None
         self._cells: Sequence[Cell] = ()
@@ -106,7 +109,7 @@ class PeriodSearch:
             self._keep(cells)
             self._cells = cells
             self.penalty = run.search.value_of(rows) if self._weeks.later() and run.search else penalty
-            self._progress.improved(penalty, "week after week" if finder == GIVEN else finder)
+            self._progress.improved(penalty, finder if finder != GIVEN else "week after week" if self._start is None else "the earlier plan")
             # Before the search, the cost of the weeks that are not known is not known either.
             return self.penalty if run.search or not self._weeks.later() else None
 
@@ -118,9 +121,15 @@ class PeriodSearch:
             if not plan.away:
                 self._progress.bound_rose(run.search.lower_bound)
 
-        run = RowRun(plan, solver, self._clock, offer, heard, self._week_after_week(plan, solver))
+        run = RowRun(plan, solver, self._clock, offer, heard, self._first(plan, solver))
         run.run()
         return run
+
+    def _first(self, plan: Plan, solver: Optional[LinearSolver]) -> Optional[List[NurseWeek]]:
+        """The rows to begin with: those of the given plan, as far as they keep the absences, or of one week after another."""
+        if self._start is None:
+            return self._week_after_week(plan, solver)
+        return rows_of(plan, (cell for cell in self._start if not plan.is_away(cell.nurse, cell.day, cell.shift)))
 
     def _week_after_week(self, plan: Plan, solver: Optional[LinearSolver]) -> Optional[List[NurseWeek]]:
         """Rows of all weeks, each planned before the next one and with what it may charge early; None if a week has no roster."""

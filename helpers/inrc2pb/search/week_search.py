@@ -20,7 +20,7 @@ from ..programs.program import BROKEN_RULE, FAULT, NO_ROSTER, WeekFiles, decode
 from ..programs.progress import Progress
 from ..rows.row_run import RowRun
 from ..judging.rules import REQUEST
-from ..rows.skills import staffed
+from ..rows.skills import rows_of, staffed
 from ..solvers.solvers import Solver
 
 
@@ -63,7 +63,7 @@ class WeekSearch:
         if not names:
             self._progress.warn(f"there is no cbc, clp or glpsol, so this is only a first roster: {INSTALL}")
         solver = LinearSolvers(names, self._processes, folder, self._progress.warn, resident=True) if names else None
-        rows = _rows(plan, start) if start else None
+        rows = rows_of(plan, start) if start else None
         try:
             run = self._run_rows(plan, solver, bounds, rows)
             if plan.away and (self._best.penalty is None or self._best.breaks()):
@@ -152,12 +152,3 @@ class WeekSearch:
         self._best.offer(read_solution(path).cells, solver.name)
         if report.optimal and self._best.penalty == report.penalty:
             self.bound, self.claimed_by = Bound(report.penalty, solver.name), solver.name
-
-
-def _rows(plan: Plan, cells: Sequence[Cell]) -> List[NurseWeek]:
-    """The rows of a roster."""
-    numbers = {shift: number for number, shift in enumerate(plan.scenario.shift_types, 1)}
-    rows = {nurse: bytearray(plan.days) for nurse in plan.nurses}
-    for cell in cells:
-        rows[cell.nurse][cell.day] = numbers[cell.shift]
-    return [bytes(row) for row in rows.values()]

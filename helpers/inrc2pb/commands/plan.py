@@ -1,0 +1,123 @@
+"""Plans a ward from one folder: its spreadsheet, and what verbs have made of it."""
+
+import argparse
+import sys
+from pathlib import Path
+from typing import Callable, Dict, List, Optional, Sequence
+
+from ..plans.plan_days import PlanDays
+from ..plans.told_absences import Told, with_told
+from ..plans.verbs import Means, Verbs
+from ..plans.ward_folder import WardFolder
+from ..plans.ward_plan import Sheet
+from ..programs.program import find_program
+from ..programs.progress import Progress
+from ..sheets.plan_sheets import AWAY, read_days
+from ..sheets.sheet_files import read_book
+from ..week.faults import Misuse
+from ..week.slots import did_you_mean
+from .command import check_seconds, number_of_seconds, parser
+from .ward import ward_files, ward_name
+
+# Absences that count as work; `away` does not.
+CREDITED = tuple(word for word in AWAY if word != "away")
+# What each verb does, in the order of the help. Those that only read need no lock.
+VERBS = {
+    "check": "read the spreadsheet, say what is wrong, and tell the ward in sentences",
+    "plan [DAY]": "plan the weeks that are not over, from this day on",
+    "ill NAME DAY [DAY]": "she is ill from the first to the last day: a plan with few changes; also leave, training, away",
+    "back NAME DAY": "she is back from this day on",
+    "swap NAME DAY [NAME [DAY]]": "what a swap costs, which rule it breaks, and who else could swap; --do writes it",
+    "over [NAME DAY SHIFT ..]": "the first week is over, as planned or with these shifts (or off); after the last one a new period begins",
+    "page": "write the pages and calendars; from now on plans change little",
+    "undo": "the plan before the last verb holds again",
+}
+_NAMES = (*(usage.split(" ")[0] for usage in VERBS), *AWAY)
+_READING = ("check",)
+
+
+def _options() -> argparse.ArgumentParser:
+    width = max(map(len, VERBS))
+    verbs = "\n".join(f"  {usage:{width}}  {text}" for usage, text in VERBS.items())
+    options = parser(
+        "Plans a ward from one folder: its spreadsheet, and what verbs have made of it.\n\n" + verbs,
+        "A day is Fri (the next one of the plan), Fri 2 (that of week 2), or a date. A name may be its beginning, if that is clear.\n"
+        "The folder gets roster.html, wall.html, calendars, and in plans each plan with its time: no verb changes an older one.\n"
+        'Example: inrc2pb-plan "my ward" ill Chen Fri Sun',
+    )
+    options.add_argument(
+        "folder", metavar="FOLDER", type=Path, help="the folder that has the ward's spreadsheet, or its sheets as .csv files"
+    )
+    options.add_argument("verb", metavar="VERB", help="what to do")
+    options.add_argument("words", metavar="WORD", nargs="*", help="names and days")
+    options.add_argument(
+        "--time",
+        metavar="SECONDS",
+        type=number_of_seconds,
+        help="the most seconds to search (default: 20 for each week, and 30 for a change)",
+    )
+    options.add_argument("--do", action="store_true", help="with swap: write it")
+    options.add_argument("--free", action="store_true", help="with plan: all shifts may change, also of a plan that hangs on the wall")
+    return options
+
+
+def read_sheet(path: Path, name: Optional[str], told: Sequence[Told]) -> Sheet:
+    """The files of a ward's spreadsheet, with these absences in its plan."""
+    book = read_book(path)
+    book = with_told(book, read_days(book), told)
+    days = read_days(book)
+    files = ward_files(book, name or ward_name(path), days, days.weeks, CREDITED)
+    return Sheet(
+        files.texts, files.warnings, PlanDays(days.monday, days.weeks), {nurse: shifts for nurse, (_, shifts) in files.credit.items()}
+    )
+
+
+def _check(given: argparse.Namespace) -> None:
+    """Options and verbs fit."""
+    if given.verb not in _NAMES:
+        otherwise = f"write one of {', '.join(_NAMES)}"
+        raise Misuse(f"'{given.verb}' is no verb: {did_you_mean(given.verb, _NAMES, otherwise)}")
+    if given.do and given.verb != "swap":
+        raise Misuse("--do is for swap: leave it out")
+    if given.free and given.verb != "plan":
+        raise Misuse("--free is for plan: leave it out")
+    if given.words and given.verb in ("check", "page", "undo"):
+        raise Misuse(f"'{given.words[0]}' is a word too many: {given.verb} has none")
+    if given.time is not None:
+        check_seconds(given.time, "--time")
+
+
+def _say(text: str) -> None:
+    print(text, file=sys.stderr, flush=True)
+
+
+def _done(verbs: Verbs, given: argparse.Namespace) -> List[str]:
+    """Does what the verb says; the lines to print."""
+    done: Dict[str, Callable[[], List[str]]] = {
+        "check": verbs.check,
+        "plan": lambda: verbs.plan(given.words, given.time, given.free),
+        "back": lambda: verbs.back(given.words, given.time),
+        "swap": lambda: verbs.swap(given.words, given.do),
+        "over": lambda: verbs.over(given.words),
+        "page": verbs.page,
+        "undo": verbs.undo,
+        **{word: lambda: verbs.away(given.verb, given.words, given.time) for word in AWAY},
+    }
+    return done[given.verb]()
+
+
+def main() -> Optional[int]:
+    """The command `inrc2pb-plan`."""
+    given = _options().parse_args()
+    _check(given)
+    folder = WardFolder(given.folder)
+    verbs = Verbs(folder, Means(read_sheet, Progress(sys.stderr), _say))
+    if given.verb in _READING:
+        lines = verbs.check()
+    else:
+        folder.spreadsheet()
+        find_program()
+        with folder.locked(_say):
+            lines = _done(verbs, given)
+    print("\n".join(lines))
+    return 0

@@ -1,0 +1,34 @@
+"""The pages and calendars of a ward's folder."""
+
+from pathlib import Path
+from typing import List, Optional
+
+from ..shown.calendars import write_calendars
+from ..shown.page import page_text
+from ..shown.page_tables import Content
+from ..week.dates import DAY
+from ..week.writing import write_text
+from .ward_plan import WardPlan
+
+ROSTER, WALL, CALENDARS = "roster.html", "wall.html", "calendars"
+
+
+def write_roster_page(top: Path, plan: WardPlan, old: Optional[WardPlan] = None) -> Path:
+    """Writes the page with costs, and with what differs from an older plan of the same weeks."""
+    write_text(top / ROSTER, page_text(_content(plan, old)))
+    return top / ROSTER
+
+
+def write_all(top: Path, plan: WardPlan) -> List[Path]:
+    """Writes the page for the wall, and a calendar for each nurse if the plan has dates."""
+    content = _content(plan, None)
+    write_text(top / WALL, page_text(Content(content.view, None, content.monday, content.times, True)))
+    if content.monday is None:
+        return [top / WALL]
+    write_calendars(content.view, top / CALENDARS, content.monday, content.times)
+    return [top / WALL, top / CALENDARS]
+
+
+def _content(plan: WardPlan, old: Optional[WardPlan]) -> Content:
+    monday = None if plan.days.monday is None else plan.days.monday + plan.first * DAY
+    return Content(plan.view(), old.view() if old and old.is_planned else None, monday)
