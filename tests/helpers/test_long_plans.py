@@ -34,10 +34,10 @@ sys.path[:0] = sys.argv[1:3]
 import test_long_plans as tests
 from inrc2pb.rows import row_arrays
 pricing = tests.month(4)
-assert any(graph._arrays for graph in pricing.graphs)
+assert any(graph.arrays for graph in pricing.graphs)
 found = tests.cheapest(pricing)
 for graph in pricing.graphs:
-    graph._arrays = None
+    graph.arrays = None
 print(found == tests.cheapest(pricing))
 """
 

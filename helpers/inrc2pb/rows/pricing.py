@@ -1,11 +1,12 @@
 """Rows and bounds at prices: what nurses of places earn, each nurse's cheapest row, and what no roster can cost less than."""
 
 import copy
-from typing import Dict, List, NamedTuple, Optional, Sequence, Tuple, Union
+from typing import Any, Dict, List, NamedTuple, Optional, Sequence, Tuple, Union
 
 from .plan import POINT, STEP, Plan
 from ..judging.runs import NEVER, Runs, RunState
 from ..week.records import Place
+from .row_arrays import Member, blocks_of, numpy
 from .row_graph import Check, Graph, Totals
 
 # The highest price in a file of prices.
@@ -95,6 +96,9 @@ class Pricing:
         self.base = [POINT * Totals.base(plan, scenario.contract_of(nurse), pasts[nurse]) for nurse in plan.nurses]
         requests = plan.requests()
         self.wishes = [plan.wishes(nurse, requests.get(nurse, ())) for nurse in plan.nurses]
+        # The days on which rows may differ from these, if there are some.
+        self._days, self._rows = range(plan.days), [b""] * 0
+        self._batch: Optional[_Batch] = None
 
     def part(self, plan: Plan) -> "Pricing":
         """The same for some of the nurses, with another demand."""
@@ -104,12 +108,13 @@ class Pricing:
         part.plan, part.crews = plan, Crews(plan)
         part.graphs, part.starts = [self.graphs[number] for number in numbers], [self.starts[number] for number in numbers]
         part.base, part.wishes = [self.base[number] for number in numbers], [self.wishes[number] for number in numbers]
+        part._days, part._rows, part._batch = self._days, [b""] * 0, None
         return part
 
     def on_days(self, days: range, rows: Sequence[NurseWeek]) -> "Pricing":
         """The same for rows that are the given ones, except on these days."""
         part = copy.copy(self)
-        part.wishes = []
+        part.wishes, part._days, part._rows, part._batch = [], days, list(rows), None
         for crews, wishes, row in zip(self.crews.of, self.wishes, rows):
             kept = {}
             for day in range(self.plan.days):
@@ -143,10 +148,18 @@ class Pricing:
         earned = sum(gains[crews[choice]] for crews, choice in zip(self.crews.of[nurse], row))
         return Priced(value, row, (value + earned) // POINT)
 
+    def cheapest_of(self, nurses: Sequence[int], gains: Sequence[int]) -> List[Optional[Priced]]:
+        """The cheapest row of each of these nurses."""
+        if any(self.graphs[nurse].arrays is None for nurse in nurses):
+            return [self.cheapest(nurse, gains) for nurse in nurses]
+        if self._batch is None:
+            self._batch = _Batch(self.graphs, self.starts, self._days, self._rows)
+        return self._batch.cheapest(nurses, gains, self)
+
     def cost(self, nurse: int, row: NurseWeek) -> Optional[int]:
         """What a row costs its nurse, in points; None if a hard rule forbids it."""
         wishes = sum(costs[row[day]] for day, costs in self.wishes[nurse].items())
-        cost = self.graphs[nurse].cost(self.starts[nurse], row) + wishes + self.base[nurse]
+        cost = self.graphs[nurse].walked(self.starts[nurse], row)[1] + wishes + self.base[nurse]
         return None if cost >= NEVER // 2 else cost // POINT
 
     def within(self, nurse: int, gains: Gains, gap: int, most: int) -> List[NurseWeek]:
@@ -161,10 +174,68 @@ class Pricing:
         return sum(minimum * price + (best - minimum) * min(most, price) for minimum, best, price in asked)
 
 
+class _Batch:
+    """The nurses of a pricing by NumPy: their graphs in blocks, on the days on which their rows may differ from those that they keep."""
+
+    def __init__(self, graphs: Sequence[Graph], starts: Sequence[int], days: range, rows: Sequence[NurseWeek]) -> None:
+        self._days, self._rows, members = days, rows, []
+        self._fixed = [0] * len(graphs)
+        for nurse, (graph, start) in enumerate(zip(graphs, starts)):
+            assert graph.arrays is not None
+            rest = None
+            if rows:
+                start, self._fixed[nurse] = graph.walked(start, rows[nurse][: days.start])
+                rest = graph.arrays.after(days.stop, rows[nurse]) if days.stop < len(graph.days) else None
+            members.append(Member(nurse, graph.arrays, start, rest))
+        self._blocks = blocks_of(members, days.stop, days.start)
+        # The wishes and the crews of each nurse, day and choice, and what they were made of.
+        self._wishes: Any = None
+        self._crews: Any = None
+        self._made_of: Tuple[object, object] = (None, None)
+
+    def _read(self, pricing: Pricing) -> None:
+        """Makes the arrays of the wishes and of the crews."""
+        if self._made_of == (pricing.wishes, pricing.crews) and self._made_of[0] is pricing.wishes:
+            return
+        self._made_of = pricing.wishes, pricing.crews
+        self._crews = numpy.array(pricing.crews.of)
+        self._wishes = numpy.zeros(self._crews.shape, dtype=numpy.int64)
+        for nurse, wishes in enumerate(pricing.wishes):
+            for day, costs in wishes.items():
+                self._wishes[nurse, day] = costs
+
+    def cheapest(self, nurses: Sequence[int], gains: Sequence[int], pricing: Pricing) -> List[Optional[Priced]]:
+        """The cheapest row of each of these nurses."""
+        self._read(pricing)
+        earned = numpy.array(gains, dtype=numpy.int64)[self._crews]
+        pay, wanted, found = self._wishes - earned, set(nurses), dict.fromkeys(nurses)
+        for block in self._blocks:
+            numbers = [number for number, nurse in enumerate(block.nurses) if nurse in wanted]
+            if numbers:
+                for number, value, row in zip(numbers, *block.cheapest(pay, numbers)):
+                    nurse = block.nurses[number]
+                    found[nurse] = self._priced(nurse, int(value), row.tobytes(), earned[nurse], pricing)
+        return [found[nurse] for nurse in nurses]
+
+    def _priced(self, nurse: int, value: int, row: NurseWeek, earned: Any, pricing: Pricing) -> Optional[Priced]:
+        """A row with the choices that it keeps."""
+        if value >= NEVER // 2:
+            return None
+        if self._rows:
+            kept, days = self._rows[nurse], self._days
+            row = kept[: days.start] + row + kept[days.stop :]
+            value += self._fixed[nurse]
+            others = (day for day in range(len(row)) if day not in days)
+            value += sum(int(self._wishes[nurse, day, row[day]] - earned[day, row[day]]) for day in others)
+        value += pricing.base[nurse]
+        income = int(earned[numpy.arange(len(row)), list(row)].sum())
+        return Priced(value, row, (value + income) // POINT)
+
+
 def plain_bound(pricing: Pricing, prices: Prices) -> int:
     """What no roster of the plan costs less than by these prices, in points: no program has proved it."""
     gains = pricing.crews.gains(prices)
-    found = (pricing.cheapest(nurse, gains) for nurse in range(len(pricing.plan.nurses)))
+    found = pricing.cheapest_of(range(len(pricing.plan.nurses)), gains)
     return max(0, in_steps(pricing.places_cost(prices) + sum(priced.value for priced in found if priced)))
 
 

@@ -95,9 +95,8 @@ class RowGeneration:
     def _priced(self, prices: Prices, nurses: Sequence[int], clock: Clock) -> Dict[int, Priced]:
         """The cheapest row of each of these nurses at these prices."""
         gains, found = self.pricing.crews.gains(prices), {}
-        for nurse in nurses:
-            clock.check()
-            priced = self.pricing.cheapest(nurse, gains)
+        clock.check()
+        for nurse, priced in zip(nurses, self.pricing.cheapest_of(nurses, gains)):
             if priced is None:
                 raise NoRow(self.plan.nurses[nurse])
             found[nurse] = priced

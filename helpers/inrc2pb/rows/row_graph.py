@@ -82,9 +82,8 @@ class Graph:
         classes = self._merged(found)
         self.starts = {state: classes[index] for index, state in enumerate(firsts)}
         self.days = found
-        self.entered = [_gather(day.entered) for day in found]
-        self.arcs = [[(_gather(heads), costs) for heads, costs in zip(day.heads, day.costs)] for day in found]
-        self._arrays = Arrays.of(found)
+        self._arcs: List[Tuple[Gather, List[Tuple[Gather, List[int]]]]] = []
+        self.arrays = Arrays.of(found)
 
     def _forward(self, nodes: List[Tuple[RunState, int, int]]) -> List[_Day]:
         """All nodes that are reached, day by day."""
@@ -129,8 +128,11 @@ class Graph:
     def values(self, pay: Sequence[Sequence[int]]) -> Tuple[List[int], List[List[int]]]:
         """The minimum cost from each first node on, and for each day that from each node that it reaches on, with the cost of
         reaching it, if a choice costs this pay beside its own costs."""
+        if not self._arcs:
+            for costs, heads, reached_by in self.days:
+                self._arcs.append((_gather(reached_by), [(_gather(nodes), cost) for nodes, cost in zip(heads, costs)]))
         minimum, paid = [0] * len(self.days[-1].entered), []
-        for entered, arcs, today in zip(reversed(self.entered), reversed(self.arcs), reversed(pay)):
+        for (entered, arcs), today in zip(reversed(self._arcs), reversed(pay)):
             reached = list(map(add, minimum, entered(today)))
             paid.append(reached)
             minimum = list(map(min, *[map(add, gather(reached), costs) for gather, costs in arcs]))
@@ -138,8 +140,8 @@ class Graph:
 
     def cheapest(self, start: int, pay: Sequence[Sequence[int]]) -> Tuple[int, bytes]:
         """The minimum cost of a row from this node on, and the first row that has it. NEVER or more: there is no row."""
-        if self._arrays:
-            return self._arrays.cheapest(start, pay)
+        if self.arrays:
+            return self.arrays.cheapest(start, pay)
         minimum, paid = self.values(pay)
         node, row = start, bytearray()
         for day, reached in zip(self.days, paid):
@@ -150,13 +152,14 @@ class Graph:
             node = day.heads[choice][node]
         return minimum[start], bytes(row)
 
-    def cost(self, start: int, row: Sequence[int]) -> int:
-        """What this row costs without any pay; NEVER or more if a hard rule forbids it."""
+    def walked(self, start: int, row: Sequence[int]) -> Tuple[int, int]:
+        """The node at which these first choices of a row end, and what they cost without any pay; NEVER or more if a hard rule forbids
+        them."""
         node, total = start, 0
         for day, choice in zip(self.days, row):
             total += day.costs[choice][node]
             node = day.heads[choice][node]
-        return total
+        return node, total
 
     def within(self, start: int, pay: Sequence[Sequence[int]], limit: int, most: int) -> List[bytes]:
         """All rows that cost at most the limit, but no more than `most` + 1 of them."""
