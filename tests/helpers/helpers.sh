@@ -10,13 +10,12 @@
 
 # One case for each test of Python.
 run_tests() {
-    local ran
+    local passed failed skipped
     what='tests/helpers'
-    INRC2PB=$program timeout 1500 python3 -B -W error::SyntaxWarning -m unittest discover -s tests/helpers > "$out" 2> "$err" ||
+    INRC2PB=$program timeout 1500 python3 -B -W error::SyntaxWarning tests/helpers/run.py > "$out" 2> "$err" ||
         complain "$(grep -A 25 -m 3 -E '^(FAIL|ERROR): ' "$err" | head -n 60)"
-    ran=$(sed -n 's/^Ran \([0-9]*\) tests\{0,1\} .*/\1/p' "$err")
-    checked=$((checked + ${ran:-0}))
-    [ "${ran:-0}" -gt 0 ] || complain "no test ran: $(tail -n 3 "$err")"
+    read -r passed failed skipped < <(tail -n 1 "$out" | tr -cd '0-9 \n') || complain "no test ran: $(tail -n 3 "$err")"
+    checked=$((checked + ${passed:-0} + ${failed:-0}))
 }
 
 # types_hold FILE..: mypy finds no mistake, and no function without types.

@@ -88,7 +88,7 @@ class Mistakes(HelperTest):
             status, printed, _ = run("check", "--sce", path)
             self.assertEqual((status, message in printed), (1, True), printed)
 
-    @unittest.skipUnless(os.path.exists("/dev/zero"), "there is no /dev/zero")
+    @unittest.skipUnless(os.path.exists("/dev/zero"), "needs /dev/zero")
     def test_a_file_without_end(self):
         self.assertEqual(run("check", "--sce", "/dev/zero"), (1, "/dev/zero: the file has more than 4194304 bytes\n", ""))
 

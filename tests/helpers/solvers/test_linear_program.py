@@ -13,7 +13,7 @@ from ward import HELPERS, HelperTest, run
 from inrc2pb.solvers.linear_program import ModelFault, ModelSize, _write_constraint, convert, write_linear_program
 from inrc2pb.solvers.mip_solution import SolutionFault, read_answer
 
-HERE = Path(__file__).resolve().parent
+HERE = Path(__file__).resolve().parents[1]
 SOLUTIONS = HERE / "data" / "solutions"
 COMMAND = HELPERS / "inrc2pb-lp"
 MAX_LINE = 560

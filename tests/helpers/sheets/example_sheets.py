@@ -1,4 +1,4 @@
-"""The example spreadsheet of the tests, and the files that `inrc2pb-ward` makes of it."""
+"""The spreadsheet of the tests, a change of the example of `--template`, and the files that `inrc2pb-ward` makes of it."""
 
 import copy
 from pathlib import Path
@@ -9,23 +9,19 @@ from inrc2pb.commands import ward
 from inrc2pb.sheets.plan_sheets import read_days
 from inrc2pb.week.records import DAYS
 from inrc2pb.sheets.sheet_files import Book
+from inrc2pb.sheets.ward_template import EXAMPLE
 
 DATA = ROOT / "tests" / "helpers" / "data"
 _EMPTY = [""] * 7
 _ROWS = {
-    "shifts": [
-        ("shift", "min in a row", "max in a row", "not followed by"),
-        ("Day", 2, 5, ""),
-        ("Late", 2, 4, "Day"),
-        ("Night", 2, 4, "Day, Late"),
-    ],
+    "shifts": EXAMPLE["shifts"],
     "contracts": [
-        ("contract", "shifts min", "shifts max", "work min", "work max", "off min", "off max", "weekends", "complete weekends"),
+        EXAMPLE["contracts"][0],
         ("Full", 8, 11, 3, 5, 2, 3, 1, "yes"),
         ("Half", 4, 6, 2, 3, 2, 5, 1, "no"),
     ],
     "nurses": [
-        ("nurse", "contract", "skills", "never", "always off", "worked", "worked weekends", "last shift", "days on it", "days of work", "days off"),
+        EXAMPLE["nurses"][0],
         ("Amara Koch", "Full", "Charge, Nurse", "", "", 0, 0, "Day", 2, 2, 0),
         ("Bruno", "Full", "Charge, Nurse", "", "", 0, 0, "", 0, 0, 2),
         ("Chen", "Full", "Nurse", "", "", 0, 0, "Late", 1, 3, 0),
@@ -36,11 +32,7 @@ _ROWS = {
         ("Hana", "Full", "Charge, Nurse", "", "", 0, 0, "Day", 1, 4, 0),
     ],
     "needs": [
-        ("week", "shift", "skill", *DAYS),
-        ("", "Day", "Charge", *[1] * 7),
-        ("", "Day", "Nurse", *["1+1"] * 5, "0+1", "0+1"),
-        ("", "Late", "Nurse", *[1] * 7),
-        ("", "Night", "Nurse", *[1] * 7),
+        *EXAMPLE["needs"],
         (1, "Day", "Nurse", "0+1", *["1+1"] * 4, "0+1", "0+1"),
     ],
     "plan": [

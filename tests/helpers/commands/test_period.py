@@ -49,7 +49,7 @@ class PeriodTest(HelperTest):
         self.assertEqual(table[1 + count], ["period", *(str(sum(column)) for column in zip(*rows))])
 
 
-@unittest.skipUnless(HAS_CBC, "cbc is not installed")
+@unittest.skipUnless(HAS_CBC, "needs cbc")
 class Together(PeriodTest):
     def test_the_ward(self):
         for totals, says in (
@@ -118,7 +118,7 @@ class Together(PeriodTest):
         self.assertRegex(printed, "\nlower bound 20 \\(.*\\)\nno roster costs less")
 
 
-@unittest.skipUnless(HAS_CLASP, "clasp is not installed")
+@unittest.skipUnless(HAS_CLASP, "needs clasp")
 class Periods(PeriodTest):
     def test_held_shifts_of_a_week(self):
         held = self.folder / "held.txt"
@@ -220,14 +220,14 @@ class PeriodFaults(PeriodTest):
                 self.assertIn(says, ran[2])
                 self.assertEqual(list(self.folder.iterdir()), [])
 
-    @unittest.skipIf(os.geteuid() == 0, "root may write everywhere")
+    @unittest.skipIf(os.geteuid() == 0, "needs a user who is not root")
     def test_a_folder_without_write_permission(self):
         self.folder.chmod(0o555)
         self.assert_fault(self.period(*WARD_OPTIONS, "--solver", "false"), (
             f"inrc2pb-period: {self.folder}: Permission denied: you may not read or write it: "
             "look at its permissions and those of its folder, or choose another folder"), 3)
 
-    @unittest.skipUnless(Path("/sys").is_dir(), "there is no /sys")
+    @unittest.skipUnless(Path("/sys").is_dir(), "needs /sys")
     def test_a_folder_in_which_nobody_may_write(self):
         status, printed, said = run("period", *WARD_OPTIONS, "--solver", "false", "--out", "/sys/planned")
         self.assertEqual((status, printed, said.count("\n")), (3, "", 1), said)

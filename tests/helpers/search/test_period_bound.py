@@ -22,7 +22,7 @@ from inrc2pb.search.planned_weeks import PeriodFiles, PlannedWeeks
 from inrc2pb.rows.pricing import Crews
 from inrc2pb.programs.progress import Progress
 
-FAKE = Path(__file__).resolve().parent / "fake_prover.py"
+FAKE = Path(__file__).resolve().parents[1] / "fake_prover.py"
 SECOND = WARD / "week-1.txt"
 OPTIONS = ("--sce", SCENARIO, "--his", HISTORY, "--week", WEEK, "--week", SECOND)
 FAILED = f"{PERIOD_PROVER} failed, so bounds are computed in {PLAIN}: "
@@ -162,7 +162,7 @@ class Proofs(FakeProver):
         self.assertIsNone(running._proof._running)
 
 
-@unittest.skipUnless(HAS_CBC, "cbc is not installed")
+@unittest.skipUnless(HAS_CBC, "needs cbc")
 class Periods(FakeProver):
     def setUp(self):
         super().setUp()

@@ -97,7 +97,7 @@ class Telling(HelperTest):
             self.assertIn(line, printed.splitlines())
 
 
-@unittest.skipUnless(HAS_CLASP or HAS_CBC, "there is no solver")
+@unittest.skipUnless(HAS_CLASP or HAS_CBC, "needs clasp or cbc")
 class WhyNone(HelperTest):
     def test_the_numbers_to_lower(self):
         words = ("--sce", EIGHT / "ward.txt", "--his", EIGHT / "history-1.txt", "--week", EIGHT / "week-1.txt")

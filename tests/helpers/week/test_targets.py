@@ -28,7 +28,7 @@ class Targets(HelperTest):
     def assert_not_written(self, target, says):
         self.assert_fault(self.improve(target), f"inrc2pb-improve: {target}: {says}", 3)
 
-    @unittest.skipUnless(Path("/dev/full").exists(), "there is no /dev/full")
+    @unittest.skipUnless(Path("/dev/full").exists(), "needs /dev/full")
     def test_a_full_disk(self):
         self.assert_not_written("/dev/full", FULL)
 
@@ -41,13 +41,13 @@ class Targets(HelperTest):
     def test_a_file_in_place_of_a_folder(self):
         self.assert_not_written(ROSTER / "best.txt", "Not a directory: a part of its path is no folder")
 
-    @unittest.skipUnless(Path("/sys").is_dir(), "there is no /sys")
+    @unittest.skipUnless(Path("/sys").is_dir(), "needs /sys")
     def test_a_folder_in_which_nobody_may_write(self):
         status, printed, said = self.improve("/sys/best.txt")
         self.assertEqual((status, printed), (3, ""), said)
         self.assertRegex(said, f"^inrc2pb-improve: /sys/best.txt: [A-Z][a-z -]+: ({RIGHTS}|choose another folder)\n$")
 
-    @unittest.skipIf(os.geteuid() == 0, "root may write everywhere")
+    @unittest.skipIf(os.geteuid() == 0, "needs a user who is not root")
     def test_a_folder_without_write_permission(self):
         target = self.folder / "best.txt"
         shutil.copy(ROSTER, target)
@@ -61,7 +61,7 @@ class Targets(HelperTest):
         self.assertEqual(status, 0, said)
         self.assertIn("penalty 20\n", printed)
 
-    @unittest.skipUnless(Path("/dev/full").exists(), "there is no /dev/full")
+    @unittest.skipUnless(Path("/dev/full").exists(), "needs /dev/full")
     def test_a_disk_that_is_full_in_mid_search(self):
         """The first roster is written, after a test file; the disk is full when a better one comes."""
         roster, link = self.folder / "roster.txt", self.folder / "link.txt"

@@ -22,7 +22,7 @@ from inrc2pb.rows.row_search import RowSearch
 from inrc2pb.judging.rules import costs, first_broken
 from inrc2pb.rows.skills import staffed
 
-FAKE = Path(__file__).resolve().parent / "fake_cbc.py"
+FAKE = Path(__file__).resolve().parents[1] / "fake_cbc.py"
 # The penalties that other solvers proved: docs/solvers.md.
 OPTIMA = {"n005w4": 320, "last12": 435, "thirty": 605}
 

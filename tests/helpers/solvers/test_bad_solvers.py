@@ -16,7 +16,7 @@ from inrc2pb.week.faults import Misuse
 from inrc2pb.programs.processes import Processes
 from inrc2pb.solvers.solvers import Outcome, find_solver
 
-FAKE = Path(__file__).resolve().parent / "fake_solver.py"
+FAKE = Path(__file__).resolve().parents[1] / "fake_solver.py"
 
 
 def fake(how):

@@ -26,9 +26,9 @@ from inrc2pb.rows.row_run import RowRun
 from inrc2pb.judging.rules import costs, first_broken
 from inrc2pb.rows.skills import staffed
 
-FAKE = Path(__file__).resolve().parent / "fake_cbc.py"
+FAKE = Path(__file__).resolve().parents[1] / "fake_cbc.py"
 # A week of six nurses whose prices prove 130; the best roster costs 135.
-HOME = Path(__file__).resolve().parent / "data" / "cases"
+HOME = Path(__file__).resolve().parents[1] / "data" / "cases"
 FILES = program.WeekFiles(HOME / "ward.txt", HOME / "history.txt", HOME / "week.txt")
 BEST, BY_PRICES = 135, 130
 

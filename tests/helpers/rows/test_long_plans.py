@@ -23,6 +23,7 @@ from inrc2pb.judging.rules import costs, first_broken, nurse_costs
 from inrc2pb.rows.skills import staffed
 
 MONTH = ROOT / "examples" / "month"
+TESTS = ROOT / "tests" / "helpers"
 SCENARIO = files.read_scenario(MONTH / "ward.txt")
 HISTORY = files.read_history(MONTH / "history-0.txt", SCENARIO)
 WEEKS = [files.read_week(MONTH / f"week-{number}.txt", SCENARIO) for number in range(4)]
@@ -30,7 +31,7 @@ WEEKS = [files.read_week(MONTH / f"week-{number}.txt", SCENARIO) for number in r
 # Prints whether NumPy finds the rows that plain Python finds, for the prices of some nurses.
 BY_NUMPY = """
 import random, sys
-sys.path[:0] = sys.argv[1:3]
+sys.path[:0] = sys.argv[1:]
 import test_long_plans as tests
 from inrc2pb.rows import row_arrays
 pricing = tests.month(4)
@@ -112,13 +113,13 @@ class FourWeeks(unittest.TestCase):
     def test_numpy_finds_the_same_rows(self):
         for python in (sys.executable, "/usr/bin/python3"):
             if shutil.which(python) and subprocess.run([python, "-c", "import numpy"], stderr=subprocess.DEVNULL).returncode == 0:
-                ran = subprocess.run([python, "-c", BY_NUMPY, str(HELPERS), str(ROOT / "tests" / "helpers")], stdout=subprocess.PIPE, check=True)
+                ran = subprocess.run([python, "-c", BY_NUMPY, *map(str, (HELPERS, TESTS, TESTS / "rows"))], stdout=subprocess.PIPE, check=True)
                 self.assertEqual(ran.stdout, b"True\n")
                 return
-        self.skipTest("NumPy is not installed")
+        self.skipTest("needs NumPy")
 
 
-@unittest.skipUnless(HAS_CBC, "cbc is not installed")
+@unittest.skipUnless(HAS_CBC, "needs cbc")
 class Parts(HelperTest):
     def test_two_threads_find_the_best_roster(self):
         week = files.read_files(THIRTY_FILES.scenario, THIRTY_FILES.history, THIRTY_FILES.week)

@@ -7,7 +7,7 @@ import os
 import unittest
 from pathlib import Path
 
-from sheets import DATA, SHEETS, changed, texts
+from example_sheets import DATA, SHEETS, changed, texts
 from ward import HelperTest, files, run
 
 from inrc2pb.commands import ward

@@ -8,7 +8,7 @@ import unittest
 import zipfile
 from xml.sax.saxutils import escape
 
-from sheets import DATA, SHEETS, texts
+from example_sheets import DATA, SHEETS, texts
 from ward import HelperTest
 
 from inrc2pb.commands import ward

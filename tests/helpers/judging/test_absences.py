@@ -238,7 +238,7 @@ class Kept(HelperTest):
         status, printed, _ = run("check", *words, "--fix", fix)
         self.assertEqual((status, printed), (1, f"{fix}: Chen is away on Mon, and Day is held: remove one of the two\n"))
 
-    @unittest.skipUnless(HAS_CLASP, "there is no clasp")
+    @unittest.skipUnless(HAS_CLASP, "needs clasp")
     def test_who_works_is_named_if_no_roster_keeps_all_absences(self):
         words = [word for nurse in ("Amara", "Bruno", "Ewa") for word in ("--away", f"{nurse}=Fri")]
         self.assertEqual(run("wish", *WEEK_OPTIONS[:2], *WEEK_OPTIONS[4:], *words, "--out", self.folder / "away.txt")[0], 0)

@@ -60,7 +60,7 @@ class Simulation(HelperTest):
                 return
         self.fail(f"it took {seconds:.2f} s")
 
-    @unittest.skipUnless(shutil.which("clasp"), "clasp is not installed")
+    @unittest.skipUnless(shutil.which("clasp"), "needs clasp")
     def test_the_command_line_of_the_competition(self):
         solution, custom = self.folder / "solution.txt", self.folder / "custom.txt"
         words = ("--sol", solution, "--cusOut", custom, "--rand", 7, "--timeout", 20)
