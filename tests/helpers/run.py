@@ -33,7 +33,7 @@ class Result(unittest.TextTestResult):
 
 def main(names: List[str]) -> int:
     """Runs the tests of these names; the exit status."""
-    modules = sorted(HERE.glob("*/test_*.py"))
+    modules = sorted(HERE.rglob("test_*.py"))
     sys.path[:0] = [str(HERE), *sorted({str(module.parent) for module in modules})]
     tests = unittest.defaultTestLoader.loadTestsFromNames(names or [module.stem for module in modules])
     result = unittest.TextTestRunner(resultclass=Result).run(tests)
