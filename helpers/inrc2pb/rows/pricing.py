@@ -5,6 +5,7 @@ from typing import Any, Dict, List, NamedTuple, Optional, Sequence, Tuple, Union
 
 from .plan import POINT, STEP, Plan
 from ..judging.runs import NEVER, Runs, RunState
+from ..judging.rules import SHIFT_RUN
 from ..week.records import Place
 from .row_arrays import Member, blocks_of, numpy
 from .row_graph import Check, Graph, Totals
@@ -73,14 +74,15 @@ class Crews:
 class Pricing:
     """The nurses of a plan, with the graphs of their rows; nurses who differ in nothing else share a graph.
 
-    `check` is called while the graphs are built, and may raise an exception to end that.
+    `check` is called while the graphs are built, and may raise an exception to end that. `shift_run` is the weight of a charge of a run of
+    a shift type.
     """
 
-    def __init__(self, plan: Plan, crews: Crews, check: Check) -> None:
+    def __init__(self, plan: Plan, crews: Crews, check: Check, shift_run: int = SHIFT_RUN) -> None:
         self.plan, self.crews = plan, crews
         scenario, pasts = plan.scenario, plan.history.nurses
         types = tuple(scenario.shift_types.values())
-        runs = {name: Runs(types, contract, plan.days, plan.charging) for name, contract in scenario.contracts.items()}
+        runs = {name: Runs(types, contract, plan.days, plan.charging, shift_run) for name, contract in scenario.contracts.items()}
         kinds: Dict[Tuple[str, Totals], List[int]] = {}
         states: List[RunState] = []
         for index, nurse in enumerate(plan.nurses):
