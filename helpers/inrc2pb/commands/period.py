@@ -9,6 +9,7 @@ from pathlib import Path
 from typing import Dict, Iterable, List, Optional, Sequence
 
 from ..programs.clock import Clock
+from ..rows.plan import WEEK_DAYS
 from .command import add_solver_option, check_seconds, fixes_by_week, number_of_seconds, parser
 from ..week.faults import FileFault, Misuse, ProgramFault, fault_line
 from ..week.files import read_solution, write_history
@@ -62,16 +63,31 @@ class Period:
         _say(f"{weeks}, at most {seconds:g} s")
         for hint in self.weeks.hints:
             self.progress.warn(hint)
-        running = PeriodSearch(self.weeks, self._keep, Clock(seconds), self.progress, self.prices)
+        running = PeriodSearch(self.weeks, self._keep, Clock(seconds), self.progress, self.prices, self._earlier())
         with interrupts() as signals:
             try:
                 with signals.calling(running.interrupt):
                     running.run()
+                for warning in running.broken_absences():
+                    self.progress.warn(warning)
             finally:
                 for number, week in zip(self.numbers, self._written):
                     self._report(number, week)
                 self.bound_lines = [running.line()]
             self._end(signals)
+
+    def _earlier(self) -> Optional[List[Cell]]:
+        """The plan that the folder has, with days from the first week on; None if it has none of these weeks, or others come after them."""
+        cells: List[Cell] = []
+        for number in () if self.weeks.later() else self.numbers:
+            try:
+                found = read_solution(self.folder / roster_name(number), self.weeks.scenario)
+            except (FileFault, OSError):
+                return None
+            if (found.week, found.scenario) != (number, self.weeks.scenario.name):
+                return None
+            cells += [cell._replace(day=cell.day + WEEK_DAYS * (number - self.numbers[0])) for cell in found.cells]
+        return cells or None
 
     def _keep(self, cells: Sequence[Cell]) -> None:
         """Writes a better plan to the folder."""

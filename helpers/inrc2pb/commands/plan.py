@@ -49,7 +49,7 @@ def _options() -> argparse.ArgumentParser:
         "folder", metavar="FOLDER", type=Path, help="the folder that has the ward's spreadsheet, or its sheets as .csv files"
     )
     options.add_argument("verb", metavar="VERB", help="what to do")
-    options.add_argument("words", metavar="WORD", nargs="*", help="names and days")
+    options.add_argument("words", metavar="WORD", nargs="*", default=[], help="names and days")
     options.add_argument(
         "--time",
         metavar="SECONDS",
@@ -87,6 +87,15 @@ def _check(given: argparse.Namespace) -> None:
         check_seconds(given.time, "--time")
 
 
+def _options_first(words: Sequence[str]) -> List[str]:
+    """The words with the options before all others, as the parser wants them."""
+    options: List[str] = []
+    others: List[str] = []
+    for before, word in zip(["", *words], words):
+        (options if word.startswith("-") or before == "--time" else others).append(word)
+    return [*options, *others]
+
+
 def _say(text: str) -> None:
     print(text, file=sys.stderr, flush=True)
 
@@ -108,7 +117,7 @@ def _done(verbs: Verbs, given: argparse.Namespace) -> List[str]:
 
 def main() -> Optional[int]:
     """The command `inrc2pb-plan`."""
-    given = _options().parse_args()
+    given = _options().parse_args(_options_first(sys.argv[1:]))
     _check(given)
     folder = WardFolder(given.folder)
     verbs = Verbs(folder, Means(read_sheet, Progress(sys.stderr), _say))

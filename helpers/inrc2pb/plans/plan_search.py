@@ -11,7 +11,7 @@ from ..programs.interrupts import interrupts
 from ..programs.progress import Progress
 from ..search.period_search import PeriodSearch
 from ..search.planned_weeks import PeriodFiles, PlannedWeeks, history_name
-from ..week.faults import FileFault
+from ..week.faults import FileFault, fault_line
 from ..week.files import history_text, solution_text, week_text
 from ..week.records import Cell, Request, Solution, WeekData
 from ..week.writing import write_text
@@ -45,7 +45,12 @@ def search_plan(old: WardPlan, asked: Asked, progress: Progress) -> Found:
         start = [cell._replace(day=cell.day - old.first) for cell in old.cells()] if old.is_planned else None
         search = PeriodSearch(weeks, kept.append, Clock(asked.seconds), progress, start=start)
         with interrupts() as signals, signals.calling(search.interrupt):
-            search.run()
+            try:
+                search.run()
+            except Exception as fault:
+                if not kept:
+                    raise
+                progress.warn(fault_line(fault))
             stopped = bool(signals.caught)
     cells = [cell._replace(day=cell.day + old.first) for cell in kept[-1]]
     held = [cell._replace(day=WEEK_DAYS * number + cell.day) for number in old.weeks for cell in old.held[number]]

@@ -8,6 +8,7 @@ from typing import Callable, List, NamedTuple, Optional, Sequence, Tuple
 
 from ..judging.absences import absences_of, in_words, joined, readable, working_while_away
 from ..judging.next_history import next_history
+from ..programs.interrupts import interrupts
 from ..programs.progress import Progress
 from ..shown.telling import held_sentences, history_sentences, scenario_sentences, week_sentences
 from ..shown.why import breach_lines, change_lines as cost_lines
@@ -124,15 +125,16 @@ class Verbs:
             self._means.say(f"warning: {readable(warning)}")
         days = old.days.span([asked.first, old.days.total - 1])
         self._means.say(f"{days}, at most {asked.seconds:g} s; Ctrl-C ends the search and keeps the best plan")
-        found = search_plan(old, asked, self._means.progress)
-        lines = self._broken(found.plan)
-        if old.is_planned:
-            changes = shift_changes(old.cells(), found.plan.cells())
-            lines += _changes(changes, old.days, absent)
-        lines += self._costs(found.plan)
-        lines += [f"a change was counted as {POINTS} points more, which are not in this sum"] if asked.few_changes else [found.bound]
-        lines += ["stopped: this is the best plan until then"] * found.stopped
-        return [*lines, *self._save(verb, found.plan, old if old.is_planned else None)]
+        # A second Ctrl-C does not end it before the plan is written.
+        with interrupts():
+            found = search_plan(old, asked, self._means.progress)
+            lines = self._broken(found.plan)
+            if old.is_planned:
+                lines += _changes(shift_changes(old.cells(), found.plan.cells()), old.days, absent)
+            lines += self._costs(found.plan)
+            lines += [f"a change was counted as {POINTS} points more, which are not in this sum"] if asked.few_changes else [found.bound]
+            lines += ["stopped: this is the best plan until then"] * found.stopped
+            return [*lines, *self._save(verb, found.plan, old if old.is_planned else None)]
 
     def _broken(self, plan: WardPlan) -> List[str]:
         """Who works while she is away, and what would help."""

@@ -94,9 +94,6 @@ class PeriodSearch:
                 solver.close()
         if self.penalty is None:
             raise ProgramFault(NO_ROSTER, self._why_none(run))
-        self._progress.finish()
-        for warning in self._weeks.broken_absences(self._cells):
-            self._progress.warn(warning)
 
     def _over_rows(self, plan: Plan, solver: Optional[LinearSolver], trial: Path) -> RowRun:
         """One search over the rows of the plan."""
@@ -170,6 +167,10 @@ class PeriodSearch:
         if run.minimums or run.claimed:
             return "no rosters keep the hard rules of these weeks together, by plain Python: plan the weeks one by one with inrc2pb-improve"
         return "no rosters were found in this time: give more"
+
+    def broken_absences(self) -> List[str]:
+        """The absences that the best plan breaks, and what to do."""
+        return self._weeks.broken_absences(self._cells)
 
     def line(self) -> str:
         """The line about the bound of all weeks together."""
