@@ -8,12 +8,11 @@ from .case_limits import CaseLimits
 from .certificate import Case, Leaf
 from .plan import POINT, Plan
 from .pricing import Crews, Prices, Pricing, NurseWeek
-from .row_arrays import numpy
-from .row_graph import Check, Graph
+from .row_arrays import Block, Member, blocks_of, numpy
+from .row_graph import Check
 
 # A charge of a shift run costs so many points in the graphs, so that the number of charges can be read from a cost.
 _CODE = 10_000_000
-_DAY = Tuple[Any, Any, Any, Any]
 
 
 class PricedRow(NamedTuple):
@@ -34,46 +33,28 @@ class Found(NamedTuple):
     bound: int
 
 
-class CaseGraph:
-    """A graph as arrays: by day, choice and node the costs without shift runs, the charges of these, and the nodes that are reached."""
+def _split(coded: int) -> Tuple[int, int]:
+    """The cost of a step without shift runs, in thousandths, and its number of charges of them."""
+    runs = (coded + _CODE * POINT // 2) // (_CODE * POINT)
+    return coded - runs * _CODE * POINT, runs
 
-    def __init__(self, graph: Graph) -> None:
-        self._days: List[_DAY] = []
-        for day in graph.days:
-            coded = numpy.array(day.costs, dtype=numpy.int64)
+
+class _CaseBlock:
+    """Nurses who are priced together: by day, choice and node the costs without shift runs, and the charges of these."""
+
+    def __init__(self, block: Block) -> None:
+        self.nurses, self._block = block.nurses, block
+        self._steps = []
+        for coded in block.costs:
             never = coded >= NEVER // 2
-            runs = numpy.where(never, 0, (coded + _CODE * POINT // 2) // (_CODE * POINT))
-            costs = numpy.where(never, NEVER, coded - runs * _CODE * POINT)
-            self._days.append((costs, runs, numpy.array(day.heads), numpy.array(day.entered)))
+            costs, runs = _split(numpy.where(never, 0, coded))
+            self._steps.append((numpy.where(never, NEVER, costs), runs))
 
-    def weighted(self, weight: int) -> List[Any]:
-        """The costs of each day if a charge of a shift run has this weight, in thousandths."""
-        return [costs + runs * weight if weight < NEVER else numpy.where(runs > 0, NEVER, costs) for costs, runs, *_ in self._days]
-
-    def cheapest(self, starts: Any, pay: Any, weighted: Sequence[Any]) -> Tuple[Any, Any]:
-        """The least cost from each start on, and the choices that have it, if choices cost this pay by start, day and choice."""
-        least, paid = numpy.zeros((len(starts), len(self._days[-1][3])), dtype=numpy.int64), []
-        for day in reversed(range(len(self._days))):
-            _, _, heads, entered = self._days[day]
-            reached = least + pay[:, day][:, entered]
-            paid.append(reached)
-            least = (reached[:, heads] + weighted[day]).min(axis=1)
-        node, every, rows = starts, numpy.arange(len(starts)), numpy.zeros((len(starts), len(self._days)), dtype=numpy.uint8)
-        for day, reached in enumerate(reversed(paid)):
-            heads = self._days[day][2][:, node]
-            choice = (weighted[day][:, node] + reached[every, heads]).argmin(axis=0)
-            rows[:, day] = choice
-            node = heads[choice, every]
-        return least[every, starts], rows
-
-    def count(self, start: int, row: Sequence[int]) -> Tuple[int, int]:
-        """What a row costs without shift runs, in thousandths, and its number of charges of them."""
-        node, cost, number = start, 0, 0
-        for choice, (costs, runs, heads, _) in zip(row, self._days):
-            cost += int(costs[choice, node])
-            number += int(runs[choice, node])
-            node = heads[choice, node]
-        return cost, number
+    def cheapest(self, pay: Any, weight: int) -> Tuple[Any, Any]:
+        """What the cheapest row of each nurse costs, and the row, if a charge of a shift run has this weight in thousandths."""
+        steps = self._steps
+        weighted = [costs + runs * weight if weight < NEVER else numpy.where(runs > 0, NEVER, costs) for costs, runs in steps]
+        return self._block.with_costs(weighted).cheapest(pay, range(len(self.nurses)))
 
 
 class CasePricing:
@@ -85,11 +66,10 @@ class CasePricing:
         self.numbers = {nurse: at for at, nurse in enumerate(plan.nurses)}
         self.shifts = {shift: number for number, shift in enumerate(plan.scenario.shift_types, 1)}
         self._starts, self._base = pricing.starts, pricing.base
-        members: Dict[int, List[int]] = {}
-        for nurse, graph in enumerate(pricing.graphs):
-            members.setdefault(id(graph), []).append(nurse)
-        self._groups = [(CaseGraph(pricing.graphs[of[0]]), of) for of in members.values()]
-        self._graph = {nurse: graph for graph, of in self._groups for nurse in of}
+        self._graphs = pricing.graphs
+        graphs = zip(pricing.graphs, pricing.starts)
+        members = [Member(nurse, graph.arrays, start) for nurse, (graph, start) in enumerate(graphs) if graph.arrays]
+        self._blocks = [_CaseBlock(block) for block in blocks_of(members, plan.days)]
         self.crew = numpy.array(crews.of)
         self._wishes = numpy.zeros(self.crew.shape, dtype=numpy.int64)
         for nurse, wishes in enumerate(pricing.wishes):
@@ -103,9 +83,14 @@ class CasePricing:
 
     def counted(self, nurse: int, row: NurseWeek) -> Optional[PricedRow]:
         """A row with its cost and its charges; None if a hard rule forbids it."""
-        cost, runs = self._graph[nurse].count(self._starts[nurse], row)
-        cost += self._base[nurse] + sum(int(self._wishes[nurse, day, choice]) for day, choice in enumerate(row))
-        return None if cost >= NEVER // 2 else PricedRow(nurse, row, cost // POINT + SHIFT_RUN * runs, runs)
+        node, cost, number = self._starts[nurse], self._base[nurse], 0
+        for at, (day, choice) in enumerate(zip(self._graphs[nurse].days, row)):
+            if day.costs[choice][node] >= NEVER // 2 or self._wishes[nurse, at, choice] >= NEVER // 2:
+                return None
+            step, runs = _split(day.costs[choice][node])
+            cost, number = cost + step + int(self._wishes[nurse, at, choice]), number + runs
+            node = day.heads[choice][node]
+        return PricedRow(nurse, row, cost // POINT + SHIFT_RUN * number, number)
 
     def price(self, limits: CaseLimits, prices: Prices, surcharge: int) -> Optional[Found]:
         """The cheapest rows of a case at these prices, and its bound; None if it has no roster. A surcharge below 0 is for charges of shift
@@ -116,9 +101,9 @@ class CasePricing:
         weight = NEVER if limits.most and limits.most.number == 0 else SHIFT_RUN * POINT + surcharge
         values: List[int] = [0] * len(self._starts)
         found: List[PricedRow] = []
-        for graph, nurses in self._groups:
-            least, rows = graph.cheapest(numpy.array([self._starts[nurse] for nurse in nurses]), pay[nurses], graph.weighted(weight))
-            for nurse, value, row in zip(nurses, least.tolist(), rows):
+        for block in self._blocks:
+            least, rows = block.cheapest(pay, weight)
+            for nurse, value, row in zip(block.nurses, least.tolist(), rows):
                 priced = self.counted(nurse, row.tobytes()) if value < NEVER // 2 else None
                 if priced is None:
                     return None

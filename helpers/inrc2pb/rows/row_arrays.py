@@ -1,5 +1,6 @@
 """The cheapest rows of many nurses at once by NumPy, which is not needed: without it they are priced one after another."""
 
+import copy
 import importlib
 from typing import Any, Dict, List, NamedTuple, Optional, Sequence, Tuple
 
@@ -90,6 +91,17 @@ class Block:
         if members[0].rest is not None:
             rests = [of.rest for of in members]
             self._rest = numpy.stack(rests, axis=1) if self._is_one else numpy.concatenate(rests)[:, None]
+
+    @property
+    def costs(self) -> List[Any]:
+        """The costs of each day by choice and node."""
+        return [day.costs for day in self._days]
+
+    def with_costs(self, costs: Sequence[Any]) -> "Block":
+        """The same nurses, if their days have these costs."""
+        other = copy.copy(self)
+        other._days = [day._replace(costs=of_day) for day, of_day in zip(self._days, costs)]
+        return other
 
     @staticmethod
     def _day(graphs: Sequence[Arrays], day: int, offsets: Any) -> _Day:
