@@ -5,17 +5,19 @@
 #
 #   tests/helpers/helpers.sh [llvm | rattle | PROGRAM]
 #
-# Needs Python 3.8; tests that need clasp or cbc are skipped if it is not installed. Without mypy the script says so.
+# Needs Python 3.8. The script says which tests it skipped.
 . "$(dirname "$0")/../kit/kit.sh"
 
 # One case for each test of Python.
 run_tests() {
-    local passed failed skipped
+    local good bad left
     what='tests/helpers'
     INRC2PB=$program timeout 1500 python3 -B -W error::SyntaxWarning tests/helpers/run.py > "$out" 2> "$err" ||
         complain "$(grep -A 25 -m 3 -E '^(FAIL|ERROR): ' "$err" | head -n 60)"
-    read -r passed failed skipped < <(tail -n 1 "$out" | tr -cd '0-9 \n') || complain "no test ran: $(tail -n 3 "$err")"
-    checked=$((checked + ${passed:-0} + ${failed:-0}))
+    grep '^skipped: ' "$out"
+    read -r good bad left < <(tail -n 1 "$out" | tr -cd '0-9 \n') || complain "no test ran: $(tail -n 3 "$err")"
+    checked=$((checked + ${good:-0} + ${bad:-0}))
+    skipped=$((skipped + ${left:-0}))
 }
 
 # types_hold FILE..: mypy finds no mistake, and no function without types.
@@ -24,7 +26,7 @@ types_hold() {
 }
 
 checks_types() {
-    command -v mypy > /dev/null || { echo 'helpers.sh: mypy is not installed, so the types were not checked'; return; }
+    has mypy || return
     begins_case 'the types of the helpers'
     {
         types_hold helpers/inrc2pb && types_hold bench/*.py

@@ -39,7 +39,7 @@ def main(names: List[str]) -> int:
     result = unittest.TextTestRunner(resultclass=Result).run(tests)
     assert isinstance(result, Result)
     for reason, count in sorted(collections.Counter(reason for _, reason in result.skipped).items()):
-        print(f"skipped: {count} of the tests of the helpers: {reason}")
+        print(f"skipped: tests of the helpers: {reason} ({count})")
     print(f"{result.passed} passed, {result.failed()} failed, {len(result.skipped)} skipped")
     return int(not result.wasSuccessful() or not result.passed)
 

@@ -43,8 +43,8 @@ helpers_are_launchers() {
 # The kit at hand is the one that README.md names or a later one, with the logic that README.md and docs/trusted.md name.
 kit_is_named() {
     local kit named sum
+    has rt || return
     begins_case 'the kit in README.md'
-    command -v rt > /dev/null || return
     kit=$(rt version)
     named=$(grep -o -m 1 'rattle-kit-[0-9a-z]*' README.md)
     sum=$(grep -oP -m 1 'sum=\K[0-9a-f]+' docs/trusted.md)
@@ -99,8 +99,8 @@ mistakes_are_refused() {
 }
 
 scripts_are_clean() {
+    has shellcheck || return
     begins_case 'the scripts'
-    command -v shellcheck > /dev/null || return
     shellcheck .ci/run ./*.sh examples/*.sh package/*.sh tests/*/*.sh > "$room/checked" || complain "$(head -n 20 "$room/checked")"
 }
 

@@ -3,12 +3,12 @@
 #
 #   tests/pages/tour.sh [llvm | rattle | PROGRAM]
 #
-# If no solver is installed it says so and passes: tests/program/solver_answers.sh reads stored answers.
+# tests/program/solver_answers.sh reads stored answers.
 . "$(dirname "$0")/../kit/kit.sh"
 . examples/solver_commands.sh
 
 solver=$(installed_solvers | head -n 1)
-[ -n "$solver" ] || { echo 'tour.sh: no solver is installed, so nothing was tried'; exit 0; }
+[ -n "$solver" ] || { skips 1 'needs clasp, minisat+ or Sat4j'; finish; exit; }
 
 begins_case "the tour with $solver"
 needs_bound

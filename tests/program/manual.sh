@@ -102,12 +102,13 @@ completions_are_written() {
     for file in inrc2pb{,-bound,-period-bound}.{bash,fish} _inrc2pb{,-bound,-period-bound}; do
         cmp -s "$room/$file" "completions/$file" || complain "$file is not as write.py writes it"
     done
-    if command -v zsh > /dev/null; then
+    if has zsh; then
+        begins_case 'the completions in zsh'
         for file in completions/_*; do
             zsh -n "$file" || complain "zsh does not read $file"
         done
     fi
-    if command -v fish > /dev/null; then
+    if has fish 3; then
         for file in encode decode extend; do
             offered=$(fish -c "source completions/inrc2pb.fish; complete -C 'inrc2pb $file --'" | cut -f 1 | sort | tr '\n' ' ')
             is "fish's completion of $file" "$offered" "$(complete_words inrc2pb $file --)"
@@ -134,12 +135,15 @@ names_the_same_of() {
 
 # is_manual PAGE: mandoc and man read it.
 is_manual() {
-    begins_case "the manual page $1"
-    if command -v mandoc > /dev/null; then
+    if has mandoc; then
+        begins_case "the manual page $1 in mandoc"
         # What it says of other pages depends on the machine.
         mandoc -Tlint "$1" 2> /dev/null | grep -v ' STYLE: referenced manual not found' && complain 'mandoc complains'
     fi
-    if command -v man > /dev/null && man --version 2> /dev/null | grep -q man-db; then
+    if ! man --version 2> /dev/null | grep -q man-db; then
+        skips 1 'needs man-db'
+    else
+        begins_case "the manual page $1 in man"
         [ -z "$(LC_ALL=C man --warnings -l -Tascii "$1" 2>&1 > /dev/null)" ] || complain 'man warns'
     fi
 }

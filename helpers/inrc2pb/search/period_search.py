@@ -40,7 +40,8 @@ class PeriodSearch:
     """
 
     def __init__(
-        self, weeks: PlannedWeeks, keep: Keep, clock: Clock, progress: Progress, prices: Optional[Path] = None, start: Optional[Sequence[Cell]] = None
+        self, weeks: PlannedWeeks, keep: Keep, clock: Clock, progress: Progress, prices: Optional[Path] = None,
+        start: Optional[Sequence[Cell]] = None,
     ) -> None:
         self._weeks, self._keep, self._clock, self._progress, self._prices = weeks, keep, clock, progress, prices
         self._processes = Processes()
@@ -106,7 +107,8 @@ class PeriodSearch:
             self._keep(cells)
             self._cells = cells
             self.penalty = run.search.value_of(rows) if self._weeks.later() and run.search else penalty
-            self._progress.improved(penalty, finder if finder != GIVEN else "week after week" if self._start is None else "the earlier plan")
+            given = "week after week" if self._start is None else "the earlier plan"
+            self._progress.improved(penalty, given if finder == GIVEN else finder)
             # Before the search, the cost of the weeks that are not known is not known either.
             return self.penalty if run.search or not self._weeks.later() else None
 
