@@ -5,11 +5,14 @@ import sys
 from pathlib import Path
 from typing import Callable, Dict, List, Optional, Sequence
 
+from ..plans.local_jobs import Jobs
+from ..plans.local_server import LocalServer
 from ..plans.plan_days import PlanDays
 from ..plans.told_absences import Told, with_told
 from ..plans.verbs import Means, Verbs
 from ..plans.ward_folder import WardFolder
 from ..plans.ward_plan import Sheet
+from ..programs.interrupts import interrupts
 from ..programs.program import find_program
 from ..programs.progress import Progress
 from ..sheets.plan_sheets import AWAY, read_days
@@ -31,9 +34,10 @@ VERBS = {
     "over [NAME DAY SHIFT ..]": "the first week is over, as planned or with these shifts (or off); after the last one a new period begins",
     "page": "write the pages and calendars; from now on plans change little",
     "undo": "the plan before the last verb holds again",
+    "serve": "a page in your browser that does the same",
 }
 _NAMES = (*(usage.split(" ")[0] for usage in VERBS), *AWAY)
-_READING = ("check",)
+LOCAL = "127.0.0.1"
 
 
 def _options() -> argparse.ArgumentParser:
@@ -57,6 +61,13 @@ def _options() -> argparse.ArgumentParser:
         help="the most seconds to search (default: 20 for each week, and 30 for a change)",
     )
     options.add_argument("--do", action="store_true", help="with swap: write it")
+    options.add_argument("--port", metavar="N", type=int, default=0, help="with serve: the port (default: a free one)")
+    options.add_argument(
+        "--host",
+        metavar="NAME",
+        default=LOCAL,
+        help="with serve: the name or number of this machine (default: %(default)s, for its own users)",
+    )
     options.add_argument("--free", action="store_true", help="with plan: all shifts may change, also of a plan that hangs on the wall")
     return options
 
@@ -81,7 +92,11 @@ def _check(given: argparse.Namespace) -> None:
         raise Misuse("--do is for swap: leave it out")
     if given.free and given.verb != "plan":
         raise Misuse("--free is for plan: leave it out")
-    if given.words and given.verb in ("check", "page", "undo"):
+    if (given.port or given.host != LOCAL) and given.verb != "serve":
+        raise Misuse("--port and --host are for serve: leave them out")
+    if not 0 <= given.port < 65536:
+        raise Misuse(f"--port {given.port}: give a number from 1024 to 65535")
+    if given.words and given.verb in ("check", "page", "undo", "serve"):
         raise Misuse(f"'{given.words[0]}' is a word too many: {given.verb} has none")
     if given.time is not None:
         check_seconds(given.time, "--time")
@@ -92,7 +107,7 @@ def _options_first(words: Sequence[str]) -> List[str]:
     options: List[str] = []
     others: List[str] = []
     for before, word in zip(["", *words], words):
-        (options if word.startswith("-") or before == "--time" else others).append(word)
+        (options if word.startswith("-") or before in ("--time", "--port", "--host") else others).append(word)
     return [*options, *others]
 
 
@@ -115,18 +130,30 @@ def _done(verbs: Verbs, given: argparse.Namespace) -> List[str]:
     return done[given.verb]()
 
 
+def _serve(folder: WardFolder, given: argparse.Namespace) -> None:
+    """Serves the local page until Ctrl-C."""
+    with interrupts() as signals:
+        server = LocalServer(Jobs(folder, read_sheet, signals), given.host, given.port)
+        print(f"open this address in a browser, and give it to nobody else: {server.address}", flush=True)
+        _say("Ctrl-C ends it")
+        server.run(signals)
+
+
 def main() -> Optional[int]:
     """The command `inrc2pb-plan`."""
     given = _options().parse_args(_options_first(sys.argv[1:]))
     _check(given)
     folder = WardFolder(given.folder)
     verbs = Verbs(folder, Means(read_sheet, Progress(sys.stderr), _say))
-    if given.verb in _READING:
-        lines = verbs.check()
-    else:
-        folder.spreadsheet()
-        find_program()
-        with folder.locked(_say):
-            lines = _done(verbs, given)
+    if given.verb == "check":
+        print("\n".join(verbs.check()))
+        return 0
+    folder.spreadsheet()
+    find_program()
+    if given.verb == "serve":
+        _serve(folder, given)
+        return 0
+    with folder.locked(_say):
+        lines = _done(verbs, given)
     print("\n".join(lines))
     return 0

@@ -15,13 +15,13 @@ ROSTER, WALL, CALENDARS = "roster.html", "wall.html", "calendars"
 
 def write_roster_page(top: Path, plan: WardPlan, old: Optional[WardPlan] = None) -> Path:
     """Writes the page with costs, and with what differs from an older plan of the same weeks."""
-    write_text(top / ROSTER, page_text(_content(plan, old)))
+    write_text(top / ROSTER, page_text(roster_content(plan, old)))
     return top / ROSTER
 
 
 def write_all(top: Path, plan: WardPlan) -> List[Path]:
     """Writes the page for the wall, and a calendar for each nurse if the plan has dates."""
-    content = _content(plan, None)
+    content = roster_content(plan)
     write_text(top / WALL, page_text(Content(content.view, None, content.monday, content.times, True)))
     if content.monday is None:
         return [top / WALL]
@@ -29,6 +29,7 @@ def write_all(top: Path, plan: WardPlan) -> List[Path]:
     return [top / WALL, top / CALENDARS]
 
 
-def _content(plan: WardPlan, old: Optional[WardPlan]) -> Content:
+def roster_content(plan: WardPlan, old: Optional[WardPlan] = None) -> Content:
+    """What the pages show: the weeks that are not over."""
     monday = None if plan.days.monday is None else plan.days.monday + plan.first * DAY
     return Content(plan.view(), old.view() if old and old.is_planned else None, monday)

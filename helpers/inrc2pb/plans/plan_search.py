@@ -43,7 +43,8 @@ def search_plan(old: WardPlan, asked: Asked, progress: Progress) -> Found:
     with tempfile.TemporaryDirectory(prefix="inrc2pb-plan-") as name:
         weeks = _weeks(_files(old, asked, Path(name)))
         start = [cell._replace(day=cell.day - old.first) for cell in old.cells()] if old.is_planned else None
-        search = PeriodSearch(weeks, kept.append, Clock(asked.seconds), progress, start=start)
+        clock = Clock(asked.seconds)
+        search = PeriodSearch(weeks, kept.append, clock, progress, start=start)
         with interrupts() as signals, signals.calling(search.interrupt):
             try:
                 search.run()
@@ -51,11 +52,10 @@ def search_plan(old: WardPlan, asked: Asked, progress: Progress) -> Found:
                 if not kept:
                     raise
                 progress.warn(fault_line(fault))
-            stopped = bool(signals.caught)
     cells = [cell._replace(day=cell.day + old.first) for cell in kept[-1]]
     held = [cell._replace(day=WEEK_DAYS * number + cell.day) for number in old.weeks for cell in old.held[number]]
     labelled = with_old_skills(old.scenario, cells, [*old.cells(), *held])
-    return Found(old.with_cells(labelled), search.line(), stopped)
+    return Found(old.with_cells(labelled), search.line(), clock.stopped)
 
 
 def _weeks(files: PeriodFiles) -> PlannedWeeks:

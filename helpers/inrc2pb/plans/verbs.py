@@ -50,7 +50,7 @@ class Verbs:
 
     # ---- the plan that holds
 
-    def _current(self, told: Sequence[Told] = ()) -> WardPlan:
+    def current(self, told: Sequence[Told] = ()) -> WardPlan:
         """The plan that holds, with what the spreadsheet says now, and with more absences."""
         last, spreadsheet = self._folder.last(), self._folder.spreadsheet()
         if last is None:
@@ -62,7 +62,7 @@ class Verbs:
 
     def _planned(self) -> WardPlan:
         """The same; that it has no rosters is a Misuse."""
-        plan = self._current()
+        plan = self.current()
         if not plan.is_planned:
             raise Misuse(f"{self._folder.top} has no plan yet: type inrc2pb-plan FOLDER plan")
         return plan
@@ -96,7 +96,7 @@ class Verbs:
 
     def check(self) -> List[str]:
         """The warnings of the spreadsheet, and the ward in sentences."""
-        plan = self._current()
+        plan = self.current()
         lines = [f"warning: {readable(line)}" for line in plan.sheet.warnings]
         lines += [*scenario_sentences(plan.scenario), "", *history_sentences(plan.histories[plan.open_week])]
         for number in plan.weeks:
@@ -111,7 +111,7 @@ class Verbs:
 
     def plan(self, words: Sequence[str], seconds: Optional[float], free: bool) -> List[str]:
         """Plans the weeks that are not over, or what is left of them from a day on."""
-        old = self._current()
+        old = self.current()
         wording = self._wording(old, words, "plan, or plan 2026-12-09 to leave all days before it as they are")
         first = old.first if wording.is_over else wording.open_day()
         wording.end()
@@ -160,7 +160,7 @@ class Verbs:
         self._means.say(f"{readable(nurse)}: {word}, {old.days.span([first, last])}")
         return self._search(
             f"{word} {nurse} {old.days.head(first)} {old.days.head(last)}",
-            self._current(told),
+            self.current(told),
             Asked(first, True, seconds or CHANGE_SECONDS),
             nurse,
         )
@@ -176,7 +176,7 @@ class Verbs:
             raise Misuse(f"{readable(nurse)} is not away on {old.days.text(first)}")
         told = with_days(old.told, nurse, days, BACK)
         self._means.say(f"{readable(nurse)}: back, {old.days.span(days)}")
-        return self._search(f"back {nurse} {old.days.head(first)}", self._current(told), Asked(first, True, seconds or CHANGE_SECONDS))
+        return self._search(f"back {nurse} {old.days.head(first)}", self.current(told), Asked(first, True, seconds or CHANGE_SECONDS))
 
     # ---- swaps
 
@@ -224,7 +224,7 @@ class Verbs:
             return [f"nobody can take {shift}"]
         return [
             f"who could take {shift}, and what it adds to the points:",
-            *(_offer_text(old.days, swaps, offer) for offer in found[:MOST_OFFERS]),
+            *(offer_text(old.days, swaps, offer) for offer in found[:MOST_OFFERS]),
         ]
 
     # ---- the end of a week
@@ -283,7 +283,7 @@ class Verbs:
         last = self._folder.last()
         if last is None:
             return [f"undone: {undone.made}; there is no plan any more"]
-        return [f"undone: {undone.made}", f"the plan of {read_stored(last).record.made} holds again", *self._pages(self._current())]
+        return [f"undone: {undone.made}", f"the plan of {read_stored(last).record.made} holds again", *self._pages(self.current())]
 
 
 def _changes(changes: List[ShiftChange], days: PlanDays, absent: str = "") -> List[str]:
@@ -306,7 +306,7 @@ def _shift_of(swaps: Swaps, swap: Swap) -> Tuple[str, int]:
     return next((nurse, day) for nurse in (swap.one, swap.other) for day in swap.days if swaps.works(nurse, day))
 
 
-def _offer_text(days: PlanDays, swaps: Swaps, offer: Offer) -> str:
+def offer_text(days: PlanDays, swaps: Swaps, offer: Offer) -> str:
     """An offer in words: who takes the shift, and which of hers is taken for it."""
     one, other, _ = offer.swap
     given = [f"{readable(cell.shift)} on {days.text(day)}" for day in offer.swap.days for cell in [swaps.works(other, day)] if cell]

@@ -2,7 +2,7 @@
 
 import datetime
 from dataclasses import dataclass, field
-from typing import Dict, Iterator, List, Mapping, Optional, Sequence
+from typing import Callable, Dict, Iterator, List, Mapping, Optional, Sequence
 
 from .changes import Change, cells_text, changes
 from ..judging.coverage import Covered, coverage
@@ -27,7 +27,8 @@ def plain(name: str) -> str:
 class Content:
     """What a page shows: the roster, an older one, the date of the first Monday, and the times of shift types, as far as they are known.
 
-    `only_table` is for a wall: nothing on what the roster costs, nor on wishes and held shifts.
+    `only_table` is for a wall: nothing on what the roster costs, nor on wishes and held shifts. `link` has the address of a nurse's day in a
+    week of the table, if its cells are links.
     """
 
     view: RosterView
@@ -35,6 +36,7 @@ class Content:
     monday: Optional[datetime.date] = None
     times: Mapping[str, Times] = field(default_factory=dict)
     only_table: bool = False
+    link: Optional[Callable[[int, str, int], str]] = None
 
     def days(self, week: int) -> Sequence[str]:
         """The names of a week's days."""
@@ -127,6 +129,9 @@ class RosterTable:
             parts.append(joined(shown(CHANGED, class_="mark"), hidden(f" {CHANGED_MEANING}, before: {plain(cells_text(change.before))}")))
         number = self.view.shifts.index(cells[0].shift) % len(COLORS) if cells else None
         kinds = [_weekend(day), f"s{number}" if cells else None, "changed" if change else None]
+        if self.page.link:
+            named = hidden(f"{plain(nurse)}, {self.page.days(week)[day]}: ")
+            parts = [element("a", named, *(parts or [shown("\u00b7")]), href=self.page.link(week, nurse, day))]
         return element("td", *parts, class_=" ".join(kind for kind in kinds if kind) or None)
 
     def _shift(self, cell: ShownCell) -> Markup:
