@@ -126,6 +126,12 @@ class Pricing:
             part.wishes.append({**wishes, **kept})
         return part
 
+    def forbid(self, nurse: int, day: int, choice: int) -> None:
+        """Forbids a nurse a choice on a day, before any pricing."""
+        costs = list(self.wishes[nurse].get(day, [0] * len(self.crews.of[nurse][day])))
+        costs[choice] = NEVER
+        self.wishes[nurse] = {**self.wishes[nurse], day: costs}
+
     def without_absences(self) -> "Pricing":
         """The same for a plan in which absences may be broken."""
         free = copy.copy(self)

@@ -70,15 +70,10 @@ class RowGeneration:
             if cost is not None:
                 self._add(nurse_number, row, cost, self.prices, places[nurse_number])
 
-    def begin_with(self, whole: "RowGeneration", nurses: Sequence[int], rows: Sequence[NurseWeek], days: range) -> None:
-        """Begins with the prices for more nurses, and with the known rows of these nurses, who keep the given rows on all other days."""
+    def begin_at(self, whole: "RowGeneration") -> None:
+        """Begins with the prices for more nurses."""
         known = dict(zip(whole.pricing.crews.places, whole.prices))
         self.prices = [known.get(place, 0) for place in self.pricing.crews.places]
-        numbers = {nurse: number for number, nurse in enumerate(nurses)}
-        for column in list(whole.program.columns):
-            if column.nurse in numbers:
-                number = numbers[column.nurse]
-                self.add_row(number, rows[number][: days.start] + column.row[days.start : days.stop] + rows[number][days.stop :])
 
     def add_row(self, nurse: int, row: NurseWeek) -> None:
         """Adds a row to the program, if no hard rule forbids it."""

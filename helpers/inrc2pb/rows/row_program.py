@@ -3,7 +3,7 @@
 import math
 from typing import Dict, Iterable, List, NamedTuple, Optional, Sequence, Tuple
 
-from ..programs.clock import Clock
+from ..programs.clock import Clock, TimeIsOver
 from ..solvers.answers import SolverFault
 from ..solvers.resident_program import DUAL, OPTIMAL, PRIMAL, Column, LinearProgram
 from .plan import POINT, Plan
@@ -37,7 +37,6 @@ class Solved(NamedTuple):
     shares: Dict[int, float]
     missing: float
     rises: Sequence[float]
-    iterations: int
 
 
 class RowProgram:
@@ -55,7 +54,8 @@ class RowProgram:
         self._held: Dict[int, int] = {}
         # The row of each crew that has several places.
         self._links: Dict[int, int] = {}
-        # Whether a column names the places of its row. Then the columns of a row have some of its places, and not all.
+        # The steps of the simplex method until now, and at most. Whether a column names the places of its row. Then the columns of a row have some of its places, and not all.
+        self.iterations, self.most_iterations = 0, math.inf
         self.names_places = sum(len(places) > 1 for places in crews.members) > MOST_LINKS
         program.add_rows([(1.0, 1.0)] * self._nurses + [(float(optimal), math.inf) for optimal in crews.optimal])
         asked = list(enumerate(zip(crews.minimum, crews.optimal)))
@@ -138,7 +138,10 @@ class RowProgram:
     def solve(self, clock: Clock, dual: bool = False) -> Solved:
         """Solves the linear program from the basis of its last solution; after changes of bounds by the `dual` method. Prices that are no
         prices are cut."""
+        if self.iterations > self.most_iterations:
+            raise TimeIsOver
         found = self._program.solve(clock, DUAL if dual else PRIMAL)
+        self.iterations += found.iterations
         if found.status != OPTIMAL:
             raise SolverFault("the solver of linear programs found no solution")
         of_places = found.prices[self._nurses : self._nurses + len(self._crews.places)]
@@ -147,7 +150,7 @@ class RowProgram:
         values = found.columns
         shares = {column: values[of.number] for column, of in enumerate(self.columns) if values[of.number] > _TINY}
         missing = sum(values[number] for number in self._below)
-        return Solved(found.value, prices, nurses, shares, missing, [found.rises[of.number] for of in self.columns], found.iterations)
+        return Solved(found.value, prices, nurses, shares, missing, [found.rises[of.number] for of in self.columns])
 
     def text(self, use: Iterable[int]) -> str:
         """The integer program over these columns: column N is vN."""

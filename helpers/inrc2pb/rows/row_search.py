@@ -5,7 +5,7 @@ chooses among all rows that a better roster can have.
 """
 
 import math
-from typing import Callable, Dict, List, Optional, Sequence
+from typing import Callable, Dict, List, Optional, Sequence, Tuple
 
 from ..programs.clock import Clock
 from .first_rows import Descent
@@ -45,6 +45,9 @@ class RowSearch(RowGeneration):
         """Whether the best roster costs no more than the bound."""
         return self.penalty is not None and self.lower_bound is not None and self.penalty <= self.lower_bound
 
+    def _meets(self, value: float) -> bool:
+        return self.is_proved or super()._meets(value)
+
     def keep(self, rows: List[NurseWeek], finder: str) -> bool:
         """Offers rows that may be better than the best roster. Returns whether they are."""
         value = self.value_of(rows)
@@ -54,6 +57,13 @@ class RowSearch(RowGeneration):
         if penalty is None or (self.penalty is not None and penalty >= self.penalty):
             return False
         self.rows, self.penalty = rows, penalty
+        return True
+
+    def swap(self, rows: List[NurseWeek]) -> bool:
+        """Takes other rows that cost as much as those of the best roster. Returns whether they do."""
+        if rows == self.rows or self.value_of(rows) != self.penalty:
+            return False
+        self.rows = rows
         return True
 
     def value_of(self, rows: Sequence[NurseWeek]) -> Optional[int]:
@@ -158,13 +168,20 @@ class RowSearch(RowGeneration):
         columns = enumerate(self.program.columns)
         return [number for number, (nurse, row, cost, *_) in columns if self._reduced(nurse, row, cost) <= found[nurse].value + gap]
 
-    def choose(self, use: Sequence[int], clock: Clock, finder: str) -> bool:
-        """Lets the integer program choose among these columns. Returns whether the solver claims that their rows have nothing better
+    def cheapest_known(self, most: int) -> List[List[NurseWeek]]:
+        """So many of the known rows of each nurse, those of the best prices first."""
+        found: List[List[Tuple[int, NurseWeek]]] = [[] for _ in self.plan.nurses]
+        for nurse, row, cost, _ in self.program.columns:
+            found[nurse].append((self._reduced(nurse, row, cost), row))
+        return [[row for _, row in sorted(rows)[:most]] for rows in found]
+
+    def choose(self, use: Sequence[int], clock: Clock, finder: str, nodes: int = 0) -> bool:
+        """Lets the integer program choose among these columns, in at most so many nodes, if that is not 0. Returns whether the solver claims that their rows have nothing better
         than the best roster now."""
         if self._solver is None or not self._solver.chooses:
             return False
         cutoff = None if self.penalty is None else self.penalty - STEP
-        found = self._solver.choose(self.program.text(use), clock, cutoff, STEP)
+        found = self._solver.choose(self.program.text(use), clock, cutoff, STEP, nodes)
         columns = self.program.chosen(found.names or ())
         rows = [self.program.columns[number].row for number in columns or ()]
         if columns:

@@ -35,8 +35,9 @@ class LinearSolver:
         answer is a SolverFault if it shows."""
         raise NotImplementedError
 
-    def choose(self, model: str, clock: Clock, cutoff: Optional[int], step: int) -> Chosen:
-        """Solves an integer program whose values are multiples of `step`; only answers of at most the cutoff count."""
+    def choose(self, model: str, clock: Clock, cutoff: Optional[int], step: int, nodes: int = 0) -> Chosen:
+        """Solves an integer program whose values are multiples of `step`, in at most so many nodes, if that is not 0; only answers of at most
+        the cutoff count."""
         raise NotImplementedError
 
     def beside(self, number: int) -> "LinearSolver":
@@ -116,13 +117,14 @@ class Coin(LinearSolver):
                 found.rises[name] = _number(price, self.name)
         return found
 
-    def choose(self, model: str, clock: Clock, cutoff: Optional[int], step: int) -> Chosen:
+    def choose(self, model: str, clock: Clock, cutoff: Optional[int], step: int, nodes: int = 0) -> Chosen:
         most = [] if cutoff is None else ["cutoff", f"{cutoff + 0.5}"]
         seconds = clock.left()
         words = [
             self._model.name, "sec", f"{seconds:.1f}", "timem", "elapsed", *most, "ratio", "0", "allow", f"{step - 0.1}", "increment",
             f"{step - 0.1}",
         ]
+        words += ["maxNodes", str(nodes)] * bool(nodes)
         how = ["-heuristicsOnOff", "off"] if model.count("\n BV ") > MANY else []
         ended = self._run(model, [*words, *how, "solve", "solution", self._answer.name], clock, seconds + _WRITING)
         late = clock.left() < seconds / 2
@@ -231,10 +233,10 @@ class LinearSolvers(LinearSolver):
             except SolverFault as fault:
                 self._blame(fault)
 
-    def choose(self, model: str, clock: Clock, cutoff: Optional[int], step: int) -> Chosen:
+    def choose(self, model: str, clock: Clock, cutoff: Optional[int], step: int, nodes: int = 0) -> Chosen:
         """Solves an integer program; a fault is no answer."""
         try:
-            return self._others[0].choose(model, clock, cutoff, step)
+            return self._others[0].choose(model, clock, cutoff, step, nodes)
         except SolverFault as fault:
             self._blame(fault)
             return Chosen(None, False)

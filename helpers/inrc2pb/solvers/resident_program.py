@@ -287,7 +287,8 @@ class LinearProgram:
                 if not (name[1:].isdigit() and int(name[1:]) < len(target)):
                     raise SolverFault(f"the answer has an unknown column {name[:40]}")
                 target[int(name[1:])] = value
-        return Solution(OPTIMAL, found.value, prices, columns, rises)
+        # How many iterations it took is not known: as many as it has rows, say.
+        return Solution(OPTIMAL, found.value, prices, columns, rises, self.rows)
 
     def text(self, names: Optional[Sequence[str]] = None, whole: str = "") -> str:
         """The program in the MPS format: row N is cN. Column N is vN, or has one of the names; an empty name leaves it out, and names with

@@ -155,7 +155,7 @@ class Parts(HelperTest):
                 ended.append(solver._processes.run(words, 60, self.folder, hear=lambda data: ready.set()).status)
             ready.wait()
             search.bound, search.penalty = 0, 0
-            return True
+            return True, 0
 
         ended, ready = [], threading.Event()
         with mock.patch.object(parts, "improve", improve):
@@ -170,7 +170,7 @@ class Parts(HelperTest):
             search.begin(matched_rows(plan, search.pricing.crews, lambda: None), None)
             parts = RowParts(search, [solver])
             first = parts._sizes[7]
-            with mock.patch.object(RowParts, "improve", return_value=ended), self.assertRaises(TimeIsOver):
+            with mock.patch.object(RowParts, "improve", return_value=(ended, 1000)), self.assertRaises(TimeIsOver):
                 parts.run(Clock(0.1))
             self.assertEqual(parts._sizes[7] > first, grows)
 

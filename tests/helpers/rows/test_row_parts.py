@@ -49,13 +49,34 @@ class DaysOfParts(unittest.TestCase):
             found = part.cheapest(nurse, gains)
             self.assertEqual((found.value, found.row[:4], found.row[6:]), (min(values), row[:4], row[6:]))
 
-    def test_known_rows_on_some_days(self):
-        whole, part = search_of(1), search_of(1)
-        whole.program.columns.clear()
-        whole.program.add(3, EARLY, 0, whole.prices)
-        part.program.columns.clear()
-        part.begin_with(whole, range(30), [OFF] * 30, range(2, 4))
-        self.assertEqual([column[:2] for column in part.program.columns], [(3, b"\0\0\1\1\0\0\0")])
+    def test_a_part_begins_with_the_cheapest_known_rows(self):
+        whole = search_of(1)
+        for row in (EARLY, OFF, bytes([2] * 7)):
+            whole.add_row(3, row)
+        costs = {row: whole.pricing.cost(3, row) for row in (EARLY, OFF, bytes([2] * 7), whole.rows[3])}
+        whole.prices = [0] * len(whole.prices)
+        known = whole.cheapest_known(2)
+        self.assertEqual([costs[row] for row in known[3]], sorted(costs.values())[:2])
+        self.assertEqual(known[4], [whole.rows[4]])
+
+    def test_a_choice_that_must_change(self):
+        whole = search_of(1)
+        part = whole.pricing.on_days(range(2, 5), whole.rows)
+        part.forbid(6, 3, whole.rows[6][3])
+        gains = whole.pricing.crews.gains(whole.prices)
+        self.assertNotEqual(part.cheapest(6, gains).row[3], whole.rows[6][3])
+        self.assertEqual(part.cheapest(6, gains), part.cheapest_of(range(30), gains)[6])
+        self.assertEqual(whole.pricing.cost(6, whole.rows[6]) is None, False)
+
+    def test_rows_of_the_same_cost(self):
+        whole = search_of(1)
+        rows, whole.rows = whole.rows, [OFF] * 30
+        whole.penalty = whole.value_of(rows)
+        self.assertTrue(whole.swap(rows))
+        self.assertEqual(whole.rows, rows)
+        self.assertFalse(whole.swap(list(rows)))
+        whole.penalty += 5
+        self.assertFalse(whole.swap([OFF] * 30))
 
     def test_the_demand_of_a_part(self):
         parts = RowParts(search_of(2), [])
@@ -79,26 +100,26 @@ class NextParts(unittest.TestCase):
             part = parts._next()
             self.assertEqual(part.nurses, tuple(range(30)))
             seen.append(part.days)
-            parts._learn(part, True, 1.0, False)
+            parts._learn(part._replace(changed=()), True, 1000, False)
         self.assertEqual(len(set(seen)), 23)
         self.assertEqual({len(days) for days in seen[:4]}, {5, 7, 11, 14})
-        # The only one of 14 days has taken less time than the others, and is open again.
-        parts._learn(part, True, 1.0, True)
+        # The only one of 14 days has had less work than the others, and is open again.
+        parts._learn(part, True, 1000, True)
         self.assertEqual(len(parts._next().days), 14)
 
-    def test_lengths_share_the_time(self):
+    def test_lengths_share_the_work(self):
         parts = RowParts(search_of(1), [])
-        for days, seconds in ((3, 2.0), (4, 5.0), (6, 1.0), (7, 3.0)):
-            parts._learn(Part((0, 1), range(days)), True, seconds, False)
+        for days, work in ((3, 2000), (4, 5000), (6, 1000), (7, 3000)):
+            parts._learn(Part((0, 1), range(days)), True, work, False)
         self.assertEqual(len(parts._next().days), 6)
-        parts._learn(Part((0, 1), range(6)), False, 1.5, False)
+        parts._learn(Part((0, 1), range(6)), False, 1500, False)
         self.assertEqual(len(parts._next().days), 3)
 
-    def test_sizes_follow_the_time(self):
+    def test_sizes_follow_the_work(self):
         parts = RowParts(search_of(1), [])
-        for ended, seconds, size in ((True, 1.0, 23.0), (True, 2.0, 20.0), (False, 6.0, 16.0)):
+        for ended, work, size in ((True, 1000, 23.0), (True, 5000, 20.0), (False, 10_000, 16.0)):
             parts._sizes[7] = 20.0
-            parts._learn(Part((0, 1), range(7)), ended, seconds, False)
+            parts._learn(Part((0, 1), range(7)), ended, work, False)
             self.assertAlmostEqual(parts._sizes[7], size)
 
 
