@@ -1,8 +1,8 @@
 -- Certificates for the plans of some weeks.
-use Rattle.std.specs.Prelude.{◌≡◌, ℕ, zero, suc, ◌≤◌, ◌<◌, List, [], ◌∷◌, length, Option, Some, None}
+use Rattle.std.specs.Prelude.{◌≡◌, ℕ, zero, suc, ◌*◌, ◌≤◌, ◌<◌, List, [], ◌∷◌, length, Option, Some, None}
 use Rattle.std.specs.List.{AllByRecursion}
 use Rattle.std.specs.Option.{ForSome}
-use Rattle.rota_core.specs.Limits.{max_price}
+use Rattle.rota_core.specs.Limits.{max_number, max_price}
 use Rattle.rota_core.specs.PriceTables.{IsForWeek}
 use Rattle.rota_core.specs.Problem.{Problem}
 use Rattle.rota_core.specs.Sizes.{DAYS, Numbers}
@@ -30,10 +30,12 @@ pub record IsNurseLimitFor (numbers : Numbers) (weeks : ℕ) (one : NurseLimit) 
   pub day : one.day < DAYS
   pub shift : one.shift < numbers.shifts
   pub skill : one.skill < numbers.skills
+  pub most : one.most ≤ max_number
 
 -- the limit is of one of the nurses, or of all
-abbrev pub IsChargeLimitFor : Numbers → ChargeLimit → Type 0
-IsChargeLimitFor numbers one = ForSome one.nurse (λ n. n < numbers.nurses)
+pub record IsChargeLimitFor (numbers : Numbers) (one : ChargeLimit) : Type 0 where
+  pub nurse : ForSome one.nurse (λ n. n < numbers.nurses)
+  pub most : one.most ≤ max_number
 
 -- the fact names a week, a nurse, a day, a shift type and a skill that exist
 abbrev pub IsFactFor : Numbers → (weeks : ℕ) → Fact → Type 0
@@ -68,9 +70,10 @@ open_after (suc subtrees) (nodes.Leaf leaf ∷ rest) = open_after subtrees rest
 abbrev pub IsOneTree : List Node → Type 0
 IsOneTree tree = open_after 1 tree ≡ Some 0
 
--- The certificate is for plans of this number of weeks: in each list of prices there is a table for each week, the nodes are one tree, and
--- each fact and leaf of it is as above.
+-- The certificate is for plans of this number of weeks: in each list of prices there is a table for each week, the nodes are one tree, with
+-- no more nodes than its file may have, and each fact and leaf of it is as above.
 pub record IsCertificateFor (problem : Problem) (weeks : ℕ) (certificate : Certificate) : Type 0 where
   pub prices : AllByRecursion (λ list. (length list.items ≡ weeks) × AllByRecursion (IsForWeek problem) list.items) certificate.prices.items
   pub nodes : AllByRecursion (IsNodeFor problem.numbers weeks (length certificate.prices.items)) certificate.nodes.items
   pub tree : IsOneTree certificate.nodes.items
+  pub count : length certificate.nodes.items ≤ 2 * max_number
