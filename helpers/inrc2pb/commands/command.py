@@ -14,7 +14,7 @@ from .arguments import parser
 from ..week.faults import FileFault, FileFaults, Misuse, ProgramFault, fault_line
 from ..programs.program import FAULT, OUT_OF_MEMORY, READ_OR_WRITE, WeekFiles
 
-__all__ = ["add_solver_option", "add_week_options", "check_seconds", "number_of_seconds", "parser", "run", "week_files"]
+__all__ = ["add_given_option", "add_solver_option", "add_week_options", "check_seconds", "number_of_seconds", "parser", "run", "week_files"]
 
 # The exit statuses with which a shell reports that the signals PIPE and INT ended a command; that of another signal is its number more
 # than the base.
@@ -54,6 +54,12 @@ def add_week_options(options: argparse.ArgumentParser, required: bool = True) ->
     options.add_argument("--early", action="store_true", help="charge excess assignments and weekends as soon as they occur")
 
 
+def add_given_option(options: argparse.ArgumentParser) -> None:
+    """The option that names the facts that plans keep."""
+    asks = "facts about the period to keep: absences, and limits that hold"
+    options.add_argument("--given", dest="facts", metavar="FILE", type=Path, help=asks)
+
+
 def add_solver_option(options: argparse.ArgumentParser) -> None:
     """The option that names a solver for whole weeks."""
     solver = (
@@ -71,7 +77,7 @@ def check_seconds(seconds: float, option: str) -> None:
 
 def week_files(given: argparse.Namespace) -> WeekFiles:
     """The files that the options of `add_week_options` name."""
-    return WeekFiles(given.sce, given.his, given.week, given.fix, given.early)
+    return WeekFiles(given.sce, given.his, given.week, given.fix, given.early, given.facts)
 
 
 class _Remarks(io.TextIOWrapper):

@@ -5,7 +5,7 @@ import sys
 from pathlib import Path
 from typing import List, Optional
 
-from .command import add_solver_option, add_week_options, check_seconds, number_of_seconds, parser, week_files
+from .command import add_given_option, add_solver_option, add_week_options, check_seconds, number_of_seconds, parser, week_files
 from ..programs.interrupts import interrupts
 from ..programs.progress import Progress
 from ..search.improving import SECONDS, search
@@ -18,6 +18,7 @@ def _options() -> argparse.ArgumentParser:
         "search and keeps the best roster. Improvements are printed on standard error, the report on standard output."
     )
     add_week_options(options)
+    add_given_option(options)
     options.add_argument(
         "--sol", metavar="FILE", type=Path, required=True,
         help="the roster to write; one of this week that is there is the first, so it never gets a worse one",

@@ -4,10 +4,10 @@ import argparse
 from pathlib import Path
 from typing import Collection, Iterable, Iterator, List, Optional, Sequence
 
-from ..judging.absences import Absence, TooMany, with_absences
+from ..judging.absences import TooMany, with_requests
 from .command import parser
 from ..week.faults import Misuse
-from ..week.records import DAYS, Cell, Scenario, Solution
+from ..week.records import DAYS, Absence, Cell, Scenario, Solution
 from ..week.files import read_scenario, read_solution, read_week, solution_text, week_text
 from ..week.writing import write_text
 from ..week.hints import quoted
@@ -66,7 +66,7 @@ def _options() -> argparse.ArgumentParser:
 def _week_text(week: Path, scenario: Scenario, nurses: Sequence[str], days: Sequence[int], cells: Sequence[Cell]) -> str:
     """The text of the week's file with absences for days off."""
     try:
-        written = with_absences(
+        written = with_requests(
             scenario, read_week(week, scenario), days_off(nurses or list(scenario.nurses), days or range(len(DAYS)), cells)
         )
     except TooMany as fault:

@@ -10,7 +10,7 @@ from typing import Dict, Iterable, List, Optional, Sequence
 
 from ..programs.clock import Clock
 from ..rows.plan import WEEK_DAYS
-from .command import add_solver_option, check_seconds, fixes_by_week, number_of_seconds, parser
+from .command import add_given_option, add_solver_option, check_seconds, fixes_by_week, number_of_seconds, parser
 from ..week.faults import FileFault, Misuse, ProgramFault, fault_line
 from ..week.files import read_solution, write_history
 from ..week.records import Cell
@@ -68,7 +68,7 @@ class Period:
             try:
                 with signals.calling(running.interrupt):
                     running.run()
-                for warning in running.broken_absences():
+                for warning in running.not_kept():
                     self.progress.warn(warning)
             finally:
                 for number, week in zip(self.numbers, self._written):
@@ -191,6 +191,7 @@ def _options() -> argparse.ArgumentParser:
     options.add_argument(
         "--fix", metavar="N=FILE", action="append", default=[], help="the assignments to keep in week N, numbered from 0 as in its history"
     )
+    add_given_option(options)
     totals = options.add_mutually_exclusive_group()
     totals.add_argument("--early", action="store_true", help="charge excess assignments and weekends as soon as they occur")
     totals.add_argument(
@@ -214,9 +215,8 @@ def main() -> Optional[int]:
             raise Misuse("--ahead is a plan of all weeks, and --solver plans one: leave one of them out")
     if given.prices and (given.solver or given.ahead):
         raise Misuse(f"with {'--solver' if given.solver else '--ahead'} there are no prices: leave out --prices")
-    period = Period(
-        PeriodFiles(given.sce, given.his, given.week, fixes_by_week(given.fix), given.early, given.ahead), given.out, given.prices
-    )
+    files = PeriodFiles(given.sce, given.his, given.week, fixes_by_week(given.fix), given.early, given.ahead, given.facts)
+    period = Period(files, given.out, given.prices)
     period.name_replaced()
     with interrupts() as signals:
         try:

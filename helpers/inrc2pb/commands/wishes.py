@@ -4,11 +4,10 @@ import datetime
 import re
 from typing import Collection, Iterator, List, NamedTuple, NoReturn, Optional, Sequence, Tuple
 
-from ..judging.absences import Absence
 from ..week.dates import read_monday
 from ..week.faults import Misuse
 from ..week.hints import quoted
-from ..week.records import DAYS, Scenario
+from ..week.records import DAYS, Absence, Scenario
 from ..week.slots import did_you_mean
 
 _DATE = re.compile(r"[0-9]{4}-[0-9]{2}-[0-9]{2}")

@@ -2,9 +2,10 @@
 
 from typing import Collection, Dict, Iterator, List, Optional, Sequence, Tuple
 
-from .absences import Absence, absences_of, joined
+from .absences import absences_of, joined
 from .odd_values import IMPOSSIBLE
-from ..week.records import DAYS, Cell, History, Place, Scenario, WeekData
+from .rules import ASSIGNMENT_TOTAL, MISSING_NURSE
+from ..week.records import DAYS, Absence, Cell, History, Place, Scenario, WeekData
 
 _KEEPING = "no roster can meet it and keep every absence"
 
@@ -39,6 +40,22 @@ def supplied_shifts(scenario: Scenario, history: Optional[History]) -> Tuple[int
         minimum += max(0, limits.minimum - done)
         most += min(max(0, limits.maximum - done), 7 * left)
     return minimum // left, -(-most // left)
+
+
+def supply_warnings(scenario: Scenario, history: History, weeks: Sequence[WeekData]) -> Iterator[str]:
+    """A warning if the best numbers of the weeks to the end of the period ask for more shifts than contracts supply beside absences."""
+    if history.week + len(weeks) != scenario.weeks:
+        return
+    whole_days = [(number, absence) for number, data in enumerate(weeks) for absence in absences_of(data) if absence.shift is None]
+    supplied, days = 0, len(DAYS) * len(weeks)
+    for nurse in scenario.nurses:
+        there = days - len({(number, absence.day) for number, absence in whole_days if absence.nurse == nurse})
+        supplied += max(0, min(scenario.contract_of(nurse).assignments.maximum - history.nurses[nurse].assignments, there))
+    least, best = (sum(numbers) for numbers in zip(*map(asked_shifts, weeks)))
+    if best > supplied:
+        supply = f"and the contracts supply at most {supplied} beside absences"
+        costs = f"each shift above costs {ASSIGNMENT_TOTAL} points, and a nurse below a best number {MISSING_NURSE}"
+        yield f"the best numbers ask for {best} shifts, the minimum numbers for {least}, {supply}: {costs}: lower best numbers"
 
 
 def can_work(scenario: Scenario, history: Optional[History], away: Collection[Absence], nurse: str, place: Place) -> bool:

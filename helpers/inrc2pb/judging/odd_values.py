@@ -1,6 +1,6 @@
 """Warnings of values that are allowed in the files of a week, but are probably mistakes."""
 
-from typing import Dict, Iterator, List, Tuple
+from typing import Dict, Iterator, List, Optional, Tuple
 
 from ..week.records import DAYS, Contract, History, Limits, NurseHistory, Requirement, Scenario, WeekData
 from ..week.hints import plural
@@ -46,11 +46,11 @@ def _too_many_assignments(contract: Contract, weeks: int) -> Iterator[str]:
         yield f"contract {contract.name}: at least {minimum} assignments are asked for, and {days} days have {most} {in_a_row}"
 
 
-def history_warnings(history: History) -> Iterator[str]:
-    """Warnings of a history."""
+def history_warnings(history: History, scenario: Optional[Scenario] = None) -> Iterator[str]:
+    """Warnings of a history. With the scenario a nurse may have her contract's minimum of assignments as leave."""
     for past in history.nurses.values():
         yield from _last_days(past)
-        yield from _totals(past, history.week)
+        yield from _totals(past, history.week, scenario.contract_of(past.nurse).assignments.minimum if scenario else 0)
 
 
 def _last_days(past: NurseHistory) -> Iterator[str]:
@@ -69,10 +69,10 @@ def _last_days(past: NurseHistory) -> Iterator[str]:
         yield f"{past.nurse} has {on_shift}, and only {past.working_days} with work"
 
 
-def _totals(past: NurseHistory, week: int) -> Iterator[str]:
-    """Warnings of totals that the weeks before this one cannot have, or that contradict the days in a row."""
+def _totals(past: NurseHistory, week: int, leave: int) -> Iterator[str]:
+    """Warnings of totals that the weeks before this one and so many shifts of leave cannot have, or that contradict the days in a row."""
     over = f"{plural(week, 'week')} of the period {'is' if week == 1 else 'are'} over"
-    if past.assignments > 7 * week:
+    if past.assignments > 7 * week + leave:
         yield f"{past.nurse} has {plural(past.assignments, 'assignment')}, and {over} (leave with credit?)"
     if past.weekends > week:
         yield f"{past.nurse} has {plural(past.weekends, 'weekend')}, and {over}"

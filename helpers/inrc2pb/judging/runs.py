@@ -40,13 +40,14 @@ def ended(run: int, limits: Limits, weight: int) -> int:
 class Runs:
     """What a day adds to the runs of nurses with one contract. Without `charging` only the shift types that may not follow count.
 
-    `shift_run` is the weight of a charge of a run of a shift type.
+    `shift_run` is the weight of a charge of a run of a shift type, and `above` what a day of work above the maximum in a row costs more, in
+    points; NEVER forbids it.
     """
 
     def __init__(
-        self, types: Sequence[ShiftType], contract: Contract, days: int, charging: bool = True, shift_run: int = SHIFT_RUN
+        self, types: Sequence[ShiftType], contract: Contract, days: int, charging: bool = True, shift_run: int = SHIFT_RUN, above: int = 0
     ) -> None:
-        self.days, self.charging, self.contract, self._shift_run = days, charging, contract, shift_run
+        self.days, self.charging, self.contract, self._shift_run, self._above = days, charging, contract, shift_run, above
         self._known: Dict[Tuple[int, RunState], List[Step]] = {}
         self.shifts = [Limits(0, 0), *(kind.consecutive for kind in types)]
         self.numbers = {kind.name: number for number, kind in enumerate(types, 1)}
@@ -84,10 +85,11 @@ class Runs:
         closed = ended(now.shift_run, self.shifts[now.choice], self._shift_run)
         rest = closed + ended(now.work_run, work, WORK_RUN) + DAYS_OFF_RUN * (now.off_run + 1 > off.maximum) + half * (now.choice > 0)
         found = [(rest, self.state(0, 0, 0, now.off_run + 1, left))]
-        works = ended(now.off_run, off, DAYS_OFF_RUN) + WORK_RUN * (now.work_run + 1 > work.maximum) + half * (now.choice == 0)
+        above = now.work_run + 1 > work.maximum
+        works = ended(now.off_run, off, DAYS_OFF_RUN) + (WORK_RUN + self._above) * above + half * (now.choice == 0)
         run, forbidden = shortened(now.work_run + 1, work, left), self.forbidden[now.choice]
         for choice, limits in enumerate(self.shifts[1:], 1):
-            if choice in forbidden:
+            if choice in forbidden or works >= NEVER:
                 found.append((NEVER, now))
             else:
                 length, cost = (now.shift_run + 1, works) if choice == now.choice else (1, works + closed)

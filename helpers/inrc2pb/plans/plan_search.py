@@ -11,6 +11,7 @@ from ..programs.interrupts import interrupts
 from ..programs.progress import Progress
 from ..search.period_search import PeriodSearch
 from ..search.planned_weeks import PeriodFiles, PlannedWeeks, history_name
+from ..week.facts import Charged, facts_text
 from ..week.faults import FileFault, fault_line
 from ..week.files import history_text, solution_text, week_text
 from ..week.records import Cell, Request, Solution, WeekData
@@ -78,7 +79,10 @@ def _files(old: WardPlan, asked: Asked, folder: Path) -> PeriodFiles:
         write_text(path, week_text(data))
         write_text(fixes[number], solution_text(Solution(number, old.scenario.name, tuple(held))))
         weeks.append(path)
-    return PeriodFiles(folder / "ward.txt", history, weeks, fixes)
+    # The absences are in the weeks' files.
+    limits = [claim for claim in old.claims if isinstance(claim.fact, Charged)]
+    write_text(folder / "limits.txt", facts_text(old.scenario.name, limits))
+    return PeriodFiles(folder / "ward.txt", history, weeks, fixes, given=folder / "limits.txt")
 
 
 def _week(old: WardPlan, number: int, asked: Asked) -> "tuple[WeekData, List[Cell]]":

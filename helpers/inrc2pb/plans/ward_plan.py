@@ -6,10 +6,12 @@ from pathlib import Path
 from typing import Dict, Iterable, List, NamedTuple, Optional, Sequence, Tuple
 
 from ..judging.absences import readable
+from ..judging.given import read_given, with_given
 from ..judging.leave import credited
 from ..judging.next_history import next_history
 from ..programs.program import WeekFiles, penalty_of
 from ..shown.roster_view import RosterView, WeekView
+from ..week.facts import Claim
 from ..week.faults import Misuse
 from ..week.hints import plural
 from ..week.files import history_text, read_history, read_scenario, read_solution, read_week, solution_text, write_solution
@@ -95,11 +97,16 @@ class WardPlan:
         return read_scenario("ward.txt", self.sheet.texts["ward.txt"])
 
     @cached_property
+    def claims(self) -> Tuple[Claim, ...]:
+        """The absences and the limits that hold."""
+        return read_given("facts.txt", self.scenario, self.sheet.texts["facts.txt"])
+
+    @cached_property
     def data(self) -> List[WeekData]:
-        """The weeks' files."""
-        return [
-            read_week(name, self.scenario, self.sheet.texts[name]) for name in (f"week-{number}.txt" for number in range(self.days.weeks))
-        ]
+        """The weeks' files, with what they are asked to keep."""
+        names = [f"week-{number}.txt" for number in range(self.days.weeks)]
+        read = [read_week(name, self.scenario, self.sheet.texts[name]) for name in names]
+        return [with_given(self.scenario, data, self.claims, number) for number, data in enumerate(read)]
 
     @cached_property
     def held(self) -> List[Cells]:

@@ -27,13 +27,14 @@ class NotInTime(ProgramFault):
 
 @dataclass(frozen=True)
 class WeekFiles:
-    """The files of a week, and the options that each command needs alike."""
+    """The files of a week, and the options that each command needs alike. `given` has the facts that the search keeps."""
 
     scenario: Path
     history: Path
     week: Path
     fix: Optional[Path] = None
     early: bool = False
+    given: Optional[Path] = None
 
     def options(self) -> List[str]:
         """The files as options of `inrc2pb`."""

@@ -3,9 +3,10 @@
 import copy
 from typing import Any, Dict, List, NamedTuple, Optional, Sequence, Tuple, Union
 
-from .plan import POINT, STEP, Plan
+from .plan import FREE, POINT, STEP, Plan
 from ..judging.runs import NEVER, Runs, RunState
 from ..judging.rules import SHIFT_RUN
+from ..week.facts import WORK_DAYS
 from ..week.records import Place
 from .row_arrays import Member, blocks_of, numpy
 from .row_graph import Check, Graph, Totals
@@ -78,20 +79,25 @@ class Pricing:
     a shift type.
     """
 
+    _free: "Optional[Pricing]" = None
+
     def __init__(self, plan: Plan, crews: Crews, check: Check, shift_run: int = SHIFT_RUN) -> None:
         self.plan, self.crews = plan, crews
         scenario, pasts = plan.scenario, plan.history.nurses
         types = tuple(scenario.shift_types.values())
-        runs = {name: Runs(types, contract, plan.days, plan.charging, shift_run) for name, contract in scenario.contracts.items()}
-        kinds: Dict[Tuple[str, Totals], List[int]] = {}
+        runs: Dict[Tuple[str, int], Runs] = {}
+        kinds: Dict[Tuple[Tuple[str, int], Totals], List[int]] = {}
         states: List[RunState] = []
         for index, nurse in enumerate(plan.nurses):
             contract = scenario.contract_of(nurse)
-            states.append(runs[contract.name].before(pasts[nurse]))
-            kinds.setdefault((contract.name, Totals.of(plan, contract, pasts[nurse])), []).append(index)
+            key = contract.name, 0 if plan.most_above(nurse, WORK_DAYS) is None else plan.keeping.limit
+            if key not in runs:
+                runs[key] = Runs(types, contract, plan.days, plan.charging, shift_run, key[1])
+            states.append(runs[key].before(pasts[nurse]))
+            kinds.setdefault((key, Totals.of(plan, contract, pasts[nurse])), []).append(index)
         self.graphs: List[Graph] = [None] * len(plan.nurses)  # type: ignore[list-item]
-        for (name, totals), members in kinds.items():
-            graph = Graph(runs[name], totals, [states[index] for index in members], check)
+        for (key, totals), members in kinds.items():
+            graph = Graph(runs[key], totals, [states[index] for index in members], check)
             for index in members:
                 self.graphs[index] = graph
         self.starts = [graph.starts[state] for graph, state in zip(self.graphs, states)]
@@ -132,13 +138,11 @@ class Pricing:
         costs[choice] = NEVER
         self.wishes[nurse] = {**self.wishes[nurse], day: costs}
 
-    def without_absences(self) -> "Pricing":
-        """The same for a plan in which absences may be broken."""
-        free = copy.copy(self)
-        free.plan = self.plan.without_absences()
-        requests = free.plan.requests()
-        free.wishes = [free.plan.wishes(nurse, requests.get(nurse, ())) for nurse in free.plan.nurses]
-        return free
+    def free(self) -> "Pricing":
+        """The same for a plan that has no absences and limits to keep."""
+        if self._free is None:
+            self._free = Pricing(self.plan.kept(FREE), self.crews, lambda: None)
+        return self._free
 
     def _pay(self, nurse: int, gains: Gains) -> _Pay:
         """What each choice costs the nurse beside the costs of her row: her wishes less what she earns."""

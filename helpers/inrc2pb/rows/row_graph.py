@@ -5,14 +5,17 @@ are open, and what more assignments and weekends would cost. Nodes with the same
 """
 
 from operator import add, itemgetter
-from typing import Callable, Dict, Iterable, List, NamedTuple, Sequence, Tuple
+from typing import Callable, Dict, Iterable, List, NamedTuple, Optional, Sequence, Tuple
 
 from .plan import POINT, WEEK_DAYS, Plan
+from ..week.facts import SHIFTS, WEEKENDS
 from ..week.records import Contract, NurseHistory
 from .row_arrays import Arrays
 from ..judging.rules import ASSIGNMENT_TOTAL, WEEKEND_TOTAL
 from ..judging.runs import NEVER, Runs, RunState
 
+# From here on a cost in points has NEVER in it, perhaps less what it saves.
+FORBIDDEN = NEVER // 2
 Gather = Callable[[Sequence[int]], Tuple[int, ...]]
 Check = Callable[[], None]
 
@@ -30,7 +33,11 @@ class Totals(NamedTuple):
         counts = plan.charging and (plan.ends or plan.early)
         totals = range(past.assignments, past.assignments + plan.days)
         works = [ASSIGNMENT_TOTAL * (counts * (total >= maximum) - (plan.charging and plan.ends and total < minimum)) for total in totals]
-        return Totals(tuple(works), tuple(WEEKEND_TOTAL * (counts and past.weekends + number >= most) for number in range(len(plan.weeks))))
+        weekends = [WEEKEND_TOTAL * (counts and past.weekends + number >= most) for number in range(len(plan.weeks))]
+        return Totals(
+            _kept(plan, works, plan.most_above(past.nurse, SHIFTS), maximum - past.assignments),
+            _kept(plan, weekends, plan.most_above(past.nurse, WEEKENDS), most - past.weekends),
+        )
 
     @staticmethod
     def base(plan: Plan, contract: Contract, past: NurseHistory) -> int:
@@ -40,6 +47,13 @@ class Totals(NamedTuple):
         (minimum, maximum), most = contract.assignments, contract.max_weekends
         excess = ASSIGNMENT_TOTAL * max(0, past.assignments - maximum) + WEEKEND_TOTAL * max(0, past.weekends - most)
         return ASSIGNMENT_TOTAL * max(0, minimum - past.assignments) + (0 if plan.early else excess)
+
+
+def _kept(plan: Plan, costs: Sequence[int], most: Optional[int], left: int) -> Tuple[int, ...]:
+    """What each further one costs, if after those that are left, and `most` more, none is allowed, or each costs more."""
+    if most is None:
+        return tuple(costs)
+    return tuple(cost if number < left + most else min(NEVER, cost + plan.keeping.limit) for number, cost in enumerate(costs))
 
 
 def _first_with(futures: Sequence[Tuple[int, ...]]) -> List[int]:
@@ -100,12 +114,13 @@ class Graph:
             heads: List[List[int]] = [[] for _ in runs.shifts]
             for state, work, rest in nodes:
                 for choice, (cost, reached) in enumerate(runs.steps(day, state)):
-                    if cost == NEVER:
+                    weekend = sunday and (choice > 0 or state.choice > 0)
+                    cost += (works[work] if choice else 0) + (weekends[rest] if weekend else 0)
+                    if cost >= FORBIDDEN:
                         costs[choice].append(NEVER)
                         heads[choice].append(0)
                         continue
-                    weekend = sunday and (choice > 0 or state.choice > 0)
-                    costs[choice].append(POINT * (cost + (works[work] if choice else 0) + (weekends[rest] if weekend else 0)))
+                    costs[choice].append(POINT * cost)
                     key = (reached, same_works[work + (choice > 0)], same_weekends[rest + weekend])
                     heads[choice].append(later.setdefault(key, len(later)))
             nodes = list(later)

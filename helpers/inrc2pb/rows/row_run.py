@@ -11,6 +11,7 @@ from .first_rows import matched_rows
 from ..solvers.answers import SolverFault
 from ..solvers.linear_solvers import LinearSolver
 from .plan import POINT, STEP, Plan
+from ..judging.runs import NEVER
 from .pricing import Crews, Prices, Pricing, NurseWeek
 from ..programs.processes import processors
 from ..week.records import Place
@@ -67,7 +68,7 @@ class RowRun:
             return
         while not search.complete:
             self._try(search.generate, ROWS_SHARE)
-            if search.complete and search.misses_minimums and self._no_roster():
+            if search.complete and search.misses_minimums and (self._keeps_limits or self._no_roster()):
                 return
             rows = self._try(search.dive, LAST_DIVE_SHARE if search.complete else DIVE_SHARE)
             if rows:
@@ -81,6 +82,11 @@ class RowRun:
         except TimeIsOver:
             self._clock.check()
             return None
+
+    @property
+    def _keeps_limits(self) -> bool:
+        """Whether limits may be the reason that minimums are missed."""
+        return bool(self._plan.limits) and self._plan.keeping.limit == NEVER
 
     def _no_roster(self) -> bool:
         """Whether prices prove that no roster keeps the minimums."""

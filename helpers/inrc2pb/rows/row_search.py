@@ -54,6 +54,8 @@ class RowSearch(RowGeneration):
         if value is None or (self.penalty is not None and value >= self.penalty):
             return False
         penalty = self._offer(rows, finder)
+        if penalty is not None and self.plan.adds:
+            penalty = value
         if penalty is None or (self.penalty is not None and penalty >= self.penalty):
             return False
         self.rows, self.penalty = rows, penalty
@@ -78,8 +80,9 @@ class RowSearch(RowGeneration):
 
     def begin(self, rows: List[NurseWeek], penalty: Optional[int]) -> None:
         """Begins with these rows, and the penalty of their roster if they are one. Makes them better without a solver, if that is easy."""
-        if penalty is not None:
-            self.rows, self.penalty = rows, penalty
+        value = self.value_of(rows) if penalty is not None and self.plan.asks else penalty
+        if value is not None:
+            self.rows, self.penalty = rows, value
         descent = Descent(self.pricing, rows)
         try:
             for _ in range(MOST_SWEEPS):

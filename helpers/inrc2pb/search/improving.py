@@ -3,10 +3,13 @@
 import os
 import shutil
 import tempfile
+from dataclasses import replace
 from pathlib import Path
-from typing import List, Optional, Sequence
+from typing import Iterator, List, Optional, Sequence
 
 from ..judging.absences import in_words, way_out
+from ..judging.given import read_given, with_given
+from ..judging.limits import limits_in_words, limits_way_out
 from .best_roster import BestRoster
 from .bounds import CASES, PROVER
 from ..programs.clock import Clock
@@ -27,8 +30,8 @@ SECONDS = 120.0
 class SearchResult:
     """The result of a search: the report of the best roster, and the lower bound or None, with what proved or computed it.
 
-    `proved` says whether no roster costs less, `breaks` whether this one breaks an absence, `stopped` whether the user stopped the search;
-    `fault` is the fault that ended it.
+    `proved` says whether no roster costs less, `breaks` whether this one breaks an absence and `exceeds` whether a limit, `stopped`
+    whether the user stopped the search; `fault` is the fault that ended it.
     """
 
     def __init__(
@@ -37,6 +40,7 @@ class SearchResult:
     ) -> None:
         self.report = report
         self.breaks = bool(best.breaks())
+        self.exceeds = bool(best.exceeds())
         self.bound = search.bound.points if search.bound else None
         self.bound_by = search.bound.by if search.bound else ""
         # The file that has cases in place of prices, if any.
@@ -56,12 +60,17 @@ class SearchResult:
         line = f"lower bound {self.bound} ({self.bound_by})"
         if self.proved and self.breaks:
             return [line, "no roster costs less, but this one breaks an absence"]
+        if self.proved and self.exceeds:
+            return [line, "no roster costs less, but this one exceeds a limit"]
         reached = self.bound_by != self.claimed_by and self.bound >= self.report.penalty
         if self.proved and self.claimed_by and not reached:
             only = f"; without {self.claimed_by} only the lower bound is known" if self.bound < self.report.penalty else ""
             return [line, f"no roster costs less, says {self.claimed_by}{only}"]
         if self.proved:
             return [line, "no roster costs less" + (", proved" if self.bound_by == PROVER else "")]
+        if self.claimed_by:
+            only = f"; without {self.claimed_by} only the lower bound is known"
+            return [line, f"no roster that keeps all absences and limits costs less, says {self.claimed_by}{only}"]
         gap = self.report.penalty - self.bound
         return [f"{line}: the gap is {gap}, {gap_share(self.report.penalty, self.bound)}"]
 
@@ -90,11 +99,11 @@ def search(
 ) -> SearchResult:
     """As `improve`, with its progress printed. A fault is raised only if there is no roster; a signal is no fault."""
     clock = Clock(seconds)
-    inputs = (files.scenario, files.history, files.week, files.fix)
+    inputs = (files.scenario, files.history, files.week, files.fix, files.given)
     check_no_pipes((*inputs, start))
     solution = Path(solution).absolute()
     own = find_solver(solver) if solver else None
-    week = read_files(files.scenario, files.history, files.week)
+    week = read_week_given(files)
     held = held_rows(files.fix, week, progress) if files.fix else ()
     for target, what in ((solution, "the roster"), (prices, "the prices")):
         if target:
@@ -121,10 +130,29 @@ def search(
             progress.finish()
             shutil.rmtree(folder, ignore_errors=True)
         outcome = _result(best, running, bool(signals.caught), fault, seconds, prices)
-        if best.breaks():
-            progress.warn(f"no roster was found that keeps every absence: {in_words(best.breaks())}")
-            progress.warn(way_out(week.scenario, held, best.breaks()))
+        for line in _not_kept(week, held, best):
+            progress.warn(line)
         return outcome
+
+
+def read_week_given(files: WeekFiles) -> Week:
+    """Reads the files of a week, with the facts that are given."""
+    week = read_files(files.scenario, files.history, files.week)
+    if files.given is None:
+        return week
+    claims = read_given(files.given, week.scenario)
+    return replace(week, data=with_given(week.scenario, week.data, claims, week.history.week))
+
+
+def _not_kept(week: Week, held: Sequence[Cell], best: BestRoster) -> Iterator[str]:
+    """Who works while away or exceeds a limit in the best roster, and what to do."""
+    broken, over = best.breaks(), best.exceeds()
+    if broken:
+        yield f"no roster was found that keeps every absence: {in_words(broken)}"
+        yield way_out(week.scenario, held, broken)
+    if over:
+        yield f"no roster was found that keeps every limit: {limits_in_words(over)}"
+        yield limits_way_out(week, over, best.cells)
 
 
 def _result(
@@ -132,7 +160,8 @@ def _result(
 ) -> SearchResult:
     """The result of a search that has ended. Without a roster it is a ProgramFault that says why."""
     bound = running.bound
-    best.proved = best.penalty is not None and (bool(running.claimed_by) or (bound is not None and best.penalty <= bound.points))
+    claimed = bool(running.claimed_by) and not running.claims_kept
+    best.proved = best.penalty is not None and (claimed or (bound is not None and best.penalty <= bound.points))
     try:
         report = best.report()
     except (ProgramFault, OSError) as unreported:

@@ -50,7 +50,7 @@ class PeriodBound:
         if search.bound is None:
             return
         if self._best is None or self._best.prices is not search.prices:
-            self._best = _Priced(search.pricing, search.prices, None if search.plan.away else search.lower_bound)
+            self._best = _Priced(search.pricing, search.prices, None if search.plan.asks else search.lower_bound)
         if search.complete or self._clock.left() < self._last_from:
             self._begin()
 
@@ -110,7 +110,7 @@ class PeriodBound:
         if self._best is None or (self._best.points is None and self._clock.stopped):
             return None
         points = self._best.points
-        return Bound(plain_bound(self._best.pricing.without_absences(), self._best.prices) if points is None else points, PLAIN)
+        return Bound(plain_bound(self._best.pricing.free(), self._best.prices) if points is None else points, PLAIN)
 
     def _by_week(self, priced: _Priced) -> List[PricedWeek]:
         """The options and the text of the prices of each week."""

@@ -2,7 +2,7 @@
 
 import tempfile
 from pathlib import Path
-from typing import Callable, List, Optional, Sequence
+from typing import Callable, List, Optional, Sequence, Tuple
 
 from .bounds import PERIOD_PROVER, Bound
 from ..programs.clock import Clock
@@ -11,7 +11,8 @@ from ..week.records import Cell
 from ..solvers.linear_solvers import INSTALL, LinearSolver, LinearSolvers, installed
 from ..judging.next_history import next_history
 from .period_bound import PeriodBound
-from ..rows.plan import WEEK_DAYS, Plan
+from ..judging.runs import NEVER
+from ..rows.plan import ABSENCES_KEPT, STRICT, WEEK_DAYS, Plan
 from .planned_weeks import PlannedWeeks
 from ..rows.pricing import NurseWeek
 from ..programs.processes import Processes
@@ -50,6 +51,8 @@ class PeriodSearch:
         self.penalty: Optional[int] = None
         self.bound: Optional[Bound] = None
         self._cells: Sequence[Cell] = ()
+        # How much of the absences and limits the best plan does not keep, and its penalty: a smaller rank is better.
+        self._rank: Optional[Tuple[int, int, int]] = None
 
     def interrupt(self) -> None:
         """Ends the search now: the best plan was kept."""
@@ -60,7 +63,7 @@ class PeriodSearch:
     def run(self) -> None:
         """Searches until the time is over or the best plan is found. Without a plan it is a ProgramFault that says why.
 
-        Plans keep all absences, unless none can.
+        Plans keep all absences and limits, unless none can.
         """
         with tempfile.TemporaryDirectory(prefix="inrc2pb-period-") as folder:
             try:
@@ -88,8 +91,10 @@ class PeriodSearch:
         solver = LinearSolvers(names, self._processes, folder, self._progress.warn, resident=True) if names else None
         try:
             run = self._over_rows(plan, solver, folder / "trial")
-            if plan.away and self.penalty is None:
-                run = self._over_rows(plan.without_absences(), solver, folder / "trial")
+            for less_strict in plan.less_strict():
+                broken, above, _ = self._rank or (1, 1, 0)
+                if broken or (above and less_strict.keeping.absence == NEVER):
+                    run = self._over_rows(less_strict, solver, folder / "trial")
         finally:
             if solver:
                 solver.close()
@@ -104,20 +109,22 @@ class PeriodSearch:
             penalty = self._checked(cells, trial)
             if penalty is None:
                 return None
-            self._keep(cells)
-            self._cells = cells
-            self.penalty = run.search.value_of(rows) if self._weeks.later() and run.search else penalty
-            given = "week after week" if self._start is None else "the earlier plan"
-            self._progress.improved(penalty, given if finder == GIVEN else finder)
+            value = run.search.value_of(rows) if self._weeks.later() and run.search and not plan.adds else None
+            rank = (*self._weeks.not_kept(cells), penalty if value is None else value)
+            if self._rank is None or rank < self._rank or value is not None:
+                self._keep(cells)
+                self._cells, self._rank, self.penalty = cells, rank, rank[2]
+                given = "week after week" if self._start is None else "the earlier plan"
+                self._progress.improved(penalty, given if finder == GIVEN else finder)
             # Before the search, the cost of the weeks that are not known is not known either.
-            return self.penalty if run.search or not self._weeks.later() else None
+            return rank[2] if run.search or not self._weeks.later() else None
 
         def heard() -> None:
             if run.search is None or run.search.lower_bound is None or self._weeks.later():
                 return
             self._proof.heard(run.search)
-            # With absences it is a bound of the plans that keep them.
-            if not plan.away:
+            # With absences and limits it is a bound of the plans that keep them.
+            if not plan.asks:
                 self._progress.bound_rose(run.search.lower_bound)
 
         run = RowRun(plan, solver, self._clock, offer, heard, self._first(plan, solver))
@@ -142,7 +149,7 @@ class PeriodSearch:
                 found.append(better)
                 return run.search.value_of(better) if run.search else None
 
-            week = Plan.of(plan.scenario, history, [data], True, held, keeps=bool(plan.away))
+            week = Plan.of(plan.scenario, history, [data], True, held, ABSENCES_KEPT if plan.keeping == STRICT else plan.keeping)
             run = RowRun(week, solver, self._clock.part(seconds), offer, lambda: None)
             run.run()
             if not found:
@@ -170,9 +177,9 @@ class PeriodSearch:
             return "no rosters keep the hard rules of these weeks together, by plain Python: plan the weeks one by one with inrc2pb-improve"
         return "no rosters were found in this time: give more"
 
-    def broken_absences(self) -> List[str]:
-        """The absences that the best plan breaks, and what to do."""
-        return self._weeks.broken_absences(self._cells)
+    def not_kept(self) -> List[str]:
+        """The absences that the best plan breaks, the limits that it exceeds, and what to do."""
+        return list(self._weeks.warnings(self._cells))
 
     def line(self) -> str:
         """The line about the bound of all weeks together."""

@@ -1,10 +1,8 @@
 """A search for the best roster of a week: over the rows of its nurses, or by a user's own solver."""
 
-import collections
 from pathlib import Path
 from typing import List, Optional, Sequence
 
-from ..judging.absences import absences_of
 from .best_roster import BestRoster
 from .bounds import Bound, Bounds
 from ..rows.cases import plain_cases_bound
@@ -19,7 +17,7 @@ from ..programs.processes import Processes
 from ..programs.program import BROKEN_RULE, FAULT, NO_ROSTER, WeekFiles, decode
 from ..programs.progress import Progress
 from ..rows.row_run import RowRun
-from ..judging.rules import REQUEST
+from ..judging.runs import NEVER
 from ..rows.skills import rows_of, staffed
 from ..solvers.solvers import Solver
 
@@ -33,8 +31,10 @@ class WeekSearch:
         self._processes = Processes()
         self._asks = False
         self.bound: Optional[Bound] = None
-        # What claims without a proof of inrc2pb-bound that no roster costs less.
+        # What claims without a proof of inrc2pb-bound that no roster costs less, and whether only of those that keep all absences and
+        # limits.
         self.claimed_by = ""
+        self.claims_kept = False
 
     def interrupt(self) -> None:
         """Ends the search as the user asks: now, or as soon as a solver of the user has printed what it has."""
@@ -55,7 +55,7 @@ class WeekSearch:
         """Searches over the rows of the nurses. `prices` is the file for the prices of the bound. Without a roster it is a ProgramFault
         if none exists.
 
-        Rows keep all absences, unless no roster can.
+        Rows keep all absences and limits, unless no roster can.
         """
         plan = Plan.of(self._week.scenario, self._week.history, [self._week.data], self._files.early, self._held)
         bounds = Bounds(self._files, plan.scenario, list(plan.demand), prices, self._progress.warn)
@@ -66,20 +66,17 @@ class WeekSearch:
         rows = rows_of(plan, start) if start else None
         try:
             run = self._run_rows(plan, solver, bounds, rows)
-            if plan.away and (self._best.penalty is None or self._best.breaks()):
-                run = self._run_rows(plan.without_absences(), solver, bounds, rows)
-            elif run.claimed and solver and (not plan.away or self._costs_of_absences() >= (self._best.penalty or 0)):
-                self.claimed_by = solver.name
+            if not plan.asks or self._best.keeps_all:
+                self.claimed_by = solver.name if run.claimed and solver else ""
+                self.claims_kept = plan.asks
+            for less_strict in plan.less_strict():
+                keeps = not self._best.breaks() if less_strict.keeping.absence < NEVER else self._best.keeps_all
+                if self._best.penalty is None or not keeps:
+                    run = self._run_rows(less_strict, solver, bounds, rows)
         finally:
             if solver:
                 solver.close()
         self._judge(run, bounds)
-
-    def _costs_of_absences(self) -> int:
-        """What a roster costs at least that breaks an absence."""
-        away = absences_of(self._week.data)
-        number = collections.Counter((one.nurse, one.day, one.shift) for one in self._week.data.requests)
-        return REQUEST * min(number[one.nurse, one.day, one.shift] for one in away)
 
     def _run_rows(self, plan: Plan, solver: Optional[LinearSolvers], bounds: Bounds, start: Optional[List[NurseWeek]]) -> RowRun:
         """One search over the rows of the plan."""
@@ -87,8 +84,7 @@ class WeekSearch:
         def offer(rows: List[NurseWeek], finder: str) -> Optional[int]:
             self._see(run, bounds)
             cells = staffed(plan, run.crews, rows).cells
-            penalty = self._best.offer(cells, finder)
-            return None if any(plan.is_away(*cell[:3]) for cell in cells) else penalty
+            return self._best.offer(cells, finder)
 
         def heard() -> None:
             if self._progress.is_due():
@@ -102,14 +98,14 @@ class WeekSearch:
         return run
 
     def _see(self, run: RowRun, bounds: Bounds) -> None:
-        """Takes the bound of the best prices, and of the cases. It holds for rosters that break absences, too."""
+        """Takes the bound of the best prices, and of the cases. It holds for rosters that break absences or exceed limits, too."""
         search = run.search
         if search and search.lower_bound is not None:
             lower, prices, pricing = search.lower_bound, search.prices, search.pricing
-            bound = bounds.of(prices, lambda: plain_bound(pricing.without_absences(), prices) if pricing.plan.away else lower)
+            bound = bounds.of(prices, lambda: plain_bound(pricing.free(), prices) if pricing.plan.asks else lower)
             cases = run.cases
             if cases:
-                bound = bounds.of_cases(pricing.plan.nurses, cases, lambda: plain_cases_bound(pricing.without_absences(), cases or ()))
+                bound = bounds.of_cases(pricing.plan.nurses, cases, lambda: plain_cases_bound(pricing.free(), cases or ()))
             if self.bound is None or bound.points > self.bound.points:
                 self.bound = bound
                 self._progress.bound_rose(bound.points)

@@ -27,8 +27,8 @@ EXAMPLE: Dict[str, Rows] = {
     ],
     "contracts": [
         ("contract", "shifts min", "shifts max", "work min", "work max", "off min", "off max", "weekends", "complete weekends"),
-        ("Full", 17, 21, 3, 5, 2, 3, 2, "yes"),
-        ("Half", 8, 11, 2, 3, 2, 5, 2, "no"),
+        ("Full", 17, 22, 3, 5, 2, 3, 2, "yes"),
+        ("Half", 8, 12, 2, 3, 2, 5, 2, "no"),
     ],
     "nurses": [
         (

@@ -122,7 +122,7 @@ class RosterTable:
         change = self.changed.get((week, nurse, day))
         parts = [self._shift(cell) for cell in cells]
         if not cells and self.view.is_away(week, nurse, day):
-            parts.append(element("span", "away", class_="away"))
+            parts.append(element("span", self.view.reason(week, nurse, day), class_="away"))
         elif not cells and change:
             parts.append(element("span", "off", class_="away"))
         if change:

@@ -95,7 +95,7 @@ class TextTable:
         """The text of one nurse and day."""
         cells = self.view.cells(week, nurse, day)
         if not cells and self.view.is_away(week, nurse, day):
-            return "away" if self.single else AWAY
+            return self.view.reason(week, nurse, day) if self.single else AWAY
         skills = [f" {self.skills[cell.skill]}" if self.single else "" for cell in cells]
         return "+".join(f"{self.shifts[cell.shift]}{skill}{cell.marks}" for cell, skill in zip(cells, skills)) or "."
 

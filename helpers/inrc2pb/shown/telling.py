@@ -4,10 +4,12 @@ from typing import Collection, Dict, Iterable, Iterator, List, Optional, Tuple
 
 from ..judging.absences import absences_of, joined, wishes_of
 from ..judging.demand import asked_shifts, supplied_shifts
+from ..week.facts import SHIFTS, WEEKENDS, WORK_DAYS
 from ..week.hints import plural
 from ..week.records import DAYS, Cell, Contract, History, Limits, Place, Request, Requirement, Scenario, WeekData
 
 _WEEK = len(DAYS)
+_LIMITS = {SHIFTS: "shifts", WORK_DAYS: "days of work in a row", WEEKENDS: "weekends"}
 
 
 def scenario_sentences(scenario: Scenario) -> Iterator[str]:
@@ -87,7 +89,18 @@ def week_sentences(scenario: Scenario, history: Optional[History], data: WeekDat
     for nurse in scenario.nurses:
         for named in (None, *scenario.shift_types):
             yield from _away(nurse, named, {one.day for one in away if (one.nurse, one.shift) == (nurse, named)})
+    yield from _limits_that_hold(scenario, data)
     yield from _wishes(wishes_of(data))
+
+
+def _limits_that_hold(scenario: Scenario, data: WeekData) -> Iterator[str]:
+    """The maxima that are never exceeded, by contract or, if not all nurses of a contract have one, by nurse."""
+    for kind, what in _LIMITS.items():
+        held = {limit.nurse for limit in data.limits if limit.kind == kind}
+        for contract in scenario.contracts:
+            owners = [nurse.name for nurse in scenario.nurses.values() if nurse.contract == contract]
+            named = [contract] if held.issuperset(owners) else [nurse for nurse in owners if nurse in held]
+            yield from (f"{name}: the most {what} hold." for name in named if owners)
 
 
 def _numbers_by_day(numbers: List[Requirement]) -> str:

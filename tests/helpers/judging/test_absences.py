@@ -1,76 +1,35 @@
 """Tests of absences: how they are written and read, `inrc2pb-wish`, and that a search keeps them."""
 
-import itertools
 import unittest
 from dataclasses import replace
 
 from ward import HAS_CBC, HAS_CLASP, HISTORY, ROSTER, SCENARIO, WEEK, WEEK_FILES, WEEK_OPTIONS, HelperTest, files, run, writing
 
-from inrc2pb.judging import rules
-from inrc2pb.judging.absences import MARK, ROWS, Absence, absences_of, in_words, way_out, wishes_of, with_absences, working_while_away
+from inrc2pb.judging.absences import MARK, MOST_REQUESTS, ROWS, absences_of, in_words, way_out, wishes_of, with_requests, working_while_away
 from inrc2pb.search.best_roster import BestRoster
 from inrc2pb.programs.program import penalty_of
-from inrc2pb.week.records import Cell, Contract, History, Limits, Nurse, NurseHistory, Place, Request, Requirement, Scenario, ShiftType, Week, WeekData
-from inrc2pb.judging.savings import largest_saving
+from inrc2pb.week.records import Absence, Cell, Request
 
 WARD, DATA = files.read_scenario(SCENARIO), files.read_week(WEEK, files.read_scenario(SCENARIO))
 AWAY = Absence("Chen", 4, None)
 
 
-def small_ward(types, contract, weeks=4):
-    """A ward of one nurse."""
-    shifts = {name: ShiftType(name, Limits(*limits), after) for name, limits, after in types}
-    return Scenario("small", weeks, ("Nurse",), shifts, {"Full": contract}, {"Ann": Nurse("Ann", "Full", ("Nurse",))})
-
-
-def differences(scenario, pasts):
-    """For each history the greatest difference of the costs of two weeks that keep the hard rules, tried one by one."""
-    data = WeekData("small", {}, ())
-    for past in pasts:
-        week = Week(scenario, History(0, "small", {"Ann": past}), data)
-        costs = []
-        for shifts in itertools.product((None, *scenario.shift_types), repeat=7):
-            rows = [Cell("Ann", day, shift, "Nurse") for day, shift in enumerate(shifts) if shift]
-            if not rules.first_broken(week, rows):
-                costs.append(sum(rules.costs(week, rows).values()))
-        yield max(costs) - min(costs)
-
-
-class Savings(unittest.TestCase):
-    def test_the_widest_difference_of_one_nurse_is_the_greatest_of_all_weeks_and_histories(self):
-        for limits, work, off, whole in (((2, 3), (2, 4), (2, 3), True), ((1, 9), (3, 2), (0, 1), False), ((3, 4), (1, 9), (2, 9), True)):
-            scenario = small_ward([("Day", limits, ())], Contract("Full", Limits(0, 9), Limits(*work), Limits(*off), 9, whole))
-            pasts = [NurseHistory("Ann", 0, 0, None, 0, 0, length) for length in range(11)]
-            pasts += [NurseHistory("Ann", 0, 0, "Day", on, days, 0) for on in range(1, 11) for days in range(on, 11)]
-            self.assertEqual(largest_saving(scenario, WeekData("small", {}, ())), max(differences(scenario, pasts)) + 7 * 20 + 30)
-
-    def test_with_two_shift_types_and_a_forbidden_succession(self):
-        scenario = small_ward([("Day", (2, 3), ()), ("Night", (2, 2), ("Day",))], Contract("Full", Limits(0, 9), Limits(2, 4), Limits(2, 3), 9, True))
-        pasts = [NurseHistory("Ann", 0, 0, "Night", 1, 1, 0), NurseHistory("Ann", 0, 0, None, 0, 0, 3)]
-        self.assertGreaterEqual(largest_saving(scenario, WeekData("small", {}, ())) - 170, max(differences(scenario, pasts)))
-
-    def test_places_and_requests_count(self):
-        scenario = small_ward([("Day", (1, 9), ())], Contract("Full", Limits(0, 9), Limits(1, 9), Limits(1, 9), 9, False))
-        place = Place(0, "Day", "Nurse")
-        most = largest_saving(scenario, WeekData("small", {}, ()))
-        data = WeekData("small", {place: Requirement(1, 3)}, (Request("Ann", None, 0), Request("Ann", "Day", 1)))
-        self.assertEqual(largest_saving(scenario, data), 2 * 30 + 2 * 10 + most)
-
-
 class Writing(unittest.TestCase):
     def test_what_is_written_is_read(self):
         added = [AWAY, Absence("Ewa", 0, "Night")]
-        written = with_absences(WARD, DATA, added)
+        written = with_requests(WARD, DATA, added)
         self.assertEqual(absences_of(written.data), set(added))
         self.assertEqual(wishes_of(written.data), DATA.requests)
-        self.assertEqual(10 * written.requests, 10 * (largest_saving(WARD, DATA) // 10 + 1))
-        self.assertEqual(written.requests, written.certain)
+        self.assertEqual((written.requests, len(written.data.requests)), (MOST_REQUESTS, len(DATA.requests) + 2 * MOST_REQUESTS))
 
     def test_all_absences_have_the_same_number(self):
-        once = with_absences(WARD, DATA, [AWAY], known_cost=0).data
-        self.assertEqual(sum(request.nurse == "Chen" and request.day == 4 for request in once.requests), MARK)
-        twice = with_absences(WARD, once, [Absence("Ewa", 0, None)])
+        once = replace(DATA, requests=(*DATA.requests, *[Request("Chen", None, 4)] * MARK))
+        twice = with_requests(WARD, once, [Absence("Ewa", 0, None)])
         self.assertEqual(len(twice.data.requests), len(DATA.requests) + 2 * twice.requests)
+
+    def test_absences_of_facts_need_no_requests(self):
+        data = replace(DATA, absences=frozenset({AWAY}))
+        self.assertEqual((absences_of(data), wishes_of(data)), ({AWAY}, DATA.requests))
 
     def test_thirty_equal_requests_are_an_absence_and_fewer_are_a_wish(self):
         for number, found in ((MARK - 1, set()), (MARK, {AWAY})):
@@ -79,9 +38,7 @@ class Writing(unittest.TestCase):
 
     def test_more_than_the_rows_allow(self):
         every = [Absence(nurse, day, None) for nurse in WARD.nurses for day in range(7)]
-        written = with_absences(WARD, DATA, every)
-        self.assertEqual(written.requests, ROWS // len(every))
-        self.assertLess(written.requests, written.certain)
+        self.assertEqual(with_requests(WARD, DATA, every).requests, ROWS // len(every))
 
     def test_rows_that_break_absences(self):
         rows = [Cell("Chen", 4, "Late", "Nurse"), Cell("Ewa", 0, "Day", "Nurse"), Cell("Chen", 3, "Late", "Nurse")]
@@ -126,15 +83,9 @@ class Wish(HelperTest):
         for name, day in (("week-0.txt", 6), ("week-1.txt", 0)):
             self.assertEqual(absences_of(files.read_week(folder / name, WARD)), {Absence("Chen", day, None)})
 
-    def test_the_summary_says_what_is_certain(self):
-        for nurses, certain in ((("Chen",), True), (WARD.nurses, False)):
-            status, printed, said = self.wish(*(word for nurse in nurses for word in ("--away", nurse)))
-            self.assertEqual((status, said, printed.endswith(" points, more than that can save\n")), (0, "", certain))
-            self.assertRegex(printed, r": [0-9]+ absences with [0-9]+ requests each: to break one costs [0-9]+0 points")
-
-    def test_with_the_history_fewer_requests_are_certain(self):
-        status, printed, _ = self.wish("--his", HISTORY, "--away", "Chen=Mon")
-        self.assertEqual((status, f"with {MARK} requests each" in printed), (0, True), printed)
+    def test_the_summary_says_what_a_broken_absence_costs(self):
+        status, printed, said = self.wish("--away", "Chen=Mon,Tue")
+        self.assertEqual((status, printed, said), (0, f"{self.folder / 'wished.txt'}: 2 absences with 200 requests each: to break one costs 2000 points\n", ""))
 
     def test_leave_counts_as_work(self):
         history = self.folder / "history.txt"
@@ -207,7 +158,7 @@ class Kept(HelperTest):
     def test_a_search_prefers_a_roster_that_keeps_absences(self):
         away = Absence("Chen", 6, None)
         week = files.read_files(SCENARIO, HISTORY, WEEK)
-        week = replace(week, data=with_absences(WARD, DATA, [away], known_cost=0).data)
+        week = replace(week, data=replace(DATA, absences=frozenset({away})))
         costly, cheap = (files.read_solution(path).cells for path in (self.swapped("Chen", "Grace"), ROSTER))
         self.assertFalse(working_while_away({away}, costly))
         self.assertLess(penalty_of(WEEK_FILES, ROSTER), penalty_of(WEEK_FILES, self.folder / "start.txt"))
@@ -221,7 +172,7 @@ class Kept(HelperTest):
     def test_rows_keep_absences_unless_no_roster_can(self):
         target = self.folder / "roster.txt"
         for away, kept in (({AWAY, Absence("Grace", 6, "Day")}, True), ({Absence(nurse, 4, None) for nurse in ("Amara", "Bruno", "Ewa")}, False)):
-            writing.write_text(self.folder / "away.txt", files.week_text(with_absences(WARD, DATA, away).data))
+            writing.write_text(self.folder / "away.txt", files.week_text(with_requests(WARD, DATA, away).data))
             status, report, said = run("improve", *WEEK_OPTIONS[:4], "--week", self.folder / "away.txt", "--sol", target)
             self.assertEqual(status, 0, said)
             self.assertEqual(working_while_away(away, files.read_solution(target).cells) == [], kept)

@@ -7,9 +7,8 @@ from dataclasses import replace
 
 from ward import HAS_CBC, HAS_CLASP, HISTORY, ROOT, SCENARIO, WEEK, WEEK_OPTIONS, HelperTest, files, run
 
-from inrc2pb.judging.absences import Absence, with_absences
 from inrc2pb.judging.demand import asked_shifts, demand_warnings, supplied_shifts
-from inrc2pb.week.records import Contract, Limits, Nurse, Place, Requirement, Scenario, ShiftType, WeekData
+from inrc2pb.week.records import Absence, Contract, Limits, Nurse, Place, Requirement, Scenario, ShiftType, WeekData
 from inrc2pb.shown.telling import scenario_sentences, week_sentences
 
 WARD, DATA = files.read_scenario(SCENARIO), files.read_week(WEEK, files.read_scenario(SCENARIO))
@@ -41,7 +40,7 @@ class Demand(unittest.TestCase):
         self.assertEqual(list(demand_warnings(WARD, PAST, needing(Day_Charge=2, Day_Nurse=2, Late_Nurse=2, Night_Nurse=2))), wanted)
 
     def test_nurses_who_are_away_are_not_counted(self):
-        away = with_absences(WARD, DATA, [Absence("Amara", 1, None), Absence("Bruno", 1, None), Absence("Ewa", 1, "Day")]).data
+        away = replace(DATA, absences=frozenset({Absence("Amara", 1, None), Absence("Bruno", 1, None), Absence("Ewa", 1, "Day")}))
         wanted = ["Tue: 1 with Charge needed at once (Day 1), and 0 of the 3 who have it could do it: no roster can meet it and keep every absence"]
         self.assertEqual(list(demand_warnings(WARD, PAST, away)), wanted)
 
@@ -75,7 +74,7 @@ class Telling(HelperTest):
             self.assertIn(line, found)
 
     def test_a_week_in_sentences(self):
-        data = with_absences(WARD, DATA, [*(Absence("Chen", day, None) for day in (2, 3, 4)), *(Absence("Ewa", day, "Night") for day in range(7))]).data
+        data = replace(DATA, absences=frozenset({*(Absence("Chen", day, None) for day in (2, 3, 4)), *(Absence("Ewa", day, "Night") for day in range(7))}))
         found = list(week_sentences(WARD, PAST, data))
         for line in (
             "Day Nurse: 1, better 2 on Mon to Fri; 0, better 1 on Sat and Sun.", "Late Nurse: 1 on all days.",

@@ -17,11 +17,11 @@ WARNINGS = [
     (HISTORY, "Amara 0 0 Day 2 2 0", "Amara 0 0 Day 2 2 1", "--his", "Amara worked on Sunday (Day), but has 1 day off in a row"),
     (HISTORY, "Amara 0 0 Day 2 2 0", "Amara 0 0 Day 0 2 0", "--his", "Amara worked on Sunday (Day), but has 0 days in a row on this shift type"),
     (HISTORY, "Amara 0 0 Day 2 2 0", "Amara 0 0 Day 3 2 0", "--his", "Amara has 3 days in a row on Day, and only 2 with work"),
-    (HISTORY, "Bruno 0 0", "Bruno 3 0", "--his", "Bruno has 3 assignments, and 0 weeks of the period are over (leave with credit?)"),
+    (HISTORY, "Bruno 0 0", "Bruno 18 0", "--his", "Bruno has 18 assignments, and 0 weeks of the period are over (leave with credit?)"),
     (HISTORY, "Bruno 0 0", "Bruno 0 1", "--his", "Bruno has 1 weekend, and 0 weeks of the period are over"),
     (HISTORY, "Bruno 0 0 None 0 0 2", "Bruno 0 0 None 0 0 0", "--his", None),
     (WARD / "history-1.txt", "Amara 5 1 Day 2 2 0", "Amara 5 1 Day 2 6 0", "--his", "Amara has 6 working days in a row, and 5 assignments"),
-    (WARD / "history-1.txt", "Amara 5", "Amara 8", "--his", "Amara has 8 assignments, and 1 week of the period is over (leave with credit?)"),
+    (WARD / "history-1.txt", "Amara 5", "Amara 25", "--his", "Amara has 25 assignments, and 1 week of the period is over (leave with credit?)"),
     (WEEK, "Day Charge (1,1) (1,1)", "Day Charge (5,5) (5,5)", "--week",
      "Day Charge on Mon, Tue: at least 5 are needed, and 3 nurses have the skill: no roster can meet it\n"
      "Mon and Tue: 5 with Charge needed at once (Day 5), and 3 have it: no roster can meet it\n"

@@ -10,7 +10,7 @@ from ward import ROOT, files, records
 from inrc2pb.judging.absences import MARK
 from inrc2pb.programs.clock import Clock, TimeIsOver
 from inrc2pb.judging.next_history import next_history
-from inrc2pb.rows.plan import Plan
+from inrc2pb.rows.plan import FREE, STRICT, Plan
 from inrc2pb.rows.pricing import Crews, Pricing, plain_bound
 from inrc2pb.judging.rules import broken, costs, first_broken, nurse_costs
 from inrc2pb.rows.skills import staffed
@@ -117,12 +117,12 @@ class Rows(unittest.TestCase):
             plan, chance = random_plan(seed)
             away = records.Request(chance.choice(plan.nurses), None, chance.randrange(7))
             data = [replace(plan.weeks[0], requests=(away,) * MARK)]
-            keeping, free = (Plan.of(plan.scenario, plan.history, data, plan.early, keeps=keeps) for keeps in (True, False))
+            keeping, free = (Plan.of(plan.scenario, plan.history, data, plan.early, keeping=keeping) for keeping in (STRICT, FREE))
             self.assertTrue(keeping.is_away(away.nurse, away.day, next(iter(plan.scenario.shift_types))))
             pricing = pricing_of(keeping)
             prices = [chance.choice([0, 30, 900]) * POINT for _ in pricing.crews.places]
-            self.assertEqual(plain_bound(pricing.without_absences(), prices), plain_bound(pricing_of(free), prices))
-            self.assertLessEqual(plain_bound(pricing.without_absences(), prices), plain_bound(pricing, prices))
+            self.assertEqual(plain_bound(pricing.free(), prices), plain_bound(pricing_of(free), prices))
+            self.assertLessEqual(plain_bound(pricing.free(), prices), plain_bound(pricing, prices))
 
     def test_skills_fill_as_many_places_as_they_can(self):
         for seed in range(200):

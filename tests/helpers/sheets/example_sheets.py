@@ -50,10 +50,15 @@ _ROWS = {
 SHEETS = {name: [[str(cell) for cell in row] for row in rows] for name, rows in _ROWS.items()}
 
 
+def made(sheets, reasons=(), name="ward", weeks=2, requests=False):
+    """The files of these sheets, with warnings."""
+    book = Book(Path("ward.ods"), sheets)
+    return ward.ward_files(book, name, read_days(book), weeks, reasons, requests)
+
+
 def texts(sheets, reasons=(), name="ward", weeks=2):
     """The files of these sheets, without warnings."""
-    book = Book(Path("ward.ods"), sheets)
-    return ward.ward_files(book, name, read_days(book), weeks, reasons).texts
+    return made(sheets, reasons, name, weeks).texts
 
 
 def changed(sheet, row, column, text):

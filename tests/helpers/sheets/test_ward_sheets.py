@@ -7,25 +7,28 @@ import os
 import unittest
 from pathlib import Path
 
-from example_sheets import DATA, SHEETS, changed, texts
+from example_sheets import DATA, SHEETS, changed, made, texts
 from ward import HelperTest, files, run
 
 from inrc2pb.commands import ward
-from inrc2pb.judging.absences import Absence, absences_of
+from inrc2pb.judging.absences import absences_of
+from inrc2pb.judging.given import with_given
+from inrc2pb.week.facts import Charged, Claim, read_facts
 from inrc2pb.week.faults import FileFault, FileFaults
 from inrc2pb.sheets.plan_sheets import read_days
-from inrc2pb.week.records import Place, Requirement
+from inrc2pb.week.records import Absence, Place, Requirement
 from inrc2pb.sheets.sheet_files import Book
 
-NAMES = ["ward.txt", "history-0.txt", "week-0.txt", "fix-0.txt", "week-1.txt", "fix-1.txt"]
+NAMES = ["ward.txt", "history-0.txt", "facts.txt", "reasons.txt", "week-0.txt", "fix-0.txt", "week-1.txt", "fix-1.txt"]
 
 
 class Contents(unittest.TestCase):
     def read(self, sheets, reasons=()):
         found = texts(sheets, reasons)
         scenario = files.read_scenario("ward.txt", found["ward.txt"])
+        claims = read_facts("g", scenario, text=found["facts.txt"])
         return scenario, files.read_history("h", scenario, found["history-0.txt"]), [
-            files.read_week("w", scenario, found[f"week-{number}.txt"]) for number in (0, 1)
+            with_given(scenario, files.read_week("w", scenario, found[f"week-{number}.txt"]), claims, number) for number in (0, 1)
         ], [files.read_solution("f", scenario, found[f"fix-{number}.txt"]).cells for number in (0, 1)]
 
     def test_the_example(self):
@@ -94,12 +97,12 @@ class Contents(unittest.TestCase):
             ("needs", 2, 3, "3..2", "row 2, column D: at least 3 are needed, and 2 are best: write the smaller number first"),
             ("needs", 2, 2, "Char", "row 2, column C: 'Char' is no skill of the sheet nurses: did you mean Charge?"),
             ("needs", 4, 1, "Day", "row 4, column B: Day Nurse has a row already: delete one, or write its week"),
-            ("needs", 2, 0, "2", "row 2, column A: 2 is more than 1: write a smaller number"),
+            ("needs", 2, 0, "2", "row 2, column A: 2 is more than 1: weeks are counted from 0, so write 1 for the last one"),
             ("plan", 2, 0, "Amara", "row 2, column A: 'Amara' is no nurse of the sheet nurses: did you mean Amara Koch?"),
             ("plan", 3, 0, "Amara Koch", "row 3, column A: Amara Koch has a row already: put everything into one row"),
             ("plan", 2, 1, "Dya", "row 2, column B: 'Dya' is no shift type: did you mean Day?"),
             ("plan", 2, 1, "trainin", "row 2, column B: 'trainin' is no shift type: did you mean training?"),
-            ("plan", 2, 1, "Xyz", "row 2, column B: 'Xyz' is no shift type: write one of Day, Late, Night, wish, away, ill, leave, training, no Day"),
+            ("plan", 2, 1, "Xyz", "row 2, column B: 'Xyz' is no shift type: write one of Day, Late, Night, wish, away, ill, leave, unpaid, training, no Day"),
             ("plan", 2, 1, "Day", "row 2, column B: Amara Koch has more than one skill for it: write Day/Charge, for example"),
             ("plan", 4, 1, "Day/Charge", "row 4, column B: 'Charge' is no skill of Chen: write one of Nurse"),
             ("plan", 4, 1, "Day", "row 4, column B: Chen may not work Day on the day after Late: change one of the two"),
@@ -110,7 +113,7 @@ class Contents(unittest.TestCase):
             ("plan", 1, 1, "Sun 0", "row 1, column B: 'Sun 0' should be a Mon: the plan begins on a Monday, and has each day once"),
             ("plan", 1, 1, "2026-12-01", "row 1, column B: '2026-12-01' should be a Mon: the plan begins on a Monday, and has each day once"),
             ("plan", 1, 1, "2026-02-30", "row 1, column B: there is no day 2026-02-30: write a date such as 2026-11-30"),
-            ("plan", 1, 1, "30.11.", "row 1, column B: '30.11.' is no day of the week: write one of Mon,Tue,Wed,Thu,Fri,Sat,Sun, or begin the head with #"),
+            ("plan", 1, 1, "30.11.", "row 1, column B: '30.11.' is no day of the week: write one of Mon,Tue,Wed,Thu,Fri,Sat,Sun, or whole dates such as 2026-11-30, or begin the head with #"),
             ("plan", 1, 15, "Total", "row 1, column P: 'Total' is no day of the week: write one of Mon,Tue,Wed,Thu,Fri,Sat,Sun, or begin the head with #"),
             ("plan", 1, 2, "2026-12-01", "row 1, column C: '2026-12-01' has a date, unlike the first day: write dates for all days or for none"),
         ):
@@ -193,17 +196,83 @@ class Contents(unittest.TestCase):
 
     def test_more_absences_than_a_file_has_rows(self):
         sheets = copy.deepcopy(SHEETS)
-        for row in sheets["plan"][1:]:
-            row[1:8] = ["away"] * 7
-        self.assertIn("week-0.txt", texts(sheets))
-        for row in sheets["nurses"][1:]:
-            row[3] = "Day, Late, Night"
-        sheets["plan"][7][8] = ""
         for number in range(300):
             sheets["nurses"].append([f"n{number}", "Full", "Nurse", "Day"])
+        self.assertIn("week-0.txt", texts(sheets))
+        for row in sheets["nurses"][9:]:
+            row[3] = "Day, Late"
+        sheets["nurses"] += [[f"m{number}", "Full", "Nurse", "Day"] for number in range(150)]
         with self.assertRaises(FileFault) as caught:
             texts(sheets)
-        self.assertIn("sheet plan, week 0: 2324 absences with 30 requests each", caught.exception.message)
+        # 300 nurses with 28 absences, 150 with 14, Ewa with 14, Finn with 2, and 2 days of leave.
+        self.assertIn("they have 10518 days away, and a file 9999 facts at most", caught.exception.message)
+
+    def test_absences_as_requests(self):
+        found = made(SHEETS, requests=True).texts
+        scenario = files.read_scenario("ward.txt", found["ward.txt"])
+        # Ewa never works Night, and Finn is off on Wednesdays: 8 absences with 200 requests, beside 5 wishes.
+        data = files.read_week("w", scenario, found["week-0.txt"])
+        self.assertEqual((len(data.requests), len(absences_of(data))), (1605, 8))
+        self.assertEqual(len(files.read_week("w", scenario, texts(SHEETS)["week-0.txt"]).requests), 5)
+
+    def test_limits_that_hold(self):
+        def limits(sheets):
+            found = texts(sheets)
+            scenario = files.read_scenario("ward.txt", found["ward.txt"])
+            return scenario, {claim for claim in read_facts("g", scenario, text=found["facts.txt"]) if isinstance(claim.fact, Charged)}
+
+        sheets = changed("contracts", 3, 2, "6!")
+        scenario, found = limits(sheets)
+        self.assertEqual((scenario.contracts["Half"].assignments.maximum, found), (6, {Claim(Charged("SHIFTS", nurse, 0)) for nurse in ("Ewa", "Finn")}))
+        # A default for all contracts, and an empty cell.
+        sheets["contracts"][0] = [head.replace("weekends", "Weekends !", head == "weekends") for head in sheets["contracts"][0]]
+        sheets["contracts"][1][7] = ""
+        self.assertEqual(limits(sheets)[1] - found, {Claim(Charged("WEEKENDS", nurse, 0)) for nurse in ("Ewa", "Finn")})
+        # Finn has worked more shifts than his contract allows before the plan.
+        sheets["nurses"][6][5] = "9"
+        self.assertIn(Claim(Charged("SHIFTS", "Finn", 3)), limits(sheets)[1])
+        for row, column, text, said in (
+            (2, 2, "!", "row 2, column C: there is no number before the sign !: write one, such as 10!"),
+            (2, 1, "8!", "row 2, column B: '8!' is no whole number: the sign ! is for shifts max, work max and weekends"),
+            (1, 5, "off min!", "row 1, column F: the sign ! is for shifts max, work max, weekends: delete it here"),
+        ):
+            with self.assertRaises(FileFault) as caught:
+                texts(changed("contracts", row, column, text))
+            self.assertEqual(caught.exception.message, f"sheet contracts, {said}")
+
+    def test_reasons_of_absences(self):
+        self.assertEqual(texts(SHEETS)["reasons.txt"], "REASONS\nward\n\nROWS = 2\n2 Amara_Koch Mon leave\n2 Amara_Koch Tue leave\n")
+        self.assertIn("HOLDS CHOICE 2 Amara_Koch Mon None\n", texts(SHEETS)["facts.txt"])
+
+    def test_an_empty_cell_of_a_week_is_the_cell_of_all_weeks(self):
+        data = self.read(changed("needs", 6, 4, ""))[2][1]
+        # Week 1 has 0+1 on Monday, and nothing on Tuesday: all weeks have 1+1 there.
+        self.assertEqual([data.requirements[Place(day, "Day", "Nurse")] for day in (0, 1)], [Requirement(0, 1), Requirement(1, 2)])
+
+    def test_no_shift_without_a_blank(self):
+        for text in ("nonight", "no-Night", "NO NIGHT", "not night"):
+            requests = self.read(changed("plan", 8, 2, text))[2][0].requests
+            self.assertEqual([(one.shift, one.day) for one in requests if one.nurse == "Grace"], [("Night", 1)], text)
+
+    def test_what_the_ward_seems_to_mean(self):
+        night = copy.deepcopy(SHEETS)
+        night["shifts"][1:] = [["Day", "2", "5", "Late, Night"], ["Late", "2", "4", "Night"], ["Night", "2", "4", ""]]
+        missing = copy.deepcopy(SHEETS)
+        del missing["plan"][3]
+        for sheets, line in (
+            (changed("nurses", 7, 3, "Day, Late, Night"), "sheet nurses: Finn never works: nobody can plan her"),
+            (night, "sheet shifts: Night may not follow Day, and each shift type may follow Night: is 'not followed by' the other way round?"),
+            (missing, "sheet plan: Chen has no row: she has no wishes and no absences"),
+        ):
+            self.assertIn(line, made(sheets).warnings)
+            self.assertNotIn(line, made(SHEETS).warnings)
+
+    def test_best_numbers_above_what_contracts_supply(self):
+        sheets = changed("contracts", 2, 2, "8")
+        # Day Charge 14, Day Nurse 12 and 11, Late and Night 14 each; six nurses have 8 shifts, and two have 6.
+        asks = "sheet needs: the best numbers ask for 65 shifts, the minimum numbers for 51, and the contracts supply at most 60 beside absences"
+        self.assertIn(f"{asks}: each shift above costs 20 points, and a nurse below a best number 30: lower best numbers", made(sheets).warnings)
+        self.assertFalse([line for line in made(SHEETS).warnings if "supply at most" in line])
 
 
 class Command(HelperTest):
@@ -211,7 +280,7 @@ class Command(HelperTest):
         book, out = self.folder / "ward.ods", self.folder / "out"
         status, printed, said = run("ward", "--template", book)
         self.assertEqual((status, said, "change its rows" in printed), (0, "", True))
-        status, printed, said = run("ward", book, "--out", out, "--credit", "leave")
+        status, printed, said = run("ward", book, "--out", out)
         self.assertEqual((status, said), (0, ""))
         names = [*NAMES, "week-2.txt", "fix-2.txt", "week-3.txt", "fix-3.txt"]
         self.assertEqual(printed, f"{out}: {', '.join(names)}\nChen: 3 days away count as 2 shifts in history-0.txt\n")
@@ -229,14 +298,14 @@ class Command(HelperTest):
 
     def test_later_histories_without_the_credit_of_leave(self):
         out = self.folder / "out"
-        words = ("ward", DATA / "libreoffice.ods", "--out", out, "--weeks", "4")
+        words = ("ward", DATA / "libreoffice.ods", "--out", out, "--weeks", "4", "--credit", "none")
         said = f"{out}: warning: history-0.txt has new numbers of Amara Koch, and {{}} the old ones: make {{}} again with inrc2pb-next or inrc2pb-period"
         self.assertEqual(run(*words)[0], 0)
         (out / "history-1.txt").write_text("")
         self.assertNotIn("again", run(*words)[1])
         # Two days of leave in week 1.
-        self.assertEqual(run(*words, "--credit", "leave")[1].splitlines()[-1], said.format("history-1.txt", "it"))
-        self.assertNotIn("again", run(*words, "--credit", "leave")[1])
+        self.assertEqual(run(*words[:-2])[1].splitlines()[-1], said.format("history-1.txt", "it"))
+        self.assertNotIn("again", run(*words[:-2])[1])
         (out / "history-3.txt").write_text("")
         self.assertEqual(run(*words)[1].splitlines()[-1], said.format("history-1.txt and history-3.txt", "them"))
 
@@ -253,7 +322,7 @@ class Command(HelperTest):
         for words, said in (
             ((), "give a spreadsheet and --out with a folder for the ward's files, or --template alone, with the .ods file to write"),
             ((book, "--out", out, "--weeks", "1"), "--weeks 1: the plan has 2 weeks, and a period 52 at most: give a number from 2 to 52"),
-            ((book, "--out", out, "--credit", "holiday"), "--credit holiday: 'holiday' is no reason to be away: give some of away,ill,leave,training"),
+            ((book, "--out", out, "--credit", "holiday"), "--credit holiday: 'holiday' is no reason to be away: give some of away,ill,leave,unpaid,training, or none"),
             (("--template", "ward.xls"), "--template ward.xls: the example is an .ods file, which Excel opens too: end its name with .ods"),
         ):
             self.assert_fault(run("ward", *words), f"inrc2pb-ward: {said}")

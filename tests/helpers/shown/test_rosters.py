@@ -9,7 +9,8 @@ import xml.dom.minidom
 
 from ward import HELPERS, HISTORY, ROOT, ROSTER, SCENARIO, WARD, WEEK, WEEK_OPTIONS, HelperTest, files, records, run
 
-from inrc2pb.judging.absences import Absence, absences_of, wishes_of
+from inrc2pb.judging.absences import absences_of, wishes_of
+from inrc2pb.week.records import Absence
 
 EXAMPLES = ROOT / "examples"
 TWO_WEEKS = ("--sce", SCENARIO, "--his", HISTORY, "--week", WEEK, "--week", WARD / "week-1.txt", ROSTER, ROSTER)
