@@ -5,7 +5,8 @@ use crate::file_faults::read_tables;
 use crate::jobs::Kind as JobKind;
 use rota_core::{FileFault, FileName, Instance, Kind};
 use rota_read::{
-    read_cases, read_fixed, read_history, read_prices, read_scenario, read_solution, read_week,
+    read_cases, read_certificate, read_facts, read_fixed, read_history, read_prices, read_scenario,
+    read_solution, read_week,
 };
 use std::alloc::{AllocError, Global};
 use std::process::Abort;
@@ -72,6 +73,35 @@ Late Head 0 0 0 0 0 0 0
 Early Head 1 2 3 4 5 6 7
 ";
 
+const CERTIFICATE: &[u8] = b"CERTIFICATE
+s1
+WEEKS = 2
+PRICES = 2
+ROWS = 0
+ROWS = 1
+Late Head 0 0 0 22500 0 0 999999999
+ROWS = 0
+ROWS = 0
+LEAVES = 3
+SPLIT CHOICE 1 Ann Mon None
+SPLIT PLACE 2 Sun Late Head 9
+LEAF 0 SURCHARGES = 2
+0 999999999
+LEAF 1 SURCHARGES = 0
+LEAF 1 SURCHARGES = 1
+7
+";
+
+const FACTS: &[u8] = b"FACTS
+s1
+ROWS = 5
+HOLDS CHOICE 2 Bob Sun Early
+NOT PLACE 1 Mon Early Nurse 0
+HOLDS CHARGES WORK_DAYS NURSE Ann 0
+NOT CHARGES SHIFT_RUNS ALL 3
+HOLDS EVEN
+";
+
 const BASE: Base = Base {
     kind: JobKind::Extend,
     early: false,
@@ -80,7 +110,7 @@ const BASE: Base = Base {
 
 const WORDS: &str =
     "( ) , = 0 1 2 9 10 16 17 52 64 1000 9999 10000 999999999 1000000000 4294967296 007 -1 +1 1.5 \
-    none None Any SCENARIO SHIFT_OFF_REQUESTS ROWS s1 Early Late Nurse Head Full Ann Bob Mon Sun";
+    none None Any SCENARIO SHIFT_OFF_REQUESTS ROWS SPLIT LEAF CHOICE CHARGES EVEN NOT ALL NURSE SHIFTS s1 Early Late Nurse Head Full Ann Bob Mon Sun";
 
 fn is_blank(byte: &u8) -> bool {
     *byte == b' ' || *byte == b'\n'
@@ -117,6 +147,8 @@ fn fault_of(alloc: Global, instance: &Instance, file: FileName, text: &[u8]) -> 
         FileName::Fixed => read_fixed(alloc, instance, text).err(),
         FileName::Prices => read_prices(alloc, scenario, text).err(),
         FileName::Cases => read_cases(alloc, scenario, text).err(),
+        FileName::Certificate => read_certificate(alloc, scenario, 2, text).err(),
+        FileName::Facts => read_facts(alloc, scenario, 2, text).err(),
     }
 }
 
@@ -124,37 +156,39 @@ fn fault_of(alloc: Global, instance: &Instance, file: FileName, text: &[u8]) -> 
 // `NoNumber`, `Limit`, `Unknown`, `Repeated` and `Trailing`. The last number is the sum of the faults' lines.
 type Ends = (FileName, &'static [u8], [u64; 9]);
 
-const ENDS: [Ends; 6] = [
+const ENDS: [Ends; 8] = [
     (
         FileName::Scenario,
         SCENARIO,
-        [388, 627, 4932, 2029, 603, 1090, 37, 122, 97156],
+        [415, 708, 5994, 2812, 603, 1378, 37, 149, 120277],
     ),
     (
         FileName::History,
         HISTORY,
-        [187, 164, 341, 768, 132, 474, 4, 153, 8280],
+        [196, 173, 404, 1065, 132, 582, 4, 180, 10341],
     ),
     (
         FileName::Week,
         WEEK,
-        [439, 459, 5676, 2030, 348, 1103, 2, 122, 46155],
+        [448, 468, 6900, 2813, 348, 1400, 2, 149, 57234],
     ),
     (
         FileName::Solution,
         SOLUTION,
-        [66, 82, 503, 139, 24, 817, 2, 122, 6387],
+        [75, 91, 593, 193, 24, 1033, 2, 149, 7881],
     ),
     (
         FileName::Prices,
         PRICES,
-        [255, 247, 441, 1040, 96, 509, 2, 218, 10533],
+        [264, 256, 531, 1445, 96, 617, 2, 245, 13188],
     ),
     (
         FileName::Cases,
         CASES,
-        [373, 398, 1327, 1735, 174, 1272, 2, 218, 32389],
+        [382, 407, 1606, 2410, 174, 1542, 2, 245, 40417],
     ),
+    (FileName::Certificate, CERTIFICATE, [269, 360, 4322, 2556, 441, 1107, 0, 161, 89031]),
+    (FileName::Facts, FACTS, [116, 148, 2577, 591, 132, 895, 0, 149, 23597]),
 ];
 
 // The number of a kind in `Ends`. No text here has the week number of a later week.
