@@ -14,7 +14,10 @@ from .arguments import parser
 from ..week.faults import FileFault, FileFaults, Misuse, ProgramFault, fault_line
 from ..programs.program import FAULT, OUT_OF_MEMORY, READ_OR_WRITE, WeekFiles
 
-__all__ = ["add_given_option", "add_solver_option", "add_week_options", "check_seconds", "number_of_seconds", "parser", "run", "week_files"]
+__all__ = [
+    "add_given_option", "add_seed_option", "add_solver_option", "add_week_options", "check_seconds", "number_of_seconds", "parser", "run",
+    "week_files",
+]  # fmt: skip
 
 # The exit statuses with which a shell reports that the signals PIPE and INT ended a command; that of another signal is its number more
 # than the base.
@@ -58,6 +61,13 @@ def add_given_option(options: argparse.ArgumentParser) -> None:
     """The option that names the facts that plans keep."""
     asks = "facts about the period to keep: absences, and limits that hold"
     options.add_argument("--given", dest="facts", metavar="FILE", type=Path, help=asks)
+
+
+def add_seed_option(options: argparse.ArgumentParser) -> None:
+    """The option that begins the random choices of a search."""
+    options.add_argument(
+        "--seed", metavar="N", type=int, default=1, help="the beginning of the search's random choices: with one processor the same search"
+    )
 
 
 def add_solver_option(options: argparse.ArgumentParser) -> None:

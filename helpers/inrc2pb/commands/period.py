@@ -10,7 +10,7 @@ from typing import Dict, Iterable, List, Optional, Sequence
 
 from ..programs.clock import Clock
 from ..rows.plan import WEEK_DAYS
-from .command import add_given_option, add_solver_option, check_seconds, fixes_by_week, number_of_seconds, parser
+from .command import add_given_option, add_seed_option, add_solver_option, check_seconds, fixes_by_week, number_of_seconds, parser
 from ..week.faults import FileFault, Misuse, ProgramFault, fault_line
 from ..week.files import read_solution, write_history
 from ..week.records import Cell
@@ -27,10 +27,10 @@ from ..week.targets import check_inputs_stay, check_no_pipes
 
 class Period:
     """A period that is planned: its reports by week, in order, and the lines about its lower bound. `prices` is the folder for the prices
-    of the bound, if any."""
+    of the bound, if any; the `seed` begins the random choices of the search."""
 
-    def __init__(self, files: PeriodFiles, folder: Path, prices: Optional[Path] = None) -> None:
-        self.folder, self.prices, self.progress = folder, prices, Progress(sys.stderr)
+    def __init__(self, files: PeriodFiles, folder: Path, prices: Optional[Path] = None, seed: int = 1) -> None:
+        self.folder, self.prices, self.progress, self._seed = folder, prices, Progress(sys.stderr), seed
         check_no_pipes(files.all())
         self.weeks = PlannedWeeks(files)
         self.numbers = self.weeks.numbers
@@ -63,7 +63,7 @@ class Period:
         _say(f"{weeks}, at most {seconds:g} s")
         for hint in self.weeks.hints:
             self.progress.warn(hint)
-        running = PeriodSearch(self.weeks, self._keep, Clock(seconds), self.progress, self.prices, self._earlier())
+        running = PeriodSearch(self.weeks, self._keep, Clock(seconds), self.progress, self.prices, self._earlier(), self._seed)
         with interrupts() as signals:
             try:
                 with signals.calling(running.interrupt):
@@ -103,7 +103,7 @@ class Period:
                 prices = self.prices / prices_name(number) if self.prices else None
                 _say(f"week {number}, {week.files.week}")
                 try:
-                    outcome = search(week.files, week.roster, None, seconds, solver, prices, Progress(sys.stderr))
+                    outcome = search(week.files, week.roster, None, seconds, solver, prices, Progress(sys.stderr), self._seed)
                 except (FileFault, Misuse, ProgramFault) as fault:
                     raise Misuse(f"week {number}: {fault_line(fault)}") from fault
                 self._report(number, week)
@@ -201,6 +201,7 @@ def _options() -> argparse.ArgumentParser:
     options.add_argument(
         "--prices", metavar="FOLDER", type=Path, help="the folder for the prices that prove the lower bound, for inrc2pb-period-bound"
     )
+    add_seed_option(options)
     add_solver_option(options)
     return options
 
@@ -216,7 +217,7 @@ def main() -> Optional[int]:
     if given.prices and (given.solver or given.ahead):
         raise Misuse(f"with {'--solver' if given.solver else '--ahead'} there are no prices: leave out --prices")
     files = PeriodFiles(given.sce, given.his, given.week, fixes_by_week(given.fix), given.early, given.ahead, given.facts)
-    period = Period(files, given.out, given.prices)
+    period = Period(files, given.out, given.prices, given.seed)
     period.name_replaced()
     with interrupts() as signals:
         try:

@@ -33,13 +33,14 @@ Found = TypeVar("Found")
 
 class RowRun:
     """A search over the rows of a plan. `start` has the rows to begin with, if any; `heard` is called if the bound rises, and when it is
-    final."""
+    final. The `seed` begins its random choices."""
 
     def __init__(
         self, plan: Plan, solver: Optional[LinearSolver], clock: Clock, offer: Offer, heard: Callable[[], None],
-        start: Optional[List[NurseWeek]] = None,
+        start: Optional[List[NurseWeek]] = None, seed: int = 1,
     ) -> None:
         self._plan, self._solver, self._clock, self._offer, self._heard, self._start = plan, solver, clock, offer, heard, start
+        self._seed = seed
         self.crews = Crews(plan)
         self.search: Optional[RowSearch] = None
         # Places, and prices of them that prove that no roster keeps the minimums; or the nurse who has no row.
@@ -101,13 +102,14 @@ class RowRun:
         """Looks for the best roster among the rows that a better one can have."""
         clock = self._clock
         if not search.is_proved:
-            search.choose(search.known_within(), clock.part(clock.left() * KNOWN_SHARE), "known rows")
+            self._try(lambda part: search.choose(search.known_within(), part, "known rows"), KNOWN_SHARE)
         while not search.is_proved and search.penalty is not None and solver.chooses:
             before = search.penalty
             use = search.list_within(MOST_LISTED, clock)
             if use is None:
                 break
-            if search.choose(use, clock.part(clock.left() * LISTED_SHARE), f"{len(use)} rows"):
+            listed = use
+            if self._try(lambda part: search.choose(listed, part, f"{len(listed)} rows"), LISTED_SHARE):
                 self.claimed = True
                 self._find_cases(search, solver, max(CASES_SECONDS, time.monotonic() - clock.began))
                 return
@@ -117,7 +119,7 @@ class RowRun:
             if search.gap() <= CASES_GAP:
                 self._find_cases(search, solver, clock.left() * CASES_SHARE)
             if not self.cases:
-                RowParts(search, _side_by_side(solver)).run(clock)
+                RowParts(search, _side_by_side(solver), self._seed).run(clock)
 
     def _find_cases(self, search: RowSearch, solver: LinearSolver, seconds: float) -> None:
         """Looks for cases of a single week that prove that no roster costs less than the best one."""

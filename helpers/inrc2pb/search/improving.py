@@ -77,15 +77,15 @@ class SearchResult:
 
 def improve(
     files: WeekFiles, solution: Path, *, start: Optional[Path] = None, seconds: float = SECONDS, solver: Optional[str] = None,
-    prices: Optional[Path] = None,
+    prices: Optional[Path] = None, seed: int = 1,
 ) -> SearchResult:
     """Searches for these seconds, writes the best roster to `solution`, and returns its report and lower bound.
 
     `start` is the roster to begin with, if it is not the one that `solution` has of this week, `solver` a command that solves the whole
-    week in place of the search over rows, and `prices` the file for the prices, or the cases with prices, that prove the bound. Ctrl-C,
-    TERM or a fault end the search: the roster is written, then KeyboardInterrupt or the fault is raised.
+    week in place of the search over rows, and `prices` the file for the prices, or the cases with prices, that prove the bound. The `seed`
+    begins the random choices. Ctrl-C, TERM or a fault end the search: the roster is written, then KeyboardInterrupt or the fault is raised.
     """
-    outcome = search(files, solution, start, seconds, solver, prices, Progress(None))
+    outcome = search(files, solution, start, seconds, solver, prices, Progress(None), seed)
     if outcome.fault:
         raise outcome.fault
     if outcome.stopped:
@@ -95,7 +95,7 @@ def improve(
 
 def search(
     files: WeekFiles, solution: Path, start: Optional[Path], seconds: float, solver: Optional[str], prices: Optional[Path],
-    progress: Progress,
+    progress: Progress, seed: int = 1,
 ) -> SearchResult:
     """As `improve`, with its progress printed. A fault is raised only if there is no roster; a signal is no fault."""
     clock = Clock(seconds)
@@ -113,7 +113,7 @@ def search(
     if prices and os.path.realpath(solution) == os.path.realpath(prices) != os.devnull:
         raise Misuse(f"{prices} gets the roster, so the prices cannot be written to it: choose another file")
     best = BestRoster(files, week, solution, progress.improved)
-    running = WeekSearch(files, week, held, best, clock, progress)
+    running = WeekSearch(files, week, held, best, clock, progress, seed)
     fault: Optional[BaseException] = None
     with interrupts() as signals:
         folder = Path(tempfile.mkdtemp(prefix="inrc2pb-improve-"))

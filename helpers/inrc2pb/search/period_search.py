@@ -27,7 +27,7 @@ from ..rows.skills import rows_of, staffed
 # The cells of a plan from which on NumPy makes a difference.
 LARGE = 400
 # The most of the time that goes to a first plan, week after week.
-FIRST_SHARE = 0.25
+FIRST_SHARE = 0.1
 
 # Writes rosters of all weeks, whose days count from the first one, to where they belong.
 Keep = Callable[[Sequence[Cell]], None]
@@ -36,18 +36,19 @@ Keep = Callable[[Sequence[Cell]], None]
 class PeriodSearch:
     """A search within the time of its clock. `keep` gets each better plan, after `inrc2pb extend` has checked its rosters; `prices` is the
     folder for the prices of the bound, and `start` the plan to begin with, if any. It may break rules: then its weeks of nurses are of use.
+    The `seed` begins the random choices of the search.
 
     `penalty` is that of the best plan, with the forecast of weeks that are not known; `bound` is what no plan costs less than.
     """
 
     def __init__(
         self, weeks: PlannedWeeks, keep: Keep, clock: Clock, progress: Progress, prices: Optional[Path] = None,
-        start: Optional[Sequence[Cell]] = None,
+        start: Optional[Sequence[Cell]] = None, seed: int = 1,
     ) -> None:
         self._weeks, self._keep, self._clock, self._progress, self._prices = weeks, keep, clock, progress, prices
         self._processes = Processes()
         self._proof = PeriodBound(weeks, clock, progress.warn)
-        self._start = start
+        self._start, self._seed = start, seed
         self.penalty: Optional[int] = None
         self.bound: Optional[Bound] = None
         self._cells: Sequence[Cell] = ()
@@ -127,7 +128,7 @@ class PeriodSearch:
             if not plan.asks:
                 self._progress.bound_rose(run.search.lower_bound)
 
-        run = RowRun(plan, solver, self._clock, offer, heard, self._first(plan, solver))
+        run = RowRun(plan, solver, self._clock, offer, heard, self._first(plan, solver), self._seed)
         run.run()
         return run
 

@@ -23,11 +23,14 @@ from ..solvers.solvers import Solver
 
 
 class WeekSearch:
-    """A search over one week within the time of its clock. `bound` is the best lower bound, if there is one."""
+    """A search over one week within the time of its clock; the `seed` begins its random choices. `bound` is the best lower bound, if there
+    is one."""
 
-    def __init__(self, files: WeekFiles, week: Week, held: Sequence[Cell], best: BestRoster, clock: Clock, progress: Progress) -> None:
+    def __init__(
+        self, files: WeekFiles, week: Week, held: Sequence[Cell], best: BestRoster, clock: Clock, progress: Progress, seed: int = 1
+    ) -> None:
         self._files, self._week, self._held, self._best = files, week, held, best
-        self._clock, self._progress = clock, progress
+        self._clock, self._progress, self._seed = clock, progress, seed
         self._processes = Processes()
         self._asks = False
         self.bound: Optional[Bound] = None
@@ -90,7 +93,7 @@ class WeekSearch:
             if self._progress.is_due():
                 self._see(run, bounds)
 
-        run = RowRun(plan, solver, self._clock, offer, heard, start)
+        run = RowRun(plan, solver, self._clock, offer, heard, start, self._seed)
         try:
             run.run()
         finally:

@@ -41,7 +41,7 @@ class Says(LinearSolver):
     def __init__(self, names, proved):
         self.answer = Chosen(names, proved)
 
-    def choose(self, model, clock, cutoff, step):
+    def choose(self, model, clock, cutoff, step, nodes=0):
         return self.answer
 
 
