@@ -12,7 +12,7 @@ from ..judging.constraint import block_of, blocks, named_row, row_of
 from ..judging.demand import demand_warnings
 from ..judging.given import read_given, with_given
 from ..judging.limits import exceeded, limits_in_words
-from ..week.faults import FileFault, Misuse, ProgramFault, fault_line
+from ..week.faults import FileFault, Misuse, ProgramFault, fault_line, printable
 from ..week.records import DAYS, Cell, History, Scenario, Week, WeekData
 from ..week.files import check_week_number, read_history, read_scenario, read_solution, read_week
 from ..judging.misfits import explained, other_week, read_held, read_roster
@@ -45,7 +45,7 @@ class Check:
     def mistake(self, line: str) -> None:
         """Prints and counts a mistake."""
         self.mistakes += 1
-        print(line)
+        print(printable(line))
 
     def warns(self, path: Path, warnings: Iterator[str]) -> None:
         """Prints the warnings about a file without a mistake."""

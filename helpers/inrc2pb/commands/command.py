@@ -12,6 +12,7 @@ from typing import Callable, Dict, Optional, Sequence, TextIO
 
 from .arguments import parser
 from ..week.faults import FileFault, FileFaults, Misuse, ProgramFault, fault_line
+from ..programs.own_folder import own_folder
 from ..programs.program import FAULT, OUT_OF_MEMORY, READ_OR_WRITE, WeekFiles
 
 __all__ = [
@@ -130,7 +131,8 @@ def run(main: Callable[[], Optional[int]]) -> None:
     sys.stderr = _standard_error(sys.stderr)
     try:
         _catch_signals()
-        status = main() or 0
+        with own_folder():
+            status = main() or 0
         sys.stdout.flush()
         _ignore_signals()
     except BrokenPipeError:

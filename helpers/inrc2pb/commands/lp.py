@@ -9,7 +9,7 @@ from typing import List, Optional
 
 from .command import parser
 from ..week.writing import replacing
-from ..solvers.mip_solution import STATUSES, read_answer
+from ..solvers.mip_solution import STATUSES, check_size, read_answer
 from ..week.targets import check_inputs_stay
 from ..solvers.linear_program import ModelFault, write_linear_program
 
@@ -39,6 +39,7 @@ def main(words: Optional[List[str]] = None) -> None:
     if given.command == "answer":
         # Gurobi writes no file if there is no solution.
         missing = given.status == "infeasible" and not given.solution.exists()
+        check_size(given.solution)
         with open(os.devnull if missing else given.solution, encoding="utf-8", errors="replace") as solution:
             read_answer(solution, given.status).write(sys.stdout)
         return

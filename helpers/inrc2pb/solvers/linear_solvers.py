@@ -8,7 +8,7 @@ from typing import Callable, Dict, Iterator, List, Optional, Sequence
 
 from .answers import MAX_FAULTS, MAX_VALUE, Chosen, NoSolution, Relaxed, SolverFault
 from ..programs.clock import Clock, TimeIsOver
-from ..programs.processes import Ended, Processes
+from ..programs.processes import MAX_OUTPUT, Ended, Processes
 from .resident_program import Child, LinearProgram
 
 INSTALL = "install one (Debian: apt-get install coinor-cbc)"
@@ -70,6 +70,8 @@ class LinearSolver:
         """The lines of the answer's file."""
         if not self._answer.exists():
             raise SolverFault(f"{self.name} wrote no answer and ended with status {ended.status}")
+        if self._answer.stat().st_size > MAX_OUTPUT:
+            raise SolverFault(f"{self.name} wrote more than {MAX_OUTPUT >> 20} MiB, too much for an answer")
         lines = self._answer.read_text(encoding="utf-8", errors="replace").splitlines()
         if not lines:
             raise SolverFault(f"{self.name} wrote an empty answer")

@@ -3,12 +3,14 @@
 Known are the files of cbc, glpsol and HiGHS, and Gurobi's list of names and values.
 """
 
+import os
 import re
 from array import array
 from dataclasses import dataclass, field
 from typing import Callable, Iterable, Iterator, List, Optional, TextIO, Tuple
 
 from ..week.faults import Misuse
+from ..week.slots import PathLike
 
 # How a solver ended, and the status of its answer.
 STATUSES = {"optimal": "OPTIMUM FOUND", "stopped": "SATISFIABLE", "infeasible": "UNSATISFIABLE", "unknown": "UNKNOWN"}
@@ -16,6 +18,8 @@ STATUSES = {"optimal": "OPTIMUM FOUND", "stopped": "SATISFIABLE", "infeasible": 
 TOLERANCE = 1e-6 * (1 + 1e-9)
 # A value that is off by no more is an integer by some solver's tolerance, such as Gurobi's own of 1e-5.
 SOLVER_TOLERANCE = 1e-3
+# A larger file is no result of a model: the longest one has some megabytes.
+MAX_BYTES = 1 << 28
 # An objective of more than 17 digits is not kept.
 MAX_OBJECTIVE = 1e17
 LITERALS_PER_LINE = 20
@@ -50,6 +54,12 @@ class Answer:
             target.write(f"o {self.objective}\n")
         for index in range(0, len(self.variables), LITERALS_PER_LINE):
             target.write("v" + "".join(f" x{number}" for number in self.variables[index : index + LITERALS_PER_LINE]) + "\n")
+
+
+def check_size(path: PathLike) -> None:
+    """A file that is too long for an answer is a SolutionFault before it is read."""
+    if os.path.isfile(path) and os.path.getsize(path) > MAX_BYTES:
+        raise SolutionFault(f"{path} has more than {MAX_BYTES >> 20} MiB: this is no answer")
 
 
 def read_answer(solution: TextIO, ended: Optional[str] = None) -> Answer:

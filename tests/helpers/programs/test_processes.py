@@ -51,6 +51,12 @@ class Groups(HelperTest):
         self.assertEqual((ended.status, ended.output), (-signal.SIGKILL, "ready\nanswer\n"))
         self.assertLess(time.monotonic() - began, 30)
 
+    def test_a_child_that_keeps_the_output_open_is_not_waited_for(self):
+        began = time.monotonic()
+        ended = Processes().run(["sh", "-c", "sleep 100 & echo answer"], 100, self.folder)
+        self.assertEqual((ended.status, ended.output, ended.timed_out), (0, "answer\n", False))
+        self.assertLess(time.monotonic() - began, 50)
+
     def test_after_the_end_of_those_that_run_others_start(self):
         processes = Processes()
         ended = processes.run(["sh", "-c", "echo ready; exec sleep 60"], 60, self.folder, hear=lambda data: processes.end_running())

@@ -1,10 +1,12 @@
 """Tests of `inrc2pb-lp`: models as LP files, and the solution files of MIP solvers as answers."""
 
 import io
+import os
 import shutil
 import subprocess
 import sys
 import tempfile
+import time
 import unittest
 from pathlib import Path
 
@@ -12,6 +14,7 @@ from ward import HELPERS, HelperTest, run
 
 from inrc2pb.solvers.linear_program import ModelFault, ModelSize, _write_constraint, convert, write_linear_program
 from inrc2pb.solvers.mip_solution import SolutionFault, read_answer
+from inrc2pb.solvers.solvers import answer_of as answer_of_file
 
 HERE = Path(__file__).resolve().parents[1]
 SOLUTIONS = HERE / "data" / "solutions"
@@ -66,6 +69,16 @@ class NoResult(HelperTest):
         self.assertEqual(run("lp", "answer", missing, "--status", "infeasible"), (0, "s UNSATISFIABLE\n", ""))
         self.assertEqual(run("lp", "answer", missing, "--status", "optimal")[0], 3)
         self.assertEqual(run("lp", "answer", missing)[0], 3)
+
+    def test_a_result_file_that_is_far_too_long(self):
+        huge = self.folder / "week.sol"
+        huge.touch()
+        os.truncate(huge, 8 << 30)
+        began = time.monotonic()
+        self.assert_fault(run("lp", "answer", huge), f"inrc2pb-lp: {huge} has more than 256 MiB: this is no answer")
+        outcome = answer_of_file(huge)
+        self.assertEqual((outcome.answer, outcome.fault), ("", f"its result file has a fault: {huge} has more than 256 MiB: this is no answer"))
+        self.assertLess(time.monotonic() - began, 10)
 
 
 class LinearPrograms(unittest.TestCase):
