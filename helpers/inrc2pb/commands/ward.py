@@ -24,7 +24,7 @@ from ..sheets.sheet_files import Book, read_book
 from ..sheets.sheet_rows import tidy
 from ..week.slots import MAX_NUMBER
 from ..week.targets import check_target
-from ..sheets.ward_sheets import read_ward, skill_warnings, ward_warnings
+from ..sheets.ward_sheets import book_warnings, read_ward, skill_warnings, ward_warnings
 from ..sheets.ward_template import write_template
 from ..judging.leave import credit_line, credited, shifts_of_leave
 
@@ -99,7 +99,7 @@ def ward_files(book: Book, name: str, days: Days, weeks: int, reasons: Sequence[
     warnings += [f"sheet nurses: {line}" for line in history_warnings(ward.history)]
     asked = {place.skill for sheet in sheets for place in sheet.requirements}
     warnings += [f"sheet nurses: {line}" for line in skill_warnings(ward, asked)]
-    warnings += [*ward_warnings(ward), *(f"sheet plan: {line}" for line in plan_warnings(days, ward.scenario))]
+    warnings += [*book_warnings(book), *ward_warnings(ward), *(f"sheet plan: {line}" for line in plan_warnings(days, ward.scenario))]
     datas = [_week(ward.scenario, sheet, claims, number) for number, sheet in enumerate(sheets)]
     for number, (sheet, data) in enumerate(zip(sheets, datas)):
         found[f"week-{number}.txt"] = week_text(_with_requests(book, ward.scenario, data, number) if requests else data)

@@ -12,7 +12,7 @@ import struct
 import zipfile
 import zlib
 from pathlib import Path
-from typing import Dict, NamedTuple
+from typing import Dict, Mapping, NamedTuple, Sequence
 from xml.etree import ElementTree
 from xml.parsers import expat
 
@@ -32,10 +32,12 @@ _DAMAGED = (
 
 
 class Book(NamedTuple):
-    """The sheets by their names in small letters, and the day with the number 0, if the file has dates as numbers."""
+    """The sheets by their names in small letters, the numbers of their hidden rows, and the day with the number 0, if the file has dates as
+    numbers."""
 
     path: Path
     sheets: Dict[str, Rows]
+    hidden: Mapping[str, Sequence[int]] = {}
     day_zero: datetime.date = datetime.date(1899, 12, 30)
 
 
@@ -64,7 +66,7 @@ def _read_archive(path: Path, archive: zipfile.ZipFile) -> Book:
     names = set(archive.namelist())
     parts = Parts(path, archive)
     if "content.xml" in names:
-        return Book(path, sheet_ods.sheets(parts))
+        return Book(path, *sheet_ods.sheets(parts))
     if "xl/workbook.xml" in names:
         return Book(path, *sheet_xlsx.sheets(parts))
     raise FileFault(path, 0, "this file has no sheets: give an .ods or .xlsx file, or a folder of .csv files")

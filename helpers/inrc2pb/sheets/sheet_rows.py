@@ -114,7 +114,7 @@ class SheetRow:
 
     def __init__(self, table: "Table", number: int, cells: Sequence[str]) -> None:
         self._table = table
-        self._number = number
+        self.number = number
         self._cells = cells
 
     def outside(self, columns: Collection[int]) -> Iterator[SheetCell]:
@@ -125,7 +125,7 @@ class SheetRow:
     def at(self, column: int) -> SheetCell:
         """The cell of the column with this number."""
         text = tidy(self._cells[column]) if column < len(self._cells) else ""
-        return SheetCell(text, self._table.book, self._table.name, self._number, column)
+        return SheetCell(text, self._table.book, self._table.name, self.number, column)
 
     def of(self, head: str) -> SheetCell:
         """The cell of the column with this head; if there is none, an empty one."""
@@ -232,6 +232,8 @@ def _joined_head(rows: Rows, first: int, open_end: bool) -> Tuple[List[str], int
     below = [tidy(cell) for cell in (rows[first + 1] if first + 1 < len(rows) else [])]
     width = max(len(head), len(below))
     head, below = (row + [""] * (width - len(row)) for row in (head, below))
+    # A head over two rows.
+    below = ["" if under == own else under for own, under in zip(head, below)]
     has_days = all(re.match("mon|tue|wed|thu|fri|sat|sun", cell.casefold()) for cell in below if cell)
     is_over = any(under and not own for own, under in zip(head, below)) and not any(re.search("[0-9]", cell) for cell in below)
     if not any(below) or below[0] or not (has_days if open_end else is_over):

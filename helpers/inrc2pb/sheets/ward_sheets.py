@@ -202,6 +202,19 @@ def skill_warnings(ward: Ward, asked: Collection[str]) -> Iterator[str]:
             yield f"no row of the sheet needs has the skill {name}"
 
 
+def book_warnings(book: Book) -> Iterator[str]:
+    """Warnings of rows that count though nobody sees them, and of days without a number in rows that have some."""
+    for sheet in _HEADS:
+        rows = [row.number for row in table_of(book, sheet).rows if row.number in book.hidden.get(sheet, ())]
+        if rows:
+            yield f"sheet {sheet}: row {', '.join(map(str, rows))} hidden, and counted: show it, or delete it"
+    for row in table_of(book, "needs").rows:
+        days = [row.of(day.casefold()) for day in DAYS]
+        empty = [day for day, cell in zip(DAYS, days) if not cell.text]
+        if not row.of("week").text and 0 < len(empty) < len(days):
+            yield f"sheet needs, row {row.number}: {', '.join(empty)} empty, and counted as 0: write 0 if nobody is needed"
+
+
 def ward_warnings(ward: Ward) -> Iterator[str]:
     """Warnings of nurses who never work, and of successions that seem to be the other way round."""
     types = ward.scenario.shift_types

@@ -6,16 +6,17 @@ import datetime
 import io
 import unittest
 import zipfile
+from pathlib import Path
 from xml.sax.saxutils import escape
 
-from example_sheets import DATA, SHEETS, texts
+from example_sheets import DATA, SHEETS, changed, texts
 from ward import HelperTest
 
 from inrc2pb.commands import ward
 from inrc2pb.week.faults import FileFault
 from inrc2pb.sheets.plan_sheets import read_days
 from inrc2pb.week.records import DAYS
-from inrc2pb.sheets.sheet_files import read_book
+from inrc2pb.sheets.sheet_files import Book, read_book
 from inrc2pb.sheets.sheet_rows import letters_of
 
 MONDAY = datetime.date(2026, 11, 30)
@@ -56,9 +57,10 @@ def excel(path, sheets, dates=False):
 
 # A sheet with text in elements that are nested too deep.
 DEEP = (
-    '<x xmlns:table="urn:oasis:names:tc:opendocument:xmlns:table:1.0" xmlns:text="urn:oasis:names:tc:opendocument:xmlns:text:1.0">'
-    f"<table:table><table:table-row><table:table-cell><text:p>{'<text:span>' * 3000}{'</text:span>' * 3000}</text:p>"
-    "</table:table-cell></table:table-row></table:table></x>"
+    '<x xmlns:table="urn:oasis:names:tc:opendocument:xmlns:table:1.0" xmlns:text="urn:oasis:names:tc:opendocument:xmlns:text:1.0" '
+    'xmlns:office="urn:oasis:names:tc:opendocument:xmlns:office:1.0">'
+    f'<office:spreadsheet><table:table table:name="plan"><table:table-row><table:table-cell><text:p>{"<text:span>" * 3000}{"</text:span>" * 3000}</text:p>'
+    "</table:table-cell></table:table-row></table:table></office:spreadsheet></x>"
 )
 
 
@@ -135,6 +137,34 @@ class Formats(HelperTest):
             with self.subTest(name), self.assertRaises(FileFault) as caught:
                 read_book(path)
             self.assertEqual(str(caught.exception), f"{path}: {said}")
+
+    def test_odd_files_of_each_kind(self):
+        paths = sorted(path for path in (DATA / "odd").iterdir() if path.suffix != ".csv")
+        self.assertEqual(len(paths), 11)
+        for path in paths:
+            wanted = next(other for other in (path.with_name(f"{path.name}.csv"), path.with_suffix(".csv")) if other.exists())
+            with self.subTest(path.name), open(wanted, encoding="utf-8", newline="") as file:
+                self.assertEqual(read_book(path).sheets["plan"], list(csv.reader(file)))
+        self.assertEqual(read_book(DATA / "odd" / "dates_1904.xlsx").day_zero, datetime.date(1904, 1, 1))
+
+    def test_formulas_of_a_ward(self):
+        for text, said in (
+            ("=A1+1", "the value of the formula =A1+1 is not in the file: open the file in a spreadsheet program, and save it again, or write the value"),
+            ("#REF!", "a formula has the fault #REF!: correct it, or write its value in its place"),
+            ("Err:502", "a formula has the fault Err:502: correct it, or write its value in its place"),
+            ("=2+1", "'=2+1' is no whole number: this formula is a sum: without its sign 2+1 has a minimum and more"),
+        ):
+            with self.subTest(text), self.assertRaises(FileFault) as caught:
+                texts(changed("needs", 2, 3, text))
+            self.assertEqual(caught.exception.message, f"sheet needs, row 2, column D: {said}")
+        self.assertIn("Full (8,11)", texts(changed("contracts", 2, 2, "=5+6"))["ward.txt"])
+
+    def test_hidden_rows_and_empty_days(self):
+        book = Book(Path("ward.ods"), changed("needs", 2, 5, ""), {"nurses": [4, 90], "plan": [2]})
+        warnings = ward.ward_files(book, "ward", read_days(book), 2, ()).warnings
+        self.assertIn("sheet nurses: row 4 hidden, and counted: show it, or delete it", warnings)
+        self.assertIn("sheet needs, row 2: Wed empty, and counted as 0: write 0 if nobody is needed", warnings)
+        self.assertEqual([line for line in warnings if "hidden" in line or "empty" in line], warnings[:2])
 
     def test_folders_that_have_no_sheets(self):
         with self.assertRaises(FileFault) as caught:
