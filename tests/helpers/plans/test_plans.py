@@ -23,6 +23,8 @@ from inrc2pb.week.records import Cell, Request, WeekData
 
 MONDAY = datetime.date(2026, 11, 30)
 DATES = [str(MONDAY + datetime.timedelta(days=day)) for day in range(14)]
+# The files of the plan with which tests begin.
+FIRST_PLAN = {}
 DATED, BARE = PlanDays(MONDAY, 2), PlanDays(None, 2)
 
 
@@ -131,9 +133,18 @@ class FolderTest(HelperTest):
     def does(self, *words):
         """What the verb prints. Searches are short."""
         searches = words[0] in ("plan", "ill", "leave", "back")
-        status, printed, said = run("plan", self.ward, *words, *(("--time", "1") if searches else ()))
+        status, printed, said = run("plan", self.ward, *words, *(("--time", "10") if searches else ()))
         self.assertEqual(status, 0, said)
         return printed
+
+    def begin(self):
+        """Begins with a plan of both weeks, which the first test has made."""
+        if not FIRST_PLAN:
+            self.does("plan")
+            FIRST_PLAN.update({path.relative_to(self.ward): path.read_bytes() for path in self.ward.rglob("0*/*")})
+        for path, data in FIRST_PLAN.items():
+            (self.ward / path).parent.mkdir(parents=True, exist_ok=True)
+            (self.ward / path).write_bytes(data)
 
     def last(self):
         """The folder of the plan that holds."""
@@ -164,10 +175,8 @@ class FolderTest(HelperTest):
 @unittest.skipUnless(HAS_CBC, "cbc is not installed")
 class Verbs(FolderTest):
     def test_a_plan_an_illness_and_the_way_back(self):
-        printed = self.does("plan")
-        first, second = self.points()
-        self.assertIn(f"week 0: {first} points\nweek 1: {second} points\n2 weeks: {first + second} points\n", printed)
-        before, old, page = self.cells(), self.texts(), (self.ward / "roster.html").read_text()
+        self.begin()
+        before, old = self.cells(), self.texts()
         printed = self.does("ill", "Gra", "Wed", "Fri")
         now = self.cells()
         self.assertFalse({("Grace", day) for day in (2, 3, 4)} & set(now))
@@ -175,28 +184,29 @@ class Verbs(FolderTest):
         self.assertIn(f"2 weeks: {sum(self.points())} points\n", printed)
         self.assertEqual({path: text for path, text in self.texts().items() if path in old}, old)
         self.assertIn("the plan of plan, ", self.does("undo"))
-        self.assertEqual((self.cells(), (self.ward / "roster.html").read_text()), (before, page))
+        self.assertEqual((self.cells(), self.texts()), (before, old))
 
     def test_a_second_run_never_has_a_worse_plan(self):
-        self.does("plan")
+        self.begin()
         before = sum(self.points())
-        run("plan", self.ward, "plan", "--time", "0.01")
-        self.assertLessEqual(sum(self.points()), before)
+        printed = run("plan", self.ward, "plan", "--time", "1")[1]
+        first, second = self.points()
+        self.assertLessEqual(first + second, before)
+        self.assertIn(f"week 0: {first} points\nweek 1: {second} points\n2 weeks: {first + second} points\n", printed)
 
     def test_a_plan_that_hangs_on_the_wall_changes_little(self):
-        self.does("plan")
+        self.begin()
         self.does("page")
-        before = self.cells()
         self.assertEqual(len(list((self.ward / "calendars").glob("*.ics"))), 7)
-        self.rows["plan"][7][8] = "wish"
-        self.write()
-        printed, now = self.does("plan"), self.cells()
+        before, points = self.cells(), sum(self.points())
+        self.does("plan")
+        now = self.cells()
         changed = {key for key in {*before, *now} if before.get(key, "-")[0] != now.get(key, "-")[0]}
-        # A wish of 10 points is not worth the changes, which cost more.
-        self.assertEqual((changed, "no shift changes\n" in printed), (set(), True))
+        # Each change has saved at least its 20 points.
+        self.assertLessEqual(sum(self.points()) + 20 * len(changed), points)
 
     def test_a_nurse_who_comes_and_one_who_leaves(self):
-        self.does("plan")
+        self.begin()
         self.rows["nurses"].append(["Ida", "Half", "Nurse", *[""] * 8])
         self.rows["plan"].append(["Ida", *["away"] * 7, *[""] * 7])
         self.rows["plan"][4][8:15] = ["away"] * 7
@@ -208,12 +218,12 @@ class Verbs(FolderTest):
         self.does("over")
         del self.rows["nurses"][4], self.rows["plan"][4]
         self.write()
-        status, _, said = run("plan", self.ward, "plan", "--time", "1")
+        status, _, said = run("plan", self.ward, "plan", "--time", "10")
         cure = "write it again, with away in the plan from her last day on"
         self.assertEqual((status, said), (1, f"inrc2pb-plan: Dilek worked in week 0, and has no row in the sheet nurses: {cure}\n"))
 
     def test_swaps(self):
-        self.does("plan")
+        self.begin()
         cells, before = self.cells(), sum(self.points())
         nurse, day = next((nurse, day) for (nurse, day), (_, skill) in sorted(cells.items()) if skill == "Nurse" and day > 3)
         offers = [line for line in self.does("swap", nurse, DATES[day]).splitlines() if line.endswith(" takes it")]
@@ -229,7 +239,7 @@ class Verbs(FolderTest):
         self.assertTrue(offers)
 
     def test_the_weeks_and_the_period_are_over(self):
-        self.does("plan")
+        self.begin()
         cells = self.cells()
         worked = next(nurse for nurse, day in cells if day == 6)
         self.does("over", worked, "Sun", "off")
