@@ -8,10 +8,11 @@ import math
 from typing import Callable, Dict, List, Optional, Sequence, Tuple
 
 from ..programs.clock import Clock
+from ..week.faults import Misuse
 from .first_rows import Descent
 from ..solvers.linear_solvers import LinearSolver
 from .plan import POINT, STEP
-from .pricing import Pricing, NurseWeek
+from .pricing import NurseWeek, Priced, Prices, Pricing
 from .row_generation import EXACT, WORTH, RowGeneration
 from .row_program import Solved
 from .skills import staffed
@@ -30,6 +31,13 @@ GIVEN = "the given roster"
 Offer = Callable[[List[NurseWeek], str], Optional[int]]
 
 
+class WrongBound(Misuse):
+    """A bound above the penalty of a roster, so numbers of this computer are wrong."""
+
+    def __init__(self, bound: int, penalty: int) -> None:
+        super().__init__(f"the lower bound {bound} is above the penalty {penalty} of a roster: Python or NumPy computes wrong numbers here")
+
+
 class RowSearch(RowGeneration):
     """A search over the rows of a plan. `offer` gets each roster; `heard` is called if the bound rises, and when it is final."""
 
@@ -43,7 +51,16 @@ class RowSearch(RowGeneration):
     @property
     def is_proved(self) -> bool:
         """Whether the best roster costs no more than the bound."""
-        return self.penalty is not None and self.lower_bound is not None and self.penalty <= self.lower_bound
+        return self.penalty is not None and self.penalty == self.lower_bound
+
+    def _check_bound(self) -> None:
+        """No roster costs less than the bound."""
+        if self.penalty is not None and self.lower_bound is not None and self.penalty < self.lower_bound:
+            raise WrongBound(self.lower_bound, self.penalty)
+
+    def _raise_bound(self, prices: Prices, found: Dict[int, Priced]) -> None:
+        super()._raise_bound(prices, found)
+        self._check_bound()
 
     def _meets(self, value: float) -> bool:
         return self.is_proved or super()._meets(value)
@@ -59,6 +76,7 @@ class RowSearch(RowGeneration):
         if penalty is None or (self.penalty is not None and penalty >= self.penalty):
             return False
         self.rows, self.penalty = rows, penalty
+        self._check_bound()
         return True
 
     def swap(self, rows: List[NurseWeek]) -> bool:
@@ -80,9 +98,9 @@ class RowSearch(RowGeneration):
 
     def begin(self, rows: List[NurseWeek], penalty: Optional[int]) -> None:
         """Begins with these rows, and the penalty of their roster if they are one. Makes them better without a solver, if that is easy."""
-        value = self.value_of(rows) if penalty is not None and self.plan.asks else penalty
+        value = None if penalty is None else self.value_of(rows)
         if value is not None:
-            self.rows, self.penalty = rows, value
+            self.rows, self.penalty = rows, value if self.plan.asks else penalty
         descent = Descent(self.pricing, rows)
         try:
             for _ in range(MOST_SWEEPS):

@@ -62,6 +62,10 @@ class Bound:
     # The option of the file that proves it.
     option: str = PRICES
 
+    def is_believed(self, penalty: Optional[int]) -> bool:
+        """Whether no roster that is known, with this penalty, refutes it."""
+        return penalty is None or self.points <= penalty
+
 
 class Prover:
     """A program that proves bounds. It has no answer if it is not there, and none after a fault, which `warn` gets."""

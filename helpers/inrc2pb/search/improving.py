@@ -64,13 +64,13 @@ class SearchResult:
             return [line, "no roster costs less, but this one exceeds a limit"]
         reached = self.bound_by != self.claimed_by and self.bound >= self.report.penalty
         if self.proved and self.claimed_by and not reached:
-            only = f"; without {self.claimed_by} only the lower bound is known" if self.bound < self.report.penalty else ""
+            only = "; without that only the lower bound is known" if self.bound < self.report.penalty else ""
             return [line, f"no roster costs less, says {self.claimed_by}{only}"]
         if self.proved:
             return [line, "no roster costs less" + (", proved" if self.bound_by == PROVER else "")]
         if self.claimed_by:
-            only = f"; without {self.claimed_by} only the lower bound is known"
-            return [line, f"no roster that keeps all absences and limits costs less, says {self.claimed_by}{only}"]
+            says = f"no roster that keeps all absences and limits costs less, says {self.claimed_by}"
+            return [line, f"{says}; without that only the lower bound is known"]
         gap = self.report.penalty - self.bound
         return [f"{line}: the gap is {gap}, {gap_share(self.report.penalty, self.bound)}"]
 

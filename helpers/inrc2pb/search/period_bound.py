@@ -74,12 +74,16 @@ class PeriodBound:
         self._take()
         if self._best and self._best is not self._tried and self._prover.works and not self._clock.stopped:
             self._faults.append(f"no time was left for {PERIOD_PROVER}")
-        if self._proved and penalty is not None and self._proved.points > penalty:
+        if self._proved and not self._proved.is_believed(penalty):
             self._prover.fail(f"its bound {self._proved.points} is above the penalty of a plan")
             self._proved = None
         while self._faults and not self._proved:
             self._warn(self._faults.pop(0))
-        return self._proved or self._plain()
+        found = self._proved or self._plain()
+        if found and not found.is_believed(penalty):
+            self._warn(f"the lower bound {found.points} ({found.by}) is above the penalty of a plan: it is wrong")
+            return None
+        return found
 
     def write(self, folder: Path) -> None:
         """Writes the prices of the bound, a file for each week."""

@@ -23,8 +23,7 @@ from ..solvers.solvers import Solver
 
 
 class WeekSearch:
-    """A search over one week within the time of its clock; the `seed` begins its random choices. `bound` is the best lower bound, if there
-    is one."""
+    """A search over one week within the time of its clock; the `seed` begins its random choices."""
 
     def __init__(
         self, files: WeekFiles, week: Week, held: Sequence[Cell], best: BestRoster, clock: Clock, progress: Progress, seed: int = 1
@@ -33,7 +32,7 @@ class WeekSearch:
         self._clock, self._progress, self._seed = clock, progress, seed
         self._processes = Processes()
         self._asks = False
-        self.bound: Optional[Bound] = None
+        self._bound: Optional[Bound] = None
         # What claims without a proof of inrc2pb-bound that no roster costs less, and whether only of those that keep all absences and
         # limits.
         self.claimed_by = ""
@@ -46,6 +45,11 @@ class WeekSearch:
             self._processes.ask_to_end()
         else:
             self._processes.stop()
+
+    @property
+    def bound(self) -> Optional[Bound]:
+        """The best lower bound, if there is one. One above the penalty of a roster is wrong."""
+        return self._bound if self._bound and self._bound.is_believed(self._best.penalty) else None
 
     @property
     def has_time(self) -> bool:
@@ -70,7 +74,7 @@ class WeekSearch:
         try:
             run = self._run_rows(plan, solver, bounds, rows)
             if not plan.asks or self._best.keeps_all:
-                self.claimed_by = solver.name if run.claimed and solver else ""
+                self.claimed_by = f"{solver.name}, over the rows that Python lists" if run.claimed and solver else ""
                 self.claims_kept = plan.asks
             for less_strict in plan.less_strict():
                 keeps = not self._best.breaks() if less_strict.keeping.absence < NEVER else self._best.keeps_all
@@ -109,8 +113,11 @@ class WeekSearch:
             cases = run.cases
             if cases:
                 bound = bounds.of_cases(pricing.plan.nurses, cases, lambda: plain_cases_bound(pricing.free(), cases or ()))
-            if self.bound is None or bound.points > self.bound.points:
-                self.bound = bound
+            if self._bound is None or bound.points > self._bound.points:
+                self._bound = bound
+                if self.bound is None:
+                    self._progress.warn(f"the lower bound {bound.points} ({bound.by}) is above the penalty of a roster: it is wrong")
+                    return
                 self._progress.bound_rose(bound.points)
 
     def _judge(self, run: RowRun, bounds: Bounds) -> None:
@@ -150,4 +157,4 @@ class WeekSearch:
             return
         self._best.offer(read_solution(path).cells, solver.name)
         if report.optimal and self._best.penalty == report.penalty:
-            self.bound, self.claimed_by = Bound(report.penalty, solver.name), solver.name
+            self._bound, self.claimed_by = Bound(report.penalty, solver.name), solver.name

@@ -175,7 +175,8 @@ class Improve(HelperTest):
 
     def test_cases_that_are_not_proved(self):
         report, _, prices = self.improve(f"echo lower bound {BY_PRICES}")
-        claim = f"lower bound {BY_PRICES} ({PROVER})\nno roster costs less, says cbc; without cbc only the lower bound is known\n"
+        says = "no roster costs less, says cbc, over the rows that Python lists; without that only the lower bound is known"
+        claim = f"lower bound {BY_PRICES} ({PROVER})\n{says}\n"
         self.assertTrue(report.endswith(claim), report)
         self.assertTrue(prices.read_text().startswith("PRICES\n"))
         report, said, prices = self.improve("echo no such option >&2; exit 2")

@@ -19,6 +19,8 @@ from inrc2pb.search import bounds
 from inrc2pb.search.bounds import PLAIN, PROVER, Bound
 from inrc2pb.search.improving import SearchResult, improve, search
 from inrc2pb.rows.plan import Plan
+from inrc2pb.rows.pricing import Pricing
+from inrc2pb.rows.row_search import WrongBound
 from inrc2pb.programs.progress import Progress
 
 
@@ -119,20 +121,36 @@ class Searches(HelperTest):
             self.script(prover.name, f"echo lower bound {bound}\n")
             ran = run("improve", *WEEK_OPTIONS, "--sol", self.target, "--time", 5, environment={"INRC2PB": str(self.folder / "inrc2pb")})
             self.assertTrue(ran[1].endswith(f"{says}\n"), ran)
+        self.script(prover.name, "echo lower bound 25\n")
+        ran = run("improve", *WEEK_OPTIONS, "--sol", self.target, "--time", 5, environment={"INRC2PB": str(self.folder / "inrc2pb")})
+        self.assertTrue(ran[1].endswith("\nno lower bound\n"), ran)
+        self.assertEqual(ran[2].count("the lower bound 25 (inrc2pb-bound) is above the penalty of a roster: it is wrong\n"), 1)
         self.script(prover.name, "echo inrc2pb-bound: out of memory >&2\nexit 4\n")
         ran = run("improve", *WEEK_OPTIONS, "--sol", self.target, environment={"INRC2PB": str(self.folder / "inrc2pb")})
         self.assertIn(f"\nlower bound 20 ({PLAIN})\nno roster costs less\n", ran[1])
         self.assertEqual(ran[2].count(f"{PROVER} failed, so bounds are computed in {PLAIN}: inrc2pb-bound: out of memory\n"), 1)
 
 
+class WrongNumbers(HelperTest):
+    @unittest.skipUnless(HAS_CBC, "needs cbc")
+    def test_a_wrong_bound_of_plain_python_is_no_bound(self):
+        target, cost = self.folder / "roster.txt", Pricing.places_cost
+        too_much = mock.patch.object(Pricing, "places_cost", lambda pricing, prices: cost(pricing, prices) + 200_000)
+        with too_much, mock.patch.object(bounds, "find_prover", lambda name: None):
+            found = search(WEEK_FILES, target, None, 20.0, None, None, Progress(None))
+        self.assertIsInstance(found.fault, WrongBound)
+        self.assertEqual((found.lines(), found.proved, found.claimed_by), (["no lower bound"], False, ""))
+        self.assertEqual(program.penalty_of(WEEK_FILES, target), found.report.penalty)
+
+
 class Lines(unittest.TestCase):
     def test_a_claim_and_a_broken_absence(self):
         for penalty, broken, says in (
-            (20, [], "no roster costs less, says cbc; without cbc only the lower bound is known"), (15, [], "no roster costs less, proved"),
+            (20, [], "no roster costs less, says cbc; without that only the lower bound is known"), (15, [], "no roster costs less, proved"),
             (15, ["a row"], "no roster costs less, but this one breaks an absence"),
         ):  # fmt: skip
             found = SimpleNamespace(bound=Bound(15, PROVER), claimed_by="cbc")
-            best = SimpleNamespace(breaks=lambda broken=broken: broken, proved=True)
+            best = SimpleNamespace(breaks=lambda broken=broken: broken, exceeds=list, proved=True)
             self.assertEqual(SearchResult(SimpleNamespace(penalty=penalty), found, best, False, None).lines(), ["lower bound 15 (inrc2pb-bound)", says])
 
 

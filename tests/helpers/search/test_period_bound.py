@@ -79,6 +79,8 @@ class Proofs(FakeProver):
             self.assertEqual(self.found(self.bound_by(bound), self.search(7)), Bound(bound, PERIOD_PROVER))
         self.assertEqual(self.found(self.bound_by(None), self.search(7)), BY_PYTHON)
         self.assertIsNone(self.found(self.bound_by(50)))
+        self.assertIsNone(self.found(self.bound_by(None), self.search(7, points=PENALTY + 5)))
+        self.assertIn("above the penalty of a plan", self.warnings.pop())
         self.assertEqual([warning for warning in self.warnings if "the plan is written" not in warning], [])
 
     def test_what_the_program_gets(self):
