@@ -43,7 +43,7 @@ class Page(FolderTest):
         connection.close()
         return answer.status, text
 
-    def does(self, **fields):
+    def sends(self, **fields):
         """Sends a form, waits for the end of its verb, and returns the page."""
         self.assertEqual(self.asks("POST", form=urlencode({name.replace("_", " "): value for name, value in fields.items()}))[0], 303)
         limit = time.monotonic() + 60
@@ -78,7 +78,7 @@ class Page(FolderTest):
             ("is no reason to be away", {"verb": "away", "reason": "party"}),
         ):
             with self.subTest(fields):
-                page = self.does(**fields)
+                page = self.sends(**fields)
                 self.assertRegex(page, '<pre role="alert" class="fault">[^<]*' + re.escape(says))
         self.assertEqual(list((self.ward / "plans").glob("0*")), [])
 
@@ -96,16 +96,16 @@ class Page(FolderTest):
         self.assertEqual(self.asks(path=f"{self.site.path}roster")[0], 200)
         for query in ("nurse=Nobody&day=4", "nurse=Chen&day=99", "nurse=Chen&day=x", "%ff"):
             self.assertEqual(self.asks(path=f"{self.site.path}?{query}")[0], 200)
-        self.does(verb="away", nurse="Grace", first="2026-12-02", last="2026-12-03", reason="ill")
+        self.sends(verb="away", nurse="Grace", first="2026-12-02", last="2026-12-03", reason="ill")
         self.assertFalse({("Grace", 2), ("Grace", 3)} & set(self.cells()))
         cells = self.cells()
         nurse, day = next(key for key in sorted(cells) if key[1] > 7)
         page = self.asks(path=f"{self.site.path}?nurse={nurse}&day={day}")[1]
         offers = re.findall('name="other" value="([A-Za-z]+)"/>?.*? takes it<', page)
         if offers:
-            self.does(verb="swap", nurse=nurse, first=f"2026-12-{day - 1:02}", other=offers[0], write_it="yes")
+            self.sends(verb="swap", nurse=nurse, first=f"2026-12-{day - 1:02}", other=offers[0], write_it="yes")
             self.assertEqual(self.cells().get((offers[0], day)), cells[nurse, day])
-        self.assertIn("holds again", self.does(verb="undo"))
+        self.assertIn("holds again", self.sends(verb="undo"))
 
     @unittest.skipUnless(HAS_CBC, "cbc is not installed")
     def test_one_verb_at_a_time_which_can_be_stopped(self):
