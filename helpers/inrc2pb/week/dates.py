@@ -55,7 +55,7 @@ def day_names(monday: Optional[datetime.date], week: int) -> Sequence[str]:
 
 
 def read_times(texts: Sequence[str], shifts: Collection[str]) -> Dict[str, Times]:
-    """The times of some shift types, each given as `Early=06:00-14:15`. A shift that ends before it begins ends on the next day."""
+    """The times of all shift types or of none, each given as `Early=06:00-14:15`. A shift that ends before it begins ends a day later."""
     found: Dict[str, Times] = {}
     for text in texts:
         shift, is_given, times = text.rpartition("=")
@@ -70,6 +70,9 @@ def read_times(texts: Sequence[str], shifts: Collection[str]) -> Dict[str, Times
         start, end = (_minutes(text, time) for time in match.groups())
         length = (end - start) % (24 * 60) or 24 * 60
         found[shift] = Times(datetime.time(start // 60 % 24, start % 60), datetime.timedelta(minutes=length))
+    missing = [shift for shift in shifts if shift not in found]
+    if found and missing:
+        raise Misuse(f"--times has no times of {quoted(missing)}: give them too, such as --times {missing[0]}=06:00-14:15")
     return found
 
 

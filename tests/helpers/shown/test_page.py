@@ -75,7 +75,7 @@ class Page(PageTest):
         self.assertTrue(all(any(inner.get("class") == "hidden" for inner in part) for part in marks))
 
     def test_the_roster_and_its_dates(self):
-        page = self.page(*WEEK_OPTIONS, *MONDAY, "--times", "Day=6:00-14:15", "--times", "Night=22:00-06:15", ROSTER)
+        page = self.page(*WEEK_OPTIONS, *MONDAY, "--times", "Late=13:00-21:15", "--times", "Day=6:00-14:15", "--times", "Night=22:00-06:15", ROSTER)
         self.assertEqual(words(page.find(".//h1")), "ward, 30 Nov to 6 Dec 2026")
         rows = self.caption(page, "Shifts")
         self.assertEqual(rows[0], ["nurse", "Mon 30 Nov", "Tue 1 Dec", "Wed 2 Dec", "Thu 3 Dec", "Fri 4 Dec", "Sat 5 Dec", "Sun 6 Dec"])
@@ -191,6 +191,7 @@ class Page(PageTest):
             (("--html", "--times", "Day=06:60-14:00"), "--times Day=06:60-14:00: 06:60 is no time of a day: give hours from 0 to 24 and minutes from 00 to 59"),
             (("--html", "--times", "Dy=06:00-14:00"), "--times Dy=06:00-14:00: 'Dy' is no shift type: did you mean Day?"),
             (("--html", *["--times", "Day=06:00-14:00"] * 2), "--times Day=06:00-14:00: Day has two times: give one"),
+            (("--html", "--times", "Day=06:00-14:00"), "--times has no times of Late, Night: give them too, such as --times Late=06:00-14:15"),
         ):
             with self.subTest(given):
                 self.assertEqual(run("table", *week, *given)[1:], ("", f"inrc2pb-table: {line}\n"))
@@ -255,17 +256,17 @@ class Calendars(PageTest):
         return found
 
     def test_the_events_are_the_shifts(self):
-        found = self.calendars("--times", "Day=06:00-14:15", "--times", "Night=22:00-06:15", ROSTER)
+        found = self.calendars("--times", "Late=13:00-21:15", "--times", "Day=06:00-14:15", "--times", "Night=22:00-06:15", ROSTER)
         rows = files.read_solution(ROSTER).cells
         self.assertEqual({name: lines.count("BEGIN:VEVENT") for name, lines in found.items()}, Counter(f"{row.nurse}.ics" for row in rows))
         chen = found["Chen.ics"]
-        for lines in (("DTSTART;VALUE=DATE:20261202", "SUMMARY:Late Nurse"), ("DTSTART:20261206T220000", "DTEND:20261207T061500", "SUMMARY:Night Nurse")):
+        for lines in (("DTSTART:20261202T130000", "DTEND:20261202T211500", "SUMMARY:Late Nurse"), ("DTSTART:20261206T220000", "DTEND:20261207T061500", "SUMMARY:Night Nurse")):
             begin = chen.index(lines[0])
             self.assertEqual(chen[begin : begin + len(lines)], list(lines))
         numbers = [line for lines in found.values() for line in lines if line.startswith("UID:")]
         self.assertEqual(len(set(numbers)), len(rows))
         self.assertTrue(all("DTSTAMP:20261130T000000Z" in lines for lines in found.values()))
-        self.assertEqual(found, self.calendars("--times", "Day=06:00-14:15", "--times", "Night=22:00-06:15", ROSTER))
+        self.assertEqual(found, self.calendars("--times", "Late=13:00-21:15", "--times", "Day=06:00-14:15", "--times", "Night=22:00-06:15", ROSTER))
 
     def test_a_nurse_without_shifts_and_hostile_names(self):
         found = self.calendars(*self.hostile_week())
