@@ -2,7 +2,7 @@
 
 import copy
 import importlib
-from typing import Any, Dict, List, NamedTuple, Optional, Sequence, Tuple
+from typing import Any, Callable, Dict, List, NamedTuple, Optional, Sequence, Tuple
 
 from ..judging.runs import NEVER
 
@@ -11,8 +11,8 @@ INSTALL = "NumPy is not installed: with it the search is several times faster (D
 SMALL, BLOCK = 6_000, 60_000
 # From so many values on, the choices of a day are compared one after another.
 _MANY = 40_000
-# By choice and node the costs and the nodes that are reached, and by node of the next day the choice that reaches it.
-ListedDay = Tuple[List[List[int]], List[List[int]], List[int]]
+# The multiplier of the numbers by which equal nodes are found.
+_MULTIPLIER = 6364136223846793005
 
 
 def _numpy() -> Any:
@@ -29,19 +29,15 @@ numpy = _numpy()
 
 
 class Arrays:
-    """The days of a graph as arrays."""
+    """The days of a graph as arrays: by choice and node the costs and the nodes that are reached, and by node of the next day the choice that
+    reaches it."""
 
-    def __init__(self, days: Sequence[ListedDay]) -> None:
-        self.days = [(numpy.array(costs, dtype=numpy.int64), numpy.array(heads), numpy.array(entered)) for costs, heads, entered in days]
+    def __init__(self, days: Sequence[Tuple[Any, Any, Any]]) -> None:
+        self.days = list(days)
         self.size = sum(costs.size for costs, _, _ in self.days)
         # The number of nodes before each day, and at the end.
         self.nodes = [*(costs.shape[1] for costs, _, _ in self.days), len(self.days[-1][2])]
         self._alone: Optional[Block] = None
-
-    @staticmethod
-    def of(days: Sequence[ListedDay]) -> "Optional[Arrays]":
-        """The arrays of these days, if NumPy is installed."""
-        return Arrays(days) if numpy is not None else None
 
     def cheapest(self, start: int, pay: Sequence[Sequence[int]]) -> Tuple[int, bytes]:
         """The minimum cost of a row from this node on, and the first row that has it, if a choice costs this pay beside its own costs."""
@@ -165,3 +161,30 @@ def blocks_of(members: Sequence[Member], last: int, first: int = 0) -> List[Bloc
         together[-1].append(of)
         size += of.arrays.size
     return [Block(found, last, first) for found in [*together, *alone.values()] if found]
+
+
+def merged(days: List[Tuple[Any, Any, Any]], check: Callable[[], None]) -> Any:
+    """Makes one node of all that have the same choices, costs and futures. Returns the class of each first node."""
+    classes, kept = _numbered(days[-1][2][None, :])
+    for day in reversed(range(len(days))):
+        check()
+        costs, heads, entered = days[day]
+        heads, entered = classes[heads], entered[kept]
+        before = days[day - 1][2] if day else numpy.arange(costs.shape[1])
+        classes, kept = _numbered(numpy.concatenate([before[None, :], costs, heads]))
+        days[day] = costs[:, kept], heads[:, kept], entered
+    return classes
+
+
+def _numbered(rows: Any) -> Tuple[Any, Any]:
+    """The number of each column of an array, by which equal columns have one number, and the first column of each number."""
+    hashes = numpy.zeros(rows.shape[1], dtype=numpy.uint64)
+    for number, row in enumerate(rows, 1):
+        hashes += row.astype(numpy.uint64) * numpy.uint64(pow(_MULTIPLIER, number, 1 << 64))
+    _, firsts, numbers = numpy.unique(hashes, return_index=True, return_inverse=True)
+    if (rows[:, firsts[numbers]] != rows).any():
+        _, firsts, numbers = numpy.unique(rows, axis=1, return_index=True, return_inverse=True)
+    order = numpy.argsort(firsts)
+    places = numpy.empty(len(order), dtype=int)
+    places[order] = numpy.arange(len(order))
+    return places[numbers], firsts[order]

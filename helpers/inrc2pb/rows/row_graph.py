@@ -5,12 +5,12 @@ are open, and what more assignments and weekends would cost. Nodes with the same
 """
 
 from operator import add, itemgetter
-from typing import Callable, Dict, Iterable, List, NamedTuple, Optional, Sequence, Tuple
+from typing import Any, Callable, Dict, Iterable, Iterator, List, NamedTuple, Optional, Sequence, Tuple
 
 from .plan import POINT, WEEK_DAYS, Plan
 from ..week.facts import SHIFTS, WEEKENDS
 from ..week.records import Contract, NurseHistory
-from .row_arrays import Arrays
+from .row_arrays import Arrays, merged, numpy
 from ..judging.rules import ASSIGNMENT_TOTAL, WEEKEND_TOTAL
 from ..judging.runs import NEVER, Runs, RunState
 
@@ -92,12 +92,52 @@ class Graph:
     def __init__(self, runs: Runs, totals: Totals, states: Iterable[RunState], check: Check) -> None:
         self._runs, self._totals, self._check = runs, totals, check
         firsts = list(dict.fromkeys(states))
-        found = self._forward([(state, 0, 0) for state in firsts])
-        classes = self._merged(found)
-        self.starts = {state: classes[index] for index, state in enumerate(firsts)}
-        self.days = found
         self._arcs: List[Tuple[Gather, List[Tuple[Gather, List[int]]]]] = []
-        self.arrays = Arrays.of(found)
+        self.arrays: Optional[Arrays] = None
+        if numpy is None or runs.days == WEEK_DAYS:
+            self.days = self._forward([(state, 0, 0) for state in firsts])
+            classes = self._merged(self.days)
+            if numpy is not None:
+                self.arrays = Arrays([(numpy.array(day.costs), numpy.array(day.heads), numpy.array(day.entered)) for day in self.days])
+        else:
+            arrays = list(self._by_arrays(firsts))
+            classes = merged(arrays, self._check)
+            self.arrays = Arrays(arrays)
+            self.days = [_Day(*(array.tolist() for array in day)) for day in arrays]
+        self.starts = {state: int(classes[index]) for index, state in enumerate(firsts)}
+
+    def _same(self, day: int) -> Tuple[List[int], List[int]]:
+        """For each number of assignments, and of weekends, after a day the least one from which more cost as much."""
+        works, weekends = self._totals
+        left = self._runs.days - day - 1
+        weeks = -(-left // WEEK_DAYS)
+        same_works = _first_with([works[total : total + left] for total in range(day + 2)])
+        return same_works, _first_with([weekends[total : total + weeks] for total in range(day // WEEK_DAYS + 2)])
+
+    def _by_arrays(self, states: List[RunState]) -> Iterator[Tuple[Any, Any, Any]]:
+        """All nodes that are reached, day by day, by NumPy."""
+        runs, works_on = self._runs, (numpy.arange(len(self._runs.shifts)) > 0)[:, None]
+        works, weekends = (numpy.array(costs, dtype=numpy.int64) for costs in self._totals)
+        state, work, rest = numpy.arange(len(states)), numpy.zeros(len(states), dtype=int), numpy.zeros(len(states), dtype=int)
+        before = numpy.array([now.choice for now in states])
+        for day in range(runs.days):
+            self._check()
+            number: Dict[RunState, int] = {}
+            steps = [[(cost, number.setdefault(to, len(number))) for cost, to in runs.steps(day, now)] for now in states]
+            costs, reached = (numpy.array([[step[part] for step in row] for row in steps])[state].T for part in range(2))
+            weekend = (day % WEEK_DAYS == WEEK_DAYS - 1) & (works_on | (before > 0))
+            costs = costs + works_on * works[work] + weekend * weekends[rest]
+            never = costs >= FORBIDDEN
+            same_works, same_weekends = map(numpy.array, self._same(day))
+            shape = len(number), len(same_works), len(same_weekends)
+            keys = numpy.ravel_multi_index((reached, same_works[work + works_on], same_weekends[rest + weekend]), shape)
+            there = numpy.zeros(shape, dtype=bool).ravel()
+            there[keys[~never]] = True
+            heads = numpy.where(never, 0, (numpy.cumsum(there) - 1)[keys])
+            states = list(number)
+            state, work, rest = numpy.unravel_index(numpy.flatnonzero(there), shape)
+            before = numpy.array([now.choice for now in states])[state]
+            yield numpy.where(never, NEVER, POINT * costs), heads, before
 
     def _forward(self, nodes: List[Tuple[RunState, int, int]]) -> List[_Day]:
         """All nodes that are reached, day by day."""
@@ -106,9 +146,7 @@ class Graph:
         for day in range(runs.days):
             self._check()
             later: Dict[Tuple[RunState, int, int], int] = {}
-            left = runs.days - day - 1
-            same_works = _first_with([works[total : total + left] for total in range(day + 2)])
-            same_weekends = _first_with([weekends[total : total - (-left // WEEK_DAYS)] for total in range(day // WEEK_DAYS + 2)])
+            same_works, same_weekends = self._same(day)
             sunday = day % WEEK_DAYS == WEEK_DAYS - 1
             costs: List[List[int]] = [[] for _ in runs.shifts]
             heads: List[List[int]] = [[] for _ in runs.shifts]

@@ -178,9 +178,10 @@ class RowParts:
             search.penalty += STEP
         search.add_roster(own)
         search.begin_at(whole)
+        first, stop = part.days.start, part.days.stop
         for number, nurse in enumerate(part.nurses):
             for row in self._known[nurse]:
-                search.add_row(number, own[number][: part.days.start] + row[part.days.start : part.days.stop] + own[number][part.days.stop :])
+                search.add_row(number, own[number][:first] + row[first:stop] + own[number][stop:])
         try:
             search.generate(clock)
         except NoRow:

@@ -36,8 +36,8 @@ class LinearSolver:
         raise NotImplementedError
 
     def choose(self, model: str, clock: Clock, cutoff: Optional[int], step: int, nodes: int = 0) -> Chosen:
-        """Solves an integer program whose values are multiples of `step`, in at most so many nodes, if that is not 0; only answers of at most
-        the cutoff count."""
+        """Solves an integer program whose values are multiples of `step`, in at most so many nodes, if that is not 0; only answers of at
+        most the cutoff count."""
         raise NotImplementedError
 
     def beside(self, number: int) -> "LinearSolver":

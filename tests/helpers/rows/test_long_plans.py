@@ -33,13 +33,16 @@ BY_NUMPY = """
 import random, sys
 sys.path[:0] = sys.argv[1:]
 import test_long_plans as tests
-from inrc2pb.rows import row_arrays
+from inrc2pb.rows import row_graph
 pricing = tests.month(4)
-assert any(graph.arrays for graph in pricing.graphs)
+assert all(graph.arrays for graph in pricing.graphs)
 found = tests.cheapest(pricing)
-for graph in pricing.graphs:
-    graph.arrays = None
-print(found == tests.cheapest(pricing))
+gains = pricing.crews.gains(tests.random_prices(pricing, 5))
+together = pricing.cheapest_of(range(30), gains)
+row_graph.numpy = None
+plain = tests.month(4)
+assert not any(graph.arrays for graph in plain.graphs)
+print(found == together == tests.cheapest(plain) == plain.cheapest_of(range(30), gains))
 """
 
 
