@@ -102,7 +102,12 @@ install:
 	    install -m 644 "completions/$$name.bash" "$(SHARE)/bash-completion/completions/$$name" || exit; \
 	    install -m 644 "completions/_$$name" "$(ZSH)" || exit; \
 	done
-	install -m 644 completions/*.fish "$(SHARE)/fish/vendor_completions.d"
+	for name in $(COMPLETED); do install -m 644 "completions/$$name.fish" "$(SHARE)/fish/vendor_completions.d" || exit; done
+	install -m 644 completions/_inrc2pb-helpers "$(ZSH)"
+	for helper in $(notdir $(HELPERS)); do \
+	    install -m 644 completions/inrc2pb-helpers.bash "$(SHARE)/bash-completion/completions/$$helper" || exit; \
+	    install -m 644 completions/inrc2pb-helpers.fish "$(SHARE)/fish/vendor_completions.d/$$helper.fish" || exit; \
+	done
 	install -m 644 $(TOP_PAGES) "$(PAGES)"
 	install -m 644 docs/*.md docs/*.svg "$(PAGES)/docs"
 	sed -E -i 's|\[[^]]*\]\(\.\./(crates/[^)]*)\)|`\1`|g' "$(PAGES)"/docs/*.md
@@ -115,8 +120,9 @@ install:
 uninstall:
 	rm -f "$(BIN)/inrc2pb" "$(BIN)/inrc2pb-bound" "$(BIN)/inrc2pb-period-bound" "$(BIN)/inrc2pb-fits" \
 	    $(patsubst man/%,"$(SHARE)/man/man1/%",$(wildcard man/*.1)) \
-	    $(foreach name,$(COMPLETED),"$(SHARE)/bash-completion/completions/$(name)" "$(ZSH)/_$(name)" \
-	    "$(SHARE)/fish/vendor_completions.d/$(name).fish")
+	    $(foreach name,$(COMPLETED) $(notdir $(HELPERS)),"$(SHARE)/bash-completion/completions/$(name)" \
+	    "$(SHARE)/fish/vendor_completions.d/$(name).fish") \
+	    $(foreach name,$(COMPLETED) inrc2pb-helpers,"$(ZSH)/_$(name)")
 	rm -f $(patsubst helpers/%,"$(BIN)/%",$(HELPERS)) $(patsubst helpers/%,"$(SHARE)/man/man1/%.1",$(HELPERS))
 	for page in $(TOP_PAGES) docs/*.md docs/*.svg bench/README.md bench/*.svg; do rm -f "$(PAGES)/$$page"; done
 	find examples -type f ! -name '*.sh' -exec rm -f "$(PAGES)/{}" \;

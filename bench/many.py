@@ -5,7 +5,7 @@
     bench/many.py run LINE              runs the command of a line, and prints its result as a line of JSON
     bench/many.py table RESULTS         prints a table of all results
 
-A line is a command of a shell, such as `inrc2pb-improve $WEEK --time 60 --sol {}/roster.txt` with a week's files. It
+A line is a command of a shell, such as `inrc2pb-improve $WEEK --time 60 --seed 1 --sol {}/roster.txt` with a week's files. It
 runs in this clone's folder, which may be on another machine, with the clone's helpers first in PATH, and {} is an empty folder of
 its own. bench/many.sh and bench/many_slurm.sh run the lines that are left, by GNU parallel and by Slurm.
 """
@@ -30,7 +30,7 @@ PENALTY = re.compile(r"^(?:penalty|period) +([0-9]+)\b", re.MULTILINE)
 BOUND = re.compile(r"^lower bound ([0-9]+)\b", re.MULTILINE)
 # The shell reports with greater statuses that a signal ended a command: the line is still to be run.
 LAST_STATUS = 127
-HIDDEN = ("--sce", "--his", "--sol", "--out", "--rand", "--cusOut")
+HIDDEN = ("--sce", "--his", "--sol", "--out", "--seed", "--rand", "--cusOut")
 
 
 class Result(NamedTuple):

@@ -145,8 +145,8 @@ installs_package() {
     has_line "Depends: libc6 (>= $(sed -n 's/^libc: \([0-9.]*\).*/\1/p' "$pages/PROVED")), python3 (>= 3.8)"
     has_line 'Recommends: clasp, coinor-cbc'
     begins_case 'dpkg --remove'
-    mkdir -p "$room/root/usr/share/inrc2pb/inrc2pb/__pycache__"
-    touch "$room/root/usr/share/inrc2pb/inrc2pb/__pycache__/files.pyc"
+    mkdir -p "$room"/root/usr/share/inrc2pb/inrc2pb/{,week/}__pycache__
+    touch "$room"/root/usr/share/inrc2pb/inrc2pb/{,week/}__pycache__/files.pyc
     by_dpkg --remove inrc2pb
     [ -z "$(find "$room/root" -path '*/usr/*' -type f)" ] || complain "left: $(find "$room/root" -path '*/usr/*' -type f | head -n 3)"
 }

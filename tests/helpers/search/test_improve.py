@@ -259,7 +259,7 @@ class Stops(HelperTest):
         slow = self.slow_to_encode(running)
         for start, status, says in ((("--from", ROSTER), 0, "penalty 20\n"), ((), 5, "")):
             with self.subTest(start):
-                ran = self.stopped(running, "--sol", self.folder / "best.txt", "--solver", "true", *start, environment=slow)
+                ran = self.stopped(running, "--sol", self.folder / f"best-{status}.txt", "--solver", "true", *start, environment=slow)
                 self.assertEqual(ran[0], status)
                 self.assertIn(says, ran[1])
             running.unlink(missing_ok=True)
