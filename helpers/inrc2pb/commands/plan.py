@@ -22,13 +22,13 @@ from ..week.slots import did_you_mean
 from .command import check_seconds, number_of_seconds, parser
 from .ward import ward_files, ward_name
 
-# Absences that count as work; `away` does not.
-CREDITED = tuple(word for word in AWAY if word != "away")
+# The reasons of absences that count as work.
+CREDITED = tuple(word for word in AWAY if word not in ("away", "unpaid"))
 # What each verb does, in the order of the help. Those that only read need no lock.
 VERBS = {
     "check": "read the spreadsheet, say what is wrong, and tell the ward in sentences",
     "plan [DAY]": "plan the weeks that are not over, from this day on",
-    "ill NAME DAY [DAY]": "she is ill from the first to the last day: a plan with few changes; also leave, training, away",
+    "ill NAME DAY [DAY]": "she is ill from the first to the last day: a plan with few changes; also leave, unpaid, training, away",
     "back NAME DAY": "she is back from this day on",
     "swap NAME DAY [NAME [DAY]]": "what a swap costs, which rule it breaks, and who else could swap; --do writes it",
     "over [NAME DAY SHIFT ..]": "the first week is over, as planned or with these shifts (or off); after the last one a new period begins",

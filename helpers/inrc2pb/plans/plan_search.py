@@ -1,25 +1,23 @@
 """A search for the weeks of a ward's plan that are not over. Days that are over stay as they are."""
 
 import tempfile
-from dataclasses import replace
 from pathlib import Path
-from typing import Collection, List, NamedTuple, Sequence
+from typing import Iterator, List, NamedTuple, Sequence
 
-from ..judging.absences import MARK, absences_of, wishes_of
 from ..programs.clock import Clock
 from ..programs.interrupts import interrupts
 from ..programs.progress import Progress
 from ..search.period_search import PeriodSearch
 from ..search.planned_weeks import PeriodFiles, PlannedWeeks, history_name
-from ..week.facts import Charged, facts_text
+from ..week.facts import Choice, Claim, Fact, facts_text
 from ..week.faults import FileFault, fault_line
 from ..week.files import history_text, solution_text, week_text
-from ..week.records import Cell, Request, Solution, WeekData
+from ..week.records import Cell, Solution, WeekData
 from ..week.writing import write_text
 from .few_changes import with_few_changes
 from .plan_days import WEEK_DAYS
 from .skill_labels import with_old_skills
-from .ward_plan import WardPlan
+from .ward_plan import FACTS, WardPlan
 
 
 class Asked(NamedTuple):
@@ -69,35 +67,41 @@ def _weeks(files: PeriodFiles) -> PlannedWeeks:
 
 def _files(old: WardPlan, asked: Asked, folder: Path) -> PeriodFiles:
     """The files of a search, in this folder."""
+    history, given = folder / history_name(old.open_week), folder / FACTS
     write_text(folder / "ward.txt", old.sheet.texts["ward.txt"])
-    history = folder / history_name(old.open_week)
     write_text(history, history_text(old.histories[old.open_week]))
+    write_text(given, facts_text(old.scenario.name, [*_later_claims(old, asked.first), *_past_claims(old, asked.first)]))
     weeks, fixes = [], {}
     for number in old.weeks:
-        data, held = _week(old, number, asked)
+        first = asked.first - WEEK_DAYS * number
         path, fixes[number] = folder / f"week-{number}.txt", folder / f"fix-{number}.txt"
-        write_text(path, week_text(data))
+        write_text(path, week_text(_week(old, number, range(max(first, 0), WEEK_DAYS if asked.few_changes else 0))))
+        cells = old.rosters.get(number, ())
+        held = [*(cell for cell in old.held[number] if cell.day >= first), *(cell for cell in cells if cell.day < first)]
         write_text(fixes[number], solution_text(Solution(number, old.scenario.name, tuple(held))))
         weeks.append(path)
-    # The absences are in the weeks' files.
-    limits = [claim for claim in old.claims if isinstance(claim.fact, Charged)]
-    write_text(folder / "limits.txt", facts_text(old.scenario.name, limits))
-    return PeriodFiles(folder / "ward.txt", history, weeks, fixes, given=folder / "limits.txt")
+    return PeriodFiles(folder / "ward.txt", history, weeks, fixes, given=given)
 
 
-def _week(old: WardPlan, number: int, asked: Asked) -> "tuple[WeekData, List[Cell]]":
-    """The file of a week, and its held shifts: all those of the days that are over."""
-    cells, first = old.rosters.get(number, ()), asked.first - WEEK_DAYS * number
-    data = _with_past(old.data[number], [nurse for nurse in old.scenario.nurses], cells, range(min(max(first, 0), WEEK_DAYS)))
-    if asked.few_changes and number in old.rosters:
-        data = with_few_changes(old.scenario, data, cells, range(max(first, 0), WEEK_DAYS))
-    held = [cell for cell in old.held[number] if cell.day >= first] + [cell for cell in cells if cell.day < first]
-    return data, held
+def _week(old: WardPlan, number: int, softly: range) -> WeekData:
+    """The file of a week. On these days few shifts change."""
+    if number not in old.rosters:
+        return old.data[number]
+    return with_few_changes(old.scenario, old.data[number], old.rosters[number], softly)
 
 
-def _with_past(data: WeekData, nurses: Collection[str], cells: Sequence[Cell], past: range) -> WeekData:
-    """The week's file in which whoever was off on these days is away, and nobody else."""
-    works = {(cell.nurse, cell.day) for cell in cells}
-    off = [Request(nurse, None, day) for nurse in nurses for day in past if (nurse, day) not in works]
-    away = [Request(one.nurse, one.shift, one.day) for one in absences_of(data) if one.day not in past]
-    return replace(data, requests=(*wishes_of(data), *(request for request in [*off, *away] for _ in range(MARK))))
+def _later_claims(old: WardPlan, first: int) -> List[Claim]:
+    """What plans keep, but for absences before this day."""
+
+    def is_past(fact: Fact) -> bool:
+        return isinstance(fact, Choice) and WEEK_DAYS * (fact.week - 1) + fact.day < first
+
+    return [claim for claim in old.claims if not is_past(claim.fact)]
+
+
+def _past_claims(old: WardPlan, first: int) -> Iterator[Claim]:
+    """That whoever was off before this day, in the weeks that are not over, stays off."""
+    works = {(cell.nurse, cell.day) for cell in old.cells()}
+    for day in range(old.first, first):
+        off = (nurse for nurse in old.scenario.nurses if (nurse, day) not in works)
+        yield from (Claim(Choice(day // WEEK_DAYS + 1, nurse, day % WEEK_DAYS, None)) for nurse in off)

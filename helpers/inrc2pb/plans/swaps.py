@@ -1,11 +1,13 @@
 """Swaps of two nurses: on each day of a swap they have each other's shifts, so each place keeps its number of nurses."""
 
+from dataclasses import replace
 from typing import Dict, Iterator, List, NamedTuple, Optional, Sequence, Tuple
 
 from ..judging.absences import absences_of, is_broken_by, readable
+from ..judging.limits import exceeded, excess, limits_in_words
 from ..judging.next_history import next_nurse_history
-from ..judging.rules import Shifts, nurse_charges, requests_by_nurse
-from ..week.records import Cell, History, Request, Week
+from ..judging.rules import Charge, costs
+from ..week.records import Cell, History, Week, WeekData
 from .plan_days import WEEK_DAYS
 from .ward_plan import WardPlan
 
@@ -31,6 +33,12 @@ def swapped(cells: Sequence[Cell], swap: Swap) -> List[Cell]:
     return [cell._replace(nurse=others.get(cell.nurse, cell.nurse)) if cell.day in swap.days else cell for cell in cells]
 
 
+def _of_nurse(data: WeekData, nurse: str) -> WeekData:
+    """What a week's file has about one nurse."""
+    requests = tuple(request for request in data.requests if request.nurse == nurse)
+    return replace(data, requirements={}, requests=requests, limits=frozenset(limit for limit in data.limits if limit.nurse == nurse))
+
+
 class Swaps:
     """The swaps in a plan, judged by its rules."""
 
@@ -39,7 +47,7 @@ class Swaps:
         self._cells: Dict[str, Dict[int, Cell]] = {nurse: {} for nurse in plan.scenario.nurses}
         for cell in plan.cells():
             self._cells[cell.nurse][cell.day] = cell
-        self._requests: Dict[int, Dict[str, List[Request]]] = {number: requests_by_nurse(plan.week(number)) for number in plan.weeks}
+        self._data = {(nurse, number): _of_nurse(plan.data[number], nurse) for nurse in self._cells for number in plan.weeks}
         self._away = {number: absences_of(plan.data[number]) for number in plan.weeks}
         self._held = {(cell.nurse, WEEK_DAYS * number + cell.day) for number in plan.weeks for cell in plan.held[number]}
         self._costs = {nurse: self._cost(nurse, cells) for nurse, cells in self._cells.items()}
@@ -78,17 +86,23 @@ class Swaps:
             if same is None:
                 yield from (Swap(nurse, other, (day, back)) for back in cells if back not in self._cells[nurse])
 
-    def _cost(self, nurse: str, cells: Dict[int, Cell]) -> int:
-        """What the nurse is charged for these assignments in all weeks that are not over."""
-        plan, cost = self._plan, 0
+    def _weeks(self, nurse: str, cells: Dict[int, Cell]) -> Iterator[Tuple[Week, List[Cell]]]:
+        """Each week that is not over, as if the ward had this nurse alone and needed nobody, with her assignments."""
+        plan = self._plan
+        scenario = replace(plan.scenario, nurses={nurse: plan.scenario.nurses[nurse]})
         past = plan.histories[plan.open_week].nurses[nurse]
         for number in plan.weeks:
-            shifts = {cell.day % WEEK_DAYS: cell.shift for cell in cells.values() if cell.day // WEEK_DAYS == number}
-            week = Week(plan.scenario, History(number, plan.scenario.name, {nurse: past}), plan.data[number])
-            on_days: Shifts = {(nurse, day): [shifts[day]] if day in shifts else [] for day in range(WEEK_DAYS)}
-            cost += sum(charge.cost for charge in nurse_charges(week, on_days, self._requests[number][nurse], nurse))
-            past = next_nurse_history(past, shifts)
-        return cost
+            of_week = [cell._replace(day=day % WEEK_DAYS) for day, cell in cells.items() if day // WEEK_DAYS == number]
+            yield Week(scenario, History(number, scenario.name, {nurse: past}), self._data[nurse, number]), of_week
+            past = next_nurse_history(past, {cell.day: cell.shift for cell in of_week})
+
+    def _cost(self, nurse: str, cells: Dict[int, Cell]) -> int:
+        """What the nurse is charged for these assignments in all weeks that are not over."""
+        return sum(sum(costs(week, of_week).values()) for week, of_week in self._weeks(nurse, cells))
+
+    def _above(self, nurse: str, cells: Dict[int, Cell]) -> List[Charge]:
+        """What these assignments of the nurse have above limits that hold."""
+        return [charge for week, of_week in self._weeks(nurse, cells) for charge in exceeded(week, week.data.limits, of_week)]
 
     def _faults(self, nurse: str, cells: Dict[int, Cell], days: Sequence[int]) -> Iterator[str]:
         """Why the nurse cannot have these assignments, of which those on these days are new."""

@@ -7,6 +7,7 @@ from pathlib import Path
 from typing import Callable, List, NamedTuple, Optional, Sequence, Tuple
 
 from ..judging.absences import absences_of, in_words, joined, readable, working_while_away
+from ..judging.limits import exceeded, limits_in_words, limits_way_out
 from ..judging.next_history import next_history
 from ..programs.interrupts import interrupts
 from ..programs.progress import Progress
@@ -128,7 +129,7 @@ class Verbs:
         # A second Ctrl-C does not end it before the plan is written.
         with interrupts():
             found = search_plan(old, asked, self._means.progress)
-            lines = self._broken(found.plan)
+            lines = self._not_kept(found.plan)
             if old.is_planned:
                 lines += _changes(shift_changes(old.cells(), found.plan.cells()), old.days, absent)
             lines += self._costs(found.plan)
@@ -136,15 +137,19 @@ class Verbs:
             lines += ["stopped: this is the best plan until then"] * found.stopped
             return [*lines, *self._save(verb, found.plan, old if old.is_planned else None)]
 
-    def _broken(self, plan: WardPlan) -> List[str]:
-        """Who works while she is away, and what would help."""
+    def _not_kept(self, plan: WardPlan) -> List[str]:
+        """Who works while she is away, or above a limit that holds, and what would help."""
         lines = []
         for number in plan.weeks:
-            broken = working_while_away(absences_of(plan.data[number]), plan.rosters[number])
+            cells, week = plan.rosters[number], plan.week(number)
+            broken, over = working_while_away(absences_of(week.data), cells), exceeded(week, week.data.limits, cells)
             if broken:
                 skills = joined(dict.fromkeys(readable(cell.skill) for cell in broken))
                 lines.append(f"week {number}: no plan was found that keeps every absence: {in_words(broken)}")
                 lines.append(f"week {number}: lower the minimum of {skills} in the sheet needs, or give someone the skill")
+            if over:
+                lines.append(f"week {number}: no plan was found that keeps every limit: {limits_in_words(over)}")
+                lines.append(f"week {number}: {limits_way_out(week, over, cells)}")
         return lines
 
     def away(self, word: str, words: Sequence[str], seconds: Optional[float]) -> List[str]:

@@ -15,6 +15,7 @@ from ..week.facts import Claim
 from ..week.faults import Misuse
 from ..week.hints import plural
 from ..week.files import history_text, read_history, read_scenario, read_solution, read_week, solution_text, write_solution
+from ..week.reasons import read_reasons
 from ..week.records import Cell, History, Scenario, Solution, Week, WeekData
 from ..week.writing import write_text
 from . import record
@@ -23,7 +24,7 @@ from .record import Record, read_record
 from .told_absences import Told, read_told, told_text
 from .told_absences import NAME as ABSENCES
 
-START = "start.txt"
+START, FACTS, REASONS = "start.txt", "facts.txt", "reasons.txt"
 Cells = Tuple[Cell, ...]
 
 
@@ -98,15 +99,15 @@ class WardPlan:
 
     @cached_property
     def claims(self) -> Tuple[Claim, ...]:
-        """The absences and the limits that hold."""
-        return read_given("facts.txt", self.scenario, self.sheet.texts["facts.txt"])
+        """The absences and the limits that hold, as facts."""
+        return read_given(FACTS, self.scenario, self.sheet.texts[FACTS])
 
     @cached_property
     def data(self) -> List[WeekData]:
-        """The weeks' files, with what they are asked to keep."""
+        """The weeks' files, with their absences and limits."""
         names = [f"week-{number}.txt" for number in range(self.days.weeks)]
-        read = [read_week(name, self.scenario, self.sheet.texts[name]) for name in names]
-        return [with_given(self.scenario, data, self.claims, number) for number, data in enumerate(read)]
+        weeks = [read_week(name, self.scenario, self.sheet.texts[name]) for name in names]
+        return [with_given(self.scenario, week, self.claims, number) for number, week in enumerate(weeks)]
 
     @cached_property
     def held(self) -> List[Cells]:
@@ -145,7 +146,12 @@ class WardPlan:
 
     def view(self) -> RosterView:
         """The weeks that are not over, to be shown."""
-        weeks = [WeekView(number, self.rosters[number], self.data[number], self.week(number), self.held[number]) for number in self.weeks]
+        reasons = read_reasons(REASONS, self.scenario, self.sheet.texts[REASONS])
+        weeks = []
+        for number in self.weeks:
+            why = {(away.nurse, away.day): word for away, word in reasons.items() if away.week == number + 1}
+            view = WeekView(number, self.rosters[number], self.data[number], self.week(number), self.held[number], reasons=why)
+            weeks.append(view)
         scenario = self.scenario
         return RosterView(scenario.name, list(scenario.nurses), list(scenario.shift_types), list(scenario.skills), weeks)
 
