@@ -165,6 +165,7 @@ module _ (t : ScenarioTables) (weeks prices all : ℕ) where
     pub leaves : tree.leaves ≤ tree.splits + 1
     pub closed : (tree.leaves ≤ tree.splits) ⊎ (tree.leaves ≡ all)
     pub open_now : open_tables 1 tree.nodes ≡ Some (tree.splits + 1 - tree.leaves)
+    pub size : length tree.nodes ≡ tree.splits + tree.leaves
     pub nodes : AllByRecursion (IsNode t weeks prices) tree.nodes
 
   -- a subtree is still to come
@@ -192,6 +193,7 @@ module _ (t : ScenarioTables) (weeks prices all : ℕ) where
         leaves = omega (arith, few);
         closed = inl few;
         open_now = next_open (suc n) tree part le (split_by one ∷ []) ∙ ap Some same;
+        size = length_push tree.nodes (split_by one) (tree.splits + tree.leaves) part.size ∙ omega arith;
         nodes = all_push (IsNode t weeks prices) tree.nodes (split_by one) part.nodes is;
       }
 
@@ -208,6 +210,7 @@ module _ (t : ScenarioTables) (weeks prices all : ℕ) where
         leaves = omega (arith, le);
         closed = next may;
         open_now = next_open (suc n) tree part le (leaf_with number surcharges ∷ []) ∙ ap Some same;
+        size = length_push tree.nodes (leaf_with number surcharges) (tree.splits + tree.leaves) part.size ∙ omega arith;
         nodes = all_push (IsNode t weeks prices) tree.nodes (leaf_with number surcharges) part.nodes is;
       }
     where
@@ -252,7 +255,7 @@ module _ (t : ScenarioTables) (weeks prices all : ℕ) where
   -- all nodes of the file
   pub tree-whole : (front : List Token) (last : TreeTables) → 1 ≤ prices → 1 ≤ all →
       Fills (repeat (2 * all - 1) (node_row t weeks prices all) no_nodes) front last →
-      (open_tables 1 last.nodes ≡ Some 0) × AllByRecursion (IsNode t weeks prices) last.nodes
+      (open_tables 1 last.nodes ≡ Some 0) × AllByRecursion (IsNode t weeks prices) last.nodes × (length last.nodes ≤ 2 * all)
   tree-whole front last some leaves h =
       let start : IsPart (2 * all - 1) no_nodes = record {
         count = omega arith;
@@ -260,6 +263,7 @@ module _ (t : ScenarioTables) (weeks prices all : ℕ) where
         leaves = omega arith;
         closed = inl (omega arith);
         open_now = refl;
+        size = refl;
         nodes = tt;
       } in
       let part = node_rows-keep (2 * all - 1) no_nodes front last some h start in
@@ -267,7 +271,7 @@ module _ (t : ScenarioTables) (weeks prices all : ℕ) where
       let splits = part.splits in
       let few = part.leaves in
       let none : last.splits + 1 - last.leaves ≡ 0 = omega arith in
-      (part.open_now ∙ ap Some none, part.nodes)
+      (part.open_now ∙ ap Some none, part.nodes, omega (arith, part.size, splits, few))
 
 -- ---- the whole file
 
@@ -281,6 +285,7 @@ record AreFor (week : InstanceTables) (weeks : ℕ) (tables : CertificateTables)
   pub prices : AllByRecursion (IsTables week weeks) tables.prices
   pub nodes : AllByRecursion (IsNode week.scenario weeks (length tables.prices)) tables.nodes
   pub tree : open_tables 1 tables.nodes ≡ Some 0
+  pub count : length tables.nodes ≤ 2 * max_number
 
 spelled-are : (week : InstanceTables) (weeks : ℕ) (text : List ℕ) (tables : CertificateTables) →
     Spells (certificate week.scenario weeks) text tables → AreFor week weeks tables
@@ -292,14 +297,15 @@ spelled-are week weeks text tables h =
     let leaves = prices.5 in
     let tree = leaves.5 in
     let some = (setting-within (codes "PRICES") 1 max_number count.1 count.0 count.4).0 in
-    let any = (setting-within (codes "LEAVES") 1 max_number leaves.1 leaves.0 leaves.4).0 in
+    let within = setting-within (codes "LEAVES") 1 max_number leaves.1 leaves.0 leaves.4 in
     let lists = list_rows-keep week weeks count.0 0 [] prices.1 prices.0 prices.4 refl tt in
-    let whole = tree-whole week.scenario weeks count.0 leaves.0 tree.1 tree.0 some any tree.4 in
+    let whole = tree-whole week.scenario weeks count.0 leaves.0 tree.1 tree.0 some within.0 tree.4 in
     let size : count.0 ≡ length prices.0 = omega (arith, lists.0) in
     rw tree.5.1 (record {
       prices = lists.1;
       nodes = subst (λ n. AllByRecursion (IsNode week.scenario weeks n) tree.0.nodes) size whole.1;
       tree = whole.0;
+      count = omega (arith, whole.2, within.1);
     })
 
 node-is : (week : InstanceTables) (weeks prices : ℕ) (one : Node) → IsNode week.scenario weeks prices (node_of one) →
@@ -322,6 +328,7 @@ certificate-read t weeks text found h = record {
             (IsNodeFor (numbers_of week.scenario) weeks (length found.prices.items)) node_of
             (node-is week weeks (length found.prices.items)) found.nodes.items listed;
         tree = open-same 1 found.nodes.items ∙ are.tree;
+        count = omega (arith, are.count, length-map found.nodes.items node_of);
       };
 }
 

@@ -1,7 +1,8 @@
 //! Reads facts about a plan, and a facts' file.
 
-ghost use Rattle.std.specs.Prelude.{◌≡◌, [], IfOk, IfErr};
+ghost use Rattle.std.specs.Prelude.{◌≡◌, ◌≤◌, [], length, IfOk, IfErr};
 ghost use Rattle.rota_core.specs.Certificates.{AreConditionsFor};
+ghost use Rattle.rota_core.specs.Limits.{max_number};
 ghost use Rattle.rota_core.specs.ScenarioTables.{numbers_of};
 ghost use Rattle.rota_core.specs.declared.fault.FileName.TheVariants as files;
 ghost use Rattle.rota_read.specs.FileAnswers.{IsFaultOf};
@@ -245,6 +246,7 @@ pub fn read_facts(
     text: &[u8],
 ) -> Result<Vec<Condition>, FileFault>
     ensures spelled { IfOk result (λ v. Spells (facts scenario.now weeks) text.now v.items) }
+    ensures few { IfOk result (λ v. length v.items ≤ max_number) }
     ensures shape { IfOk result (λ v. AreConditionsFor (numbers_of scenario.now) weeks v.items) }
     ensures fault { IfErr result (IsFaultOf files.Facts (facts scenario.now weeks) text.now) }
 {
