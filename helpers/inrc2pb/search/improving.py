@@ -11,7 +11,7 @@ from ..judging.absences import in_words, way_out
 from ..judging.given import read_given, with_given
 from ..judging.limits import limits_in_words, limits_way_out
 from .best_roster import BestRoster
-from .bounds import CASES, PROVER
+from .bounds import CASES, PLAIN, PROVER
 from ..programs.clock import Clock
 from ..week.faults import Misuse, ProgramFault
 from ..week.files import read_files
@@ -41,6 +41,7 @@ class SearchResult:
         self.report = report
         self.breaks = bool(best.breaks())
         self.exceeds = bool(best.exceeds())
+        self.kept_bound = 0 if self.breaks or self.exceeds else search.kept_bound
         self.bound = search.bound.points if search.bound else None
         self.bound_by = search.bound.by if search.bound else ""
         # The file that has cases in place of prices, if any.
@@ -57,7 +58,9 @@ class SearchResult:
     def _bound_lines(self) -> List[str]:
         if self.bound is None:
             return ["no lower bound"]
-        line = f"lower bound {self.bound} ({self.bound_by})"
+        line, best = f"lower bound {self.bound} ({self.bound_by})", max(self.bound, self.kept_bound)
+        if best > self.bound:
+            line += f", {best} with all absences and limits ({PLAIN})"
         if self.proved and self.breaks:
             return [line, "no roster costs less, but this one breaks an absence"]
         if self.proved and self.exceeds:
@@ -68,11 +71,12 @@ class SearchResult:
             return [line, f"no roster costs less, says {self.claimed_by}{only}"]
         if self.proved:
             return [line, "no roster costs less" + (", proved" if self.bound_by == PROVER else "")]
+        if best >= self.report.penalty:
+            return [line, "no roster that keeps all absences and limits costs less"]
         if self.claimed_by:
             says = f"no roster that keeps all absences and limits costs less, says {self.claimed_by}"
             return [line, f"{says}; without that only the lower bound is known"]
-        gap = self.report.penalty - self.bound
-        return [f"{line}: the gap is {gap}, {gap_share(self.report.penalty, self.bound)}"]
+        return [f"{line}: the gap is {self.report.penalty - best}, {gap_share(self.report.penalty, best)}"]
 
 
 def improve(

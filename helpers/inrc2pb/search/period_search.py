@@ -4,7 +4,7 @@ import tempfile
 from pathlib import Path
 from typing import Callable, List, Optional, Sequence, Tuple
 
-from .bounds import PERIOD_PROVER, Bound
+from .bounds import PERIOD_PROVER, PLAIN, Bound
 from ..programs.clock import Clock
 from ..week.faults import ProgramFault
 from ..week.records import Cell
@@ -54,6 +54,8 @@ class PeriodSearch:
         self._cells: Sequence[Cell] = ()
         # How much of the absences and limits the best plan does not keep, and its penalty: a smaller rank is better.
         self._rank: Optional[Tuple[int, int, int]] = None
+        # What no plan that keeps all absences and limits costs less than, by plain Python.
+        self._kept_bound = 0
 
     def interrupt(self) -> None:
         """Ends the search now: the best plan was kept."""
@@ -127,6 +129,8 @@ class PeriodSearch:
             # With absences and limits it is a bound of the plans that keep them.
             if not plan.asks:
                 self._progress.bound_rose(run.search.lower_bound)
+            elif plan.keeping == STRICT:
+                self._kept_bound = max(self._kept_bound, run.search.lower_bound)
 
         run = RowRun(plan, solver, self._clock, offer, heard, self._first(plan, solver), self._seed)
         run.run()
@@ -191,4 +195,9 @@ class PeriodSearch:
         bound = f"lower bound {self.bound.points} of the sum ({self.bound.by})"
         if self.penalty <= self.bound.points:
             return f"{bound}: no plan costs less" + (", proved" if self.bound.by == PERIOD_PROVER else "")
-        return f"{bound}: the gap is {self.penalty - self.bound.points}, {gap_share(self.penalty, self.bound.points)}"
+        best = self.bound.points
+        if self._rank and not any(self._rank[:2]) and self._kept_bound > best:
+            best, bound = self._kept_bound, f"{bound}, {self._kept_bound} with all absences and limits ({PLAIN})"
+        if self.penalty <= best:
+            return f"{bound}: no plan that keeps them costs less"
+        return f"{bound}: the gap is {self.penalty - best}, {gap_share(self.penalty, best)}"

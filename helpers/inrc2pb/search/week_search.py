@@ -11,7 +11,7 @@ from ..week.faults import Misuse, ProgramFault, page
 from ..week.files import read_solution
 from ..week.records import Cell, Week
 from ..solvers.linear_solvers import INSTALL, LinearSolvers, installed
-from ..rows.plan import Plan
+from ..rows.plan import STRICT, Plan
 from ..rows.pricing import NurseWeek, plain_bound
 from ..programs.processes import Processes
 from ..programs.program import BROKEN_RULE, FAULT, NO_ROSTER, WeekFiles, decode
@@ -37,6 +37,8 @@ class WeekSearch:
         # limits.
         self.claimed_by = ""
         self.claims_kept = False
+        # What no roster that keeps them costs less than, by plain Python.
+        self.kept_bound = 0
 
     def interrupt(self) -> None:
         """Ends the search as the user asks: now, or as soon as a solver of the user has printed what it has."""
@@ -109,6 +111,8 @@ class WeekSearch:
         search = run.search
         if search and search.lower_bound is not None:
             lower, prices, pricing = search.lower_bound, search.prices, search.pricing
+            if pricing.plan.asks and pricing.plan.keeping == STRICT:
+                self.kept_bound = max(self.kept_bound, lower)
             bound = bounds.of(prices, lambda: plain_bound(pricing.free(), prices) if pricing.plan.asks else lower)
             cases = run.cases
             if cases:

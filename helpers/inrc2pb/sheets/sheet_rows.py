@@ -59,8 +59,11 @@ class SheetCell(NamedTuple):
         if not self.text and default is not None:
             return default
         added = SUM.fullmatch(self.text)
-        if added and not pair:
-            return self._replace(text=str(int(added[1]) + int(added[2]))).number(default, most)
+        if added:
+            total = int(added[1]) + int(added[2])
+            if pair:
+                self.fault(f"'{self.text}' is a sum: write {self.text[1:]} without the sign =, or {total}")
+            return self._replace(text=str(total)).number(default, most)
         digits = re.sub(r"[.,](?!000$)0*$", "", self.text)
         if not re.fullmatch("[0-9]{1,9}", digits):
             if not self.text:
@@ -77,8 +80,6 @@ class SheetCell(NamedTuple):
         thousands = re.fullmatch(r"([0-9]+)[.,]000", self.text)
         if thousands:
             return f"write {thousands[1]} or {thousands[1]}000"
-        if SUM.fullmatch(self.text):
-            return f"this formula is a sum: without its sign {self.text[1:]} has a minimum and more"
         if re.fullmatch("[oO0-9]+", self.text):
             return "write the digit 0"
         if self.text.endswith(KEPT):

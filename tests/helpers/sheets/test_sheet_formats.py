@@ -152,7 +152,7 @@ class Formats(HelperTest):
             ("=A1+1", "the value of the formula =A1+1 is not in the file: open the file in a spreadsheet program, and save it again, or write the value"),
             ("#REF!", "a formula has the fault #REF!: correct it, or write its value in its place"),
             ("Err:502", "a formula has the fault Err:502: correct it, or write its value in its place"),
-            ("=2+1", "'=2+1' is no whole number: this formula is a sum: without its sign 2+1 has a minimum and more"),
+            ("=2+1", "'=2+1' is a sum: write 2+1 without the sign =, or 3"),
         ):
             with self.subTest(text), self.assertRaises(FileFault) as caught:
                 texts(changed("needs", 2, 3, text))
