@@ -13,7 +13,7 @@ from ..programs.interrupts import interrupts
 from ..programs.progress import Progress
 from ..shown.telling import held_sentences, history_sentences, scenario_sentences, week_sentences
 from ..shown.why import breach_lines, change_lines as cost_lines
-from ..week.faults import Misuse
+from ..week.faults import Misuse, fault_line
 from ..week.hints import plural
 from ..week.records import Cell
 from . import pages
@@ -78,12 +78,13 @@ class Verbs:
         return self._pages(plan, old)
 
     def _pages(self, plan: WardPlan, old: Optional[WardPlan] = None) -> List[str]:
-        if not plan.is_planned or not plan.weeks:
+        if not plan.is_planned:
             return []
-        written = [
-            pages.write_roster_page(self._folder.top, plan, old),
-            *(pages.write_all(self._folder.top, plan) if plan.published else ()),
-        ]
+        top = self._folder.top
+        try:
+            written = [pages.write_roster_page(top, plan, old), *(pages.write_all(top, plan) if plan.published else ())]
+        except OSError as fault:
+            return [f"the plan holds, but its pages are not written: {fault_line(fault)}"]
         return [f"written: {', '.join(map(str, written))}"]
 
     def _costs(self, plan: WardPlan) -> List[str]:

@@ -59,8 +59,10 @@ class WardFolder:
                 write_text(new / name, text)
             os.chmod(new, 0o777 & ~_umask_of(self.plans))
             os.rename(new, target)
-        except BaseException:
+        except BaseException as fault:
             shutil.rmtree(new, ignore_errors=True)
+            if isinstance(fault, OSError):
+                fault.filename = str(target)
             raise
         return target
 
