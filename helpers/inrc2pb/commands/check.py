@@ -155,7 +155,7 @@ class Check:
         for row in working_while_away(absences_of(week.data), cells):
             self.mistake(f"{roster}: {row.nurse} works {row.shift} on {DAYS[row.day]}, and is away")
         for charge in exceeded(week, week.data.limits, cells):
-            self.mistake(f"{roster}: {limits_in_words([charge])}, and this limit holds")
+            self.mistake(f"{roster}: {limits_in_words([charge], cells)}, and this limit holds")
 
 
 def _said(fault: ProgramFault) -> str:

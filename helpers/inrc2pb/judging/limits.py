@@ -6,7 +6,7 @@ from ..week.facts import SHIFTS, WEEKENDS, WORK_DAYS
 from ..week.hints import plural
 from ..week.records import DAYS, Cell, KeptLimit, Week
 from .absences import joined, readable
-from .rules import Charge, charges
+from .rules import SATURDAY, Charge, charges
 
 # The charges of each kind, by their rule and what they charge.
 _KINDS = {("S2", "work above"): WORK_DAYS, ("S6", "above"): SHIFTS, ("S7", "above"): WEEKENDS}
@@ -30,19 +30,20 @@ def excess(charged: Iterable[Charge]) -> int:
     return sum(charge.times for charge in charged)
 
 
-def limits_in_words(charged: Iterable[Charge]) -> str:
-    """Who exceeds which limit, as `Amara has 6 days of work in a row, Tue to Sun, of at most 5`."""
-    return ", ".join(map(_in_words, charged))
+def limits_in_words(charged: Iterable[Charge], cells: Sequence[Cell]) -> str:
+    """Who exceeds which limit with these assignments, as `Amara has 6 days of work in a row, Tue to Sun, of at most 5`."""
+    return ", ".join(_in_words(charge, sorted({cell.day for cell in cells if cell.nurse == charge.nurse})) for charge in charged)
 
 
-def _in_words(charge: Charge) -> str:
+def _in_words(charge: Charge, worked: Sequence[int]) -> str:
+    """The same of one limit. The shifts above are the last of the days on which the nurse works."""
     nurse = readable(charge.nurse or "")
     if charge.rule == "S2":
         first, last = charge.days or (0, 0)
         days = f", to {DAYS[last]}," if charge.before else f", {DAYS[first]} to {DAYS[last]},"
         return f"{nurse} has {plural(charge.number, 'day')} of work in a row{days} of at most {charge.limit}"
-    what = "shift" if charge.rule == "S6" else "weekend"
-    return f"{nurse} has {plural(charge.number, what)} of at most {charge.limit}"
+    what, above = ("shift", worked[-charge.times :]) if charge.rule == "S6" else ("weekend", [day for day in worked if day >= SATURDAY])
+    return f"{nurse} has {plural(charge.number, what)} of at most {charge.limit}, above on {joined(DAYS[day] for day in above)}"
 
 
 def limits_way_out(week: Week, charged: Sequence[Charge], cells: Sequence[Cell]) -> str:

@@ -149,7 +149,7 @@ class Verbs:
                 lines.append(f"week {number}: no plan was found that keeps every absence: {in_words(broken)}")
                 lines.append(f"week {number}: lower the minimum of {skills} in the sheet needs, or give someone the skill")
             if over:
-                lines.append(f"week {number}: no plan was found that keeps every limit: {limits_in_words(over)}")
+                lines.append(f"week {number}: no plan was found that keeps every limit: {limits_in_words(over, cells)}")
                 lines.append(f"week {number}: {limits_way_out(week, over, cells)}")
         return lines
 

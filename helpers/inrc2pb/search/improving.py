@@ -155,7 +155,7 @@ def _not_kept(week: Week, held: Sequence[Cell], best: BestRoster) -> Iterator[st
         yield f"no roster was found that keeps every absence: {in_words(broken)}"
         yield way_out(week.scenario, held, broken)
     if over:
-        yield f"no roster was found that keeps every limit: {limits_in_words(over)}"
+        yield f"no roster was found that keeps every limit: {limits_in_words(over, best.cells)}"
         yield limits_way_out(week, over, best.cells)
 
 

@@ -114,7 +114,7 @@ class PlannedWeeks:
                 yield f"week {week.history.week}: no roster was found that keeps every absence: {in_words(broken)}"
                 yield f"week {week.history.week}: {way_out(self.scenario, _rows_of(index, self.held), broken)}"
             if over:
-                yield f"week {week.history.week}: no plan was found that keeps every limit: {limits_in_words(over)}"
+                yield f"week {week.history.week}: no plan was found that keeps every limit: {limits_in_words(over, of_week)}"
                 yield f"week {week.history.week}: {limits_way_out(week, over, of_week)}"
 
     def write(self, cells: Sequence[Cell], folder: Path) -> List[WrittenWeek]:

@@ -98,7 +98,7 @@ class WeekView:
             whole, away = sum(charge.cost for charge in self.charges), sum(map(self.for_absence, self.charges))
             absent = f", {away} of it for absences" * bool(away)
             lines.append(f"cost: of the nurses {whole - places}{absent}, of places not filled (S1) {places}; penalty {whole}")
-        return lines + [f"above a limit that holds: {limits_in_words([charge])}" for charge in self.above]
+        return lines + [f"above a limit that holds: {limits_in_words([charge], self.cells)}" for charge in self.above]
 
     @property
     def misfilled(self) -> List[str]:

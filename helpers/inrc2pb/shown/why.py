@@ -24,7 +24,7 @@ def why_lines(view: RosterView) -> Iterator[str]:
     """A line for each hard rule that is broken and for each charge, and the sum."""
     yield from breach_lines(view)
     for above in view.weeks:
-        yield from (f"{view.prefix(above)}above a limit that holds: {limits_in_words([charge])}" for charge in above.above)
+        yield from (f"{view.prefix(above)}above a limit that holds: {limits_in_words([charge], above.cells)}" for charge in above.above)
     for shown in view.weeks:
         for charge in shown.charges or ():
             away = shown.for_absence(charge)

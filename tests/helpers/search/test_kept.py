@@ -78,20 +78,23 @@ class Above(unittest.TestCase):
         past = NurseHistory("Ann", 4, 1, "Day", 1, 1, 0)
         cells = [Cell("Ann", day, "Day", "Nurse") for day in (0, 1, 2, 6)]
         for limits, above, words in (
-            (ALL_LIMITS, 4, "Ann has 4 days of work in a row, to Wed, of at most 3, Ann has 8 shifts of at most 6, Ann has 2 weekends of at most 1"),
-            ({KeptLimit("Ann", "SHIFTS", 1)}, 1, "Ann has 8 shifts of at most 6"),
+            (
+                ALL_LIMITS, 4, "Ann has 4 days of work in a row, to Wed, of at most 3, "
+                "Ann has 8 shifts of at most 6, above on Wed and Sun, Ann has 2 weekends of at most 1, above on Sun",
+            ),
+            ({KeptLimit("Ann", "SHIFTS", 1)}, 1, "Ann has 8 shifts of at most 6, above on Sun"),
             ({KeptLimit("Ann", "SHIFTS", 2)}, 0, ""),
             ((), 0, ""),
         ):
             week = ann(past)
             found = exceeded(week, limits, cells)
-            self.assertEqual((excess(found), limits_in_words(found)), (above, words))
+            self.assertEqual((excess(found), limits_in_words(found, cells)), (above, words))
 
     def test_who_could_work_instead(self):
         week = files.read_files(SCENARIO, HISTORY, WEEK)
         cells = [Cell("Ewa", day, "Late", "Nurse") for day in range(6)]
         found = exceeded(week, {KeptLimit("Ewa", "WORK_DAYS", 0)}, cells)
-        self.assertEqual(limits_in_words(found), "Ewa has 6 days of work in a row, Mon to Sat, of at most 3")
+        self.assertEqual(limits_in_words(found, cells), "Ewa has 6 days of work in a row, Mon to Sat, of at most 3")
         # Full has at most 21 shifts, Half 11, and nobody has worked before this week.
         others = "Amara (21), Bruno (21), Chen (21), Dilek (21), Finn (11) and Grace (21)"
         wanted = f"lower minimum numbers, hold fewer shifts, or allow these nurses more; with these skills shifts are left for {others}"
@@ -143,17 +146,19 @@ class Commands(HelperTest):
     def test_a_roster_that_does_not_keep_the_facts(self):
         chen = next(cell for cell in self.rows if cell.nurse == "Chen")
         few = self.changed(SCENARIO, "Full (17,21)", "Full (0,3)", "few.txt")
-        works = sum(cell.nurse == "Dilek" for cell in self.rows)
+        worked = [day for number, day in enumerate(("Mon", "Tue", "Wed", "Thu", "Fri", "Sat", "Sun")) if ("Dilek", number) in {cell[:2] for cell in self.rows}]
+        self.assertEqual(len(worked), 5)
+        says = f"Dilek has 5 shifts of at most 3, above on {worked[-2]} and {worked[-1]}"
         given = self.give(Claim(Choice(1, "Chen", chen.day, None)), Claim(Charged("SHIFTS", "Dilek", 0)))
         words = ("--sce", few, *WEEK_OPTIONS[2:], *given)
         status, printed, _ = run("check", *words, "--roster", ROSTER)
         day = ("Mon", "Tue", "Wed", "Thu", "Fri", "Sat", "Sun")[chen.day]
-        wanted = [f"{ROSTER}: Chen works {chen.shift} on {day}, and is away", f"{ROSTER}: Dilek has {works} shifts of at most 3, and this limit holds"]
+        wanted = [f"{ROSTER}: Chen works {chen.shift} on {day}, and is away", f"{ROSTER}: {says}, and this limit holds"]
         self.assertEqual((status, [line for line in printed.splitlines() if "warning" not in line]), (1, wanted))
         table = run("table", *words, ROSTER)[1]
-        self.assertIn(f"above a limit that holds: Dilek has {works} shifts of at most 3", table)
+        self.assertIn(f"above a limit that holds: {says}", table)
         self.assertIn("# = on duty while away", table)
-        self.assertIn(f"above a limit that holds: Dilek has {works} shifts of at most 3", run("table", *words, "--why", ROSTER)[1])
+        self.assertIn(f"above a limit that holds: {says}", run("table", *words, "--why", ROSTER)[1])
         self.assertIn("Dilek: the most shifts hold.", run("check", *words, "--tell")[1])
 
     def test_the_reason_of_an_absence_is_shown(self):
