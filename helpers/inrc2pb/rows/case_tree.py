@@ -7,7 +7,9 @@ from dataclasses import dataclass, field
 from typing import Callable, Iterable, List, Optional, Tuple
 
 from ..judging.runs import NEVER
-from ..programs.clock import Clock
+from ..programs.clock import Clock, TimeIsOver
+from ..solvers.answers import SolverFault
+from ..solvers.linear_solvers import LinearSolver
 from ..week.facts import Claim, Even, Fact
 from .case_limits import CaseLimits
 from .case_pricing import CasePricing, Found, PricedRow, leaf_of
@@ -17,9 +19,11 @@ from .certificate import MOST_LEAVES, Case, Certificate, Node, Split
 from .plan import POINT, STEP
 from .pricing import NurseWeek, Prices
 from .row_generation import EXACT, SMOOTHING, WORTH
+from .row_graph import Check
+from .row_search import RowSearch
 
-# Gets the rows of a roster, and returns its cost.
-Offer = Callable[[List[NurseWeek]], Optional[int]]
+# Gets the rows of a roster.
+Offer = Callable[[List[NurseWeek]], object]
 
 
 @dataclass
@@ -43,15 +47,20 @@ class CaseNode:
 
 
 class CaseTree:
-    """The cases of a plan. `offer` gets each roster that a solution is; `target` is the penalty of the best roster."""
+    """The cases of a plan. `offer` gets each roster that a solution is; `best` says what the best one costs, which is to be proved."""
 
-    def __init__(self, pricing: CasePricing, program: CaseProgram, prices: Prices, target: int, offer: Offer) -> None:
-        self._pricing, self._program, self._offer, self.target = pricing, program, offer, target
+    def __init__(self, pricing: CasePricing, program: CaseProgram, prices: Prices, best: Callable[[], int], offer: Offer) -> None:
+        self._pricing, self._program, self._best, self._offer = pricing, program, best, offer
         limits = pricing.limits(())
         self.root = CaseNode((), limits, prices, 0, 0)
         self._number = itertools.count()
         self._open: List[Tuple[int, float, int, CaseNode]] = []
-        self.leaves = self.closed = 0
+        self.leaves = 0
+
+    @property
+    def target(self) -> int:
+        """The penalty of the best roster."""
+        return self._best()
 
     # ---- the search
 
@@ -59,11 +68,14 @@ class CaseTree:
         """Splits cases until the target is proved, or the time is over. The bound rises on the way."""
         self._begin()
         while self._open and self._open[0][0] < self.target and self.leaves < MOST_LEAVES:
-            node = heapq.heappop(self._open)[-1]
-            now = self._close(node, clock)
-            if now is None:
-                continue
-            self._split(node, now, clock)
+            first = heapq.heappop(self._open)
+            try:
+                now = self._close(first[-1], clock)
+                if now:
+                    self._split(first[-1], now, clock)
+            except (SolverFault, TimeIsOver):
+                heapq.heappush(self._open, first)
+                raise
 
     @property
     def bound(self) -> int:
@@ -72,6 +84,8 @@ class CaseTree:
 
     def _begin(self) -> None:
         """The two cases of the root: the charges of shift runs are even, or odd."""
+        if self.root.fact is not None:
+            return
         found = self._pricing.price(self.root.limits, self.root.prices, 0)
         if found is None:
             self.root.bound = NEVER
@@ -145,9 +159,7 @@ class CaseTree:
         whole = (self._program.rows[number] for number, share in now.shares.items() if share > 1 - EXACT)
         rows = {priced.nurse: priced.row for priced in whole}
         if now.value < self.target - STEP / 2 and len(rows) == len(self._pricing.plan.nurses):
-            cost = self._offer([rows[nurse] for nurse in range(len(rows))])
-            if cost is not None:
-                self.target = min(self.target, cost)
+            self._offer([rows[nurse] for nurse in range(len(rows))])
 
     # ---- the certificate
 
@@ -166,3 +178,17 @@ class CaseTree:
         if node.fact is None or node.points >= bound:
             return leaf_of(node.limits, node.prices, node.surcharge)
         return Split(node.fact, *(self._needed(case, bound) for case in node.cases))
+
+
+def tree_of(search: RowSearch, solver: LinearSolver, check: Check) -> CaseTree:
+    """The tree that goes on from a search: with its prices, its known rows and its best roster."""
+    pricing = CasePricing(search.plan, search.pricing.crews, check)
+    program = CaseProgram(pricing, solver.program())
+    known = (pricing.counted(column.nurse, column.row) for column in list(search.program.columns))
+    program.add([row for row in known if row])
+
+    def best() -> int:
+        assert search.penalty is not None
+        return search.penalty
+
+    return CaseTree(pricing, program, search.prices, best, lambda rows: search.keep(rows, "cases"))

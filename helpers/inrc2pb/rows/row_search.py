@@ -5,6 +5,7 @@ chooses among all rows that a better roster can have.
 """
 
 import math
+import threading
 from typing import Callable, Dict, List, Optional, Sequence, Tuple
 
 from ..programs.clock import Clock
@@ -51,16 +52,7 @@ class RowSearch(RowGeneration):
     @property
     def is_proved(self) -> bool:
         """Whether the best roster costs no more than the bound."""
-        return self.penalty is not None and self.penalty == self.lower_bound
-
-    def _check_bound(self) -> None:
-        """No roster costs less than the bound."""
-        if self.penalty is not None and self.lower_bound is not None and self.penalty < self.lower_bound:
-            raise WrongBound(self.lower_bound, self.penalty)
-
-    def _raise_bound(self, prices: Prices, found: Dict[int, Priced]) -> None:
-        super()._raise_bound(prices, found)
-        self._check_bound()
+        return self.penalty is not None and self.lower_bound is not None and self.penalty <= self.lower_bound
 
     def _meets(self, value: float) -> bool:
         return self.is_proved or super()._meets(value)
@@ -76,7 +68,6 @@ class RowSearch(RowGeneration):
         if penalty is None or (self.penalty is not None and penalty >= self.penalty):
             return False
         self.rows, self.penalty = rows, penalty
-        self._check_bound()
         return True
 
     def swap(self, rows: List[NurseWeek]) -> bool:
@@ -224,3 +215,31 @@ class RowSearch(RowGeneration):
             self.add_row(nurse, row)
         wanted = set(found)
         return [number for number, column in enumerate(self.program.columns) if (column.nurse, column.row) in wanted]
+
+
+class WholeSearch(RowSearch):
+    """The search over all rows of a plan, whose best roster several threads may improve. It refutes a bound above its penalty."""
+
+    def __init__(self, pricing: Pricing, solver: Optional[LinearSolver], clock: Clock, offer: Offer, heard: Callable[[], None]) -> None:
+        super().__init__(pricing, solver, clock, offer, heard)
+        self._lock = threading.RLock()
+
+    def keep(self, rows: List[NurseWeek], finder: str) -> bool:
+        """Offers rows that may be better than the best roster. Returns whether they are."""
+        with self._lock:
+            is_better = super().keep(rows, finder)
+            self._check_bound()
+            return is_better
+
+    def swap(self, rows: List[NurseWeek]) -> bool:
+        """Takes other rows that cost as much as those of the best roster. Returns whether they do."""
+        with self._lock:
+            return super().swap(rows)
+
+    def _raise_bound(self, prices: Prices, found: Dict[int, Priced]) -> None:
+        super()._raise_bound(prices, found)
+        self._check_bound()
+
+    def _check_bound(self) -> None:
+        if self.penalty is not None and self.lower_bound is not None and self.penalty < self.lower_bound:
+            raise WrongBound(self.lower_bound, self.penalty)

@@ -9,8 +9,8 @@ from pathlib import Path
 from typing import Callable, List, Optional, Sequence, Tuple
 
 from ..rows.cases import PricedCase
+from ..rows.certificate import Certificate, table_lines
 from ..week.faults import ProgramFault
-from ..rows.plan import WEEK_DAYS
 from ..rows.pricing import Prices
 from ..programs.processes import Processes
 from ..programs.program import LONGEST_RUN, WeekFiles, find_program, run_unless_stopped
@@ -19,7 +19,7 @@ from ..week.writing import write_text
 
 PROVER, PERIOD_PROVER, PLAIN = "inrc2pb-bound", "inrc2pb-period-bound", "plain Python, not proved"
 # The options of the programs for what proves a bound.
-PRICES, CASES = "--prices", "--cases"
+PRICES, CASES, PROOF = "--prices", "--cases", "--proof"
 # The options of a week's files, and the text of its prices or cases.
 PricedWeek = Tuple[Sequence[str], str]
 
@@ -32,25 +32,16 @@ def find_prover(name: str) -> Optional[Path]:
 
 def prices_text(scenario: Scenario, places: Sequence[Place], prices: Prices) -> str:
     """The text of a file of prices, in thousandths, for one week."""
-    return "\n".join(["PRICES", scenario.name, "", *_rows(places, prices)]) + "\n"
+    return "\n".join(["PRICES", scenario.name, "", *table_lines(places, prices)]) + "\n"
 
 
 def cases_text(scenario: Scenario, places: Sequence[Place], nurses: Sequence[str], cases: Sequence[PricedCase]) -> str:
     """The text of a file of cases, each with a table of prices, for one week."""
     lines = ["CASES", scenario.name, "", f"OFF = {len(cases) - 1}"]
     for off, prices in cases:
-        head, *rows = _rows(places, prices)
+        head, *rows = table_lines(places, prices)
         lines += [f"{nurses[off[0]]} {DAYS[off[1]]} {head}" if off else f"REST {head}", *rows]
     return "\n".join(lines) + "\n"
-
-
-def _rows(places: Sequence[Place], prices: Prices) -> List[str]:
-    """The rows of a table of prices, after their number."""
-    rows: "dict[tuple[str, str], List[int]]" = {}
-    for place, price in zip(places, prices):
-        if price:
-            rows.setdefault((place.shift, place.skill), [0] * WEEK_DAYS)[place.day] = price
-    return [f"ROWS = {len(rows)}", *(" ".join([shift, skill, *map(str, row)]) for (shift, skill), row in rows.items())]
 
 
 @dataclass(frozen=True)
@@ -73,6 +64,7 @@ class Prover:
     def __init__(self, name: str, processes: Processes, warn: Callable[[str], None]) -> None:
         self.name, self._processes, self._warn = name, processes, warn
         self._program = find_prover(name)
+        self._help: Optional[str] = None
 
     @property
     def works(self) -> bool:
@@ -91,11 +83,7 @@ class Prover:
                 path = Path(folder, f"prices-{number}.txt")
                 write_text(path, text)
                 given += [*options, option, str(path)]
-            try:
-                return run_unless_stopped(self._program, [*given, *words], seconds, self._processes)
-            except ProgramFault as fault:
-                self.fail(str(fault))
-                return None
+            return self._run([*given, *words], seconds)
 
     def bound(self, weeks: Sequence[PricedWeek], seconds: float = LONGEST_RUN, option: str = PRICES) -> Optional[Bound]:
         """The bound that the program proves by the texts."""
@@ -106,6 +94,22 @@ class Prover:
         if not found:
             self.fail("its answer is no bound")
         return Bound(int(found[1]), self.name, option) if found else None
+
+    def reads(self, option: str) -> bool:
+        """Whether the program has this option."""
+        if self._help is None:
+            self._help = self._run(["--help"], LONGEST_RUN) or ""
+        return f"{option} " in self._help
+
+    def _run(self, words: Sequence[str], seconds: float) -> Optional[str]:
+        """What the program prints."""
+        if self._program is None:
+            return None
+        try:
+            return run_unless_stopped(self._program, words, seconds, self._processes)
+        except ProgramFault as fault:
+            self.fail(str(fault))
+            return None
 
     def fail(self, fault: str) -> None:
         """From now on the program has no answer."""
@@ -124,6 +128,7 @@ class Bounds:
         # Ctrl-C does not end a proof of one week, which takes moments.
         self._prover = Prover(PROVER, Processes(), warn)
         self._seen: Optional[Prices] = None
+        self._certified: Optional[Certificate] = None
         self._best: Optional[Bound] = None
 
     def of(self, prices: Prices, plain: Callable[[], int]) -> Bound:
@@ -138,6 +143,13 @@ class Bounds:
         """The best bound, after one by cases; `plain` computes it in plain Python."""
         self._take((self._files.options(), cases_text(self._scenario, self._places, nurses, cases)), CASES, plain)
         assert self._best is not None
+        return self._best
+
+    def prove(self, certificate: Certificate) -> Optional[Bound]:
+        """The best bound, after one by a certificate. Nothing but a program proves one by cases, so without one it changes nothing."""
+        if certificate is not self._certified and self._prover.reads(PROOF):
+            self._certified = certificate
+            self._take((self._files.options(), certificate.text(self._scenario.name)), PROOF, lambda: 0)
         return self._best
 
     def _take(self, week: PricedWeek, option: str, plain: Callable[[], int]) -> None:

@@ -178,7 +178,7 @@ class PeriodSearch:
             return "stopped before the first plan"
         if run.without_row:
             return f"no rosters keep the hard rules: the held rows of {run.without_row} contradict one another"
-        if run.minimums or run.claimed:
+        if run.minimums or run.claim:
             return "no rosters keep the hard rules of these weeks together, by plain Python: plan the weeks one by one with inrc2pb-improve"
         return "no rosters were found in this time: give more"
 

@@ -4,7 +4,7 @@ from pathlib import Path
 from typing import List, Optional, Sequence
 
 from .best_roster import BestRoster
-from .bounds import Bound, Bounds
+from .bounds import PROVER, Bound, Bounds
 from ..rows.cases import plain_cases_bound
 from ..programs.clock import Clock
 from ..week.faults import Misuse, ProgramFault, page
@@ -76,7 +76,7 @@ class WeekSearch:
         try:
             run = self._run_rows(plan, solver, bounds, rows)
             if not plan.asks or self._best.keeps_all:
-                self.claimed_by = f"{solver.name}, over the rows that Python lists" if run.claimed and solver else ""
+                self.claimed_by = run.claim
                 self.claims_kept = plan.asks
             for less_strict in plan.less_strict():
                 keeps = not self._best.breaks() if less_strict.keeping.absence < NEVER else self._best.keeps_all
@@ -99,7 +99,11 @@ class WeekSearch:
             if self._progress.is_due():
                 self._see(run, bounds)
 
-        run = RowRun(plan, solver, self._clock, offer, heard, start, self._seed)
+        def proves() -> bool:
+            self._see(run, bounds)
+            return self.bound is not None and self.bound.by == PROVER and self.bound.points == self._best.penalty
+
+        run = RowRun(plan, solver, self._clock, offer, heard, start, self._seed, proves)
         try:
             run.run()
         finally:
@@ -117,6 +121,8 @@ class WeekSearch:
             cases = run.cases
             if cases:
                 bound = bounds.of_cases(pricing.plan.nurses, cases, lambda: plain_cases_bound(pricing.free(), cases or ()))
+            if run.certificate:
+                bound = bounds.prove(run.certificate) or bound
             if self._bound is None or bound.points > self._bound.points:
                 self._bound = bound
                 if self.bound is None:

@@ -149,7 +149,7 @@ class Lines(unittest.TestCase):
             (20, [], "no roster costs less, says cbc; without that only the lower bound is known"), (15, [], "no roster costs less, proved"),
             (15, ["a row"], "no roster costs less, but this one breaks an absence"),
         ):  # fmt: skip
-            found = SimpleNamespace(bound=Bound(15, PROVER), claimed_by="cbc")
+            found = SimpleNamespace(bound=Bound(15, PROVER), claimed_by="cbc", kept_bound=0)
             best = SimpleNamespace(breaks=lambda broken=broken: broken, exceeds=list, proved=True)
             self.assertEqual(SearchResult(SimpleNamespace(penalty=penalty), found, best, False, None).lines(), ["lower bound 15 (inrc2pb-bound)", says])
 
