@@ -48,6 +48,8 @@ class Verbs:
 
     def __init__(self, folder: WardFolder, means: Means) -> None:
         self._folder, self._means = folder, means
+        # Whether what was asked for was not possible.
+        self.refused = False
 
     # ---- the plan that holds
 
@@ -78,7 +80,7 @@ class Verbs:
         return self._pages(plan, old)
 
     def _pages(self, plan: WardPlan, old: Optional[WardPlan] = None) -> List[str]:
-        if not plan.is_planned:
+        if not plan.is_planned or not plan.weeks:
             return []
         top = self._folder.top
         try:
@@ -212,6 +214,7 @@ class Verbs:
         faults = swaps.faults(swap)
         lines = [*_changes(shift_changes(old.cells(), new.cells()), old.days), *(f"not possible: {fault}" for fault in faults)]
         if faults:
+            self.refused = do
             return [*lines, *self._offers(old, swaps, *_shift_of(swaps, swap))]
         lines += [readable(line) for line in cost_lines(old.view(), new.view()) if line[:1] in " +-"]
         if not do:

@@ -238,6 +238,15 @@ class Verbs(FolderTest):
             self.does("undo")
         self.assertTrue(offers)
 
+    def test_a_swap_that_cannot_be_is_not_written(self):
+        self.begin()
+        cells = self.cells()
+        day = next(day for day in range(7, 14) if ("Finn", day) not in cells)
+        nurse = next(nurse for (nurse, on), (shift, _) in sorted(cells.items()) if on == day and shift == "Night")
+        status, printed, _ = run("plan", self.ward, "swap", nurse, DATES[day], "Finn", "--do")
+        self.assertEqual((status, self.cells()), (6, cells))
+        self.assertRegex(printed, "(?m)^not possible: Finn is away on .*, or never works Night$")
+
     def test_the_weeks_and_the_period_are_over(self):
         self.begin()
         cells = self.cells()
