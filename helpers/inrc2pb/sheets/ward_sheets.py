@@ -9,7 +9,7 @@ from ..week.faults import Gathering
 from ..week.records import DAYS, Contract, History, Limits, Nurse, NurseHistory, Scenario, ShiftType
 from .sheet_files import Book
 from .sheet_rows import KEPT, SheetCell, SheetRow, Table
-from ..week.slots import MAX_NUMBER, closest
+from ..week.slots import MAX_CONTRACTS, MAX_NUMBER, MAX_NURSES, MAX_SHIFTS, MAX_SKILLS, closest
 
 _WEEKDAYS = ("Monday", "Tuesday", "Wednesday", "Thursday", "Friday", "Saturday", "Sunday")
 _NIGHT = re.compile("night|nacht|nuit|noche|notte|noite", re.IGNORECASE)
@@ -45,9 +45,9 @@ class Ward(NamedTuple):
 def read_ward(book: Book, name: str, weeks: int) -> Ward:
     """The ward of these sheets, with this name and number of weeks."""
     shift_types = _shift_types(table_of(book, "shifts"))
-    _check_number(book, "shifts", "shift types", len(shift_types), 16)
+    _check_number(book, "shifts", "shift types", len(shift_types), MAX_SHIFTS)
     contracts, kept = _contracts(table_of(book, "contracts"))
-    _check_number(book, "contracts", "contracts", len(contracts), 64)
+    _check_number(book, "contracts", "contracts", len(contracts), MAX_CONTRACTS)
     asked = [cell.text for row in table_of(book, "needs").rows for cell in [row.of("skill")] if cell.text]
     skills = _Skills(asked)
     nurses: Dict[str, Nurse] = {}
@@ -63,8 +63,8 @@ def read_ward(book: Book, name: str, weeks: int) -> Ward:
                     [part.known("shift type", shift_types) for part in row.of("never").parts()], _days_off(row.of("always off")),
                 )
     scenario = Scenario(name, weeks, tuple(skills.cells), shift_types, contracts, nurses)
-    _check_number(book, "nurses", "nurses", len(nurses), 1000)
-    _check_number(book, "nurses", "skills", len(skills.cells), 16)
+    _check_number(book, "nurses", "nurses", len(nurses), MAX_NURSES)
+    _check_number(book, "nurses", "skills", len(skills.cells), MAX_SKILLS)
     return Ward(scenario, History(0, name, past), never, kept, skills.cells)
 
 

@@ -13,6 +13,7 @@ from .records import Limits
 
 MAX_FILE_LEN = 4_194_304
 MAX_NUMBER = 9999
+MAX_WEEKS, MAX_SKILLS, MAX_SHIFTS, MAX_CONTRACTS, MAX_NURSES = 52, 16, 16, 64, 1000
 SIGNS = "(),="
 _TOKEN = re.compile(r"[(),=]|[^ \t\n\r(),=]+")
 _COMMENT_STARTS = ("#", "//", ";", "%", "/*", "<!--", "--")
