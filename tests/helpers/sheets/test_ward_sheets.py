@@ -114,6 +114,16 @@ class Contents(unittest.TestCase):
             ("plan", 1, 1, "2026-12-01", "row 1, column B: '2026-12-01' should be a Mon: the plan begins on a Monday, and has each day once"),
             ("plan", 1, 1, "2026-02-30", "row 1, column B: there is no day 2026-02-30: write a date such as 2026-11-30"),
             ("plan", 1, 1, "30.11.", "row 1, column B: '30.11.' is no day of the week: write one of Mon,Tue,Wed,Thu,Fri,Sat,Sun, or whole dates such as 2026-11-30, or begin the head with #"),
+            *(("plan", 1, 1, text, f"row 1, column B: '{text}' may have the day or the month first: write {dates}")
+              for text, dates in (("30/11/2026", "2026-11-30"), ("11-30-2026", "2026-11-30"), ("1/12/2026", "2026-12-01 or 2026-01-12"))),
+            ("plan", 1, 1, "1900-01-29",
+             "row 1, column B: a spreadsheet makes 1900-01-29 of the number of a day: write whole dates, such as 2026-11-30"),
+            ("contracts", 2, 2, "1,000", "row 2, column C: '1,000' is no whole number: write 1 or 1000"),
+            ("needs", 2, 0, "25.12.2026", "row 2, column A: '25.12.2026' is a date: write the number, its week from 0"),
+            *(("contracts", 2, 2, text, f"row 2, column C: '{text}' is no whole number: write one, or leave the cell empty") for text in ("-", "n/a")),
+            ("contracts", 2, 2, "0",
+             "row 2, column B: the minimum 8 is above the maximum 0: correct one of the two; for no limit leave the cell empty"),
+            ("nurses", 2, 1, "", "row 2, column B: the cell is empty: write a contract, or delete the row"),
             ("plan", 1, 15, "Total", "row 1, column P: 'Total' is no day of the week: write one of Mon,Tue,Wed,Thu,Fri,Sat,Sun, or begin the head with #"),
             ("plan", 1, 2, "2026-12-01", "row 1, column C: '2026-12-01' has a date, unlike the first day: write dates for all days or for none"),
         ):
@@ -248,6 +258,16 @@ class Contents(unittest.TestCase):
         data = self.read(changed("needs", 6, 4, ""))[2][1]
         # Week 1 has 0+1 on Monday, and nothing on Tuesday: all weeks have 1+1 there.
         self.assertEqual([data.requirements[Place(day, "Day", "Nurse")] for day in (0, 1)], [Requirement(0, 1), Requirement(1, 2)])
+
+    def test_the_date_of_a_bank_holiday(self):
+        sheets = changed("needs", 6, 0, "2026-12-08")
+        sheets["plan"][0] = ["nurse", *(f"2026-{'11-30' if not day else f'12-{day:02}'}" for day in range(14))]
+        with self.assertRaises(FileFault) as caught:
+            texts(sheets)
+        self.assertEqual(caught.exception.message, "sheet needs, row 6, column A: '2026-12-08' is a date: write 1, its week from 0")
+
+    def test_signs_without_a_width(self):
+        self.assertEqual(texts(changed("plan", 4, 0, "Chen\u200b")), texts(SHEETS))
 
     def test_no_shift_without_a_blank(self):
         for text in ("nonight", "no-Night", "NO NIGHT", "not night"):
