@@ -17,6 +17,7 @@ from ..programs.program import BROKEN_RULE, find_program
 from ..programs.progress import Progress
 from ..sheets.plan_sheets import AWAY, read_days
 from ..sheets.sheet_files import read_book
+from ..sheets.ward_sheets import shift_times
 from ..week.faults import Misuse
 from ..week.slots import did_you_mean
 from .command import check_seconds, number_of_seconds, parser
@@ -78,9 +79,8 @@ def read_sheet(path: Path, name: Optional[str], told: Sequence[Told]) -> Sheet:
     book = with_told(book, read_days(book), told)
     days = read_days(book)
     files = ward_files(book, name or ward_name(path), days, days.weeks, CREDITED)
-    return Sheet(
-        files.texts, files.warnings, PlanDays(days.monday, days.weeks), {nurse: shifts for nurse, (_, shifts) in files.credit.items()}
-    )
+    credit = {nurse: shifts for nurse, (_, shifts) in files.credit.items()}
+    return Sheet(files.texts, files.warnings, PlanDays(days.monday, days.weeks), credit, shift_times(book))
 
 
 def _check(given: argparse.Namespace) -> None:

@@ -73,7 +73,7 @@ def _content(plan: WardPlan, address: str) -> Content:
         return f"{address}?{urlencode({'nurse': nurse, 'day': plan.first + WEEK_DAYS * week + day})}"
 
     monday = None if plan.days.monday is None else plan.days.monday + plan.first * DAY
-    return Content(plan.view(), None, monday, link=link)
+    return Content(plan.view(), None, monday, plan.sheet.times, link=link)
 
 
 def _roster(plan: WardPlan, address: str) -> Markup:

@@ -32,4 +32,4 @@ def write_all(top: Path, plan: WardPlan) -> List[Path]:
 def roster_content(plan: WardPlan, old: Optional[WardPlan] = None) -> Content:
     """What the pages show: the weeks that are not over."""
     monday = None if plan.days.monday is None else plan.days.monday + plan.first * DAY
-    return Content(plan.view(), old.view() if old and old.is_planned else None, monday)
+    return Content(plan.view(), old.view() if old and old.is_planned else None, monday, plan.sheet.times)

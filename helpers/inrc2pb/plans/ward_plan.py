@@ -3,7 +3,7 @@
 from dataclasses import dataclass, field, replace
 from functools import cached_property
 from pathlib import Path
-from typing import Dict, Iterable, List, NamedTuple, Optional, Sequence, Tuple
+from typing import Dict, Iterable, List, Mapping, NamedTuple, Optional, Sequence, Tuple
 
 from ..judging.absences import readable
 from ..judging.given import read_given, with_given
@@ -11,6 +11,7 @@ from ..judging.leave import credited
 from ..judging.next_history import next_history
 from ..programs.program import WeekFiles, penalty_of
 from ..shown.roster_view import RosterView, WeekView
+from ..week.dates import Times
 from ..week.facts import Claim
 from ..week.faults import Misuse
 from ..week.hints import plural
@@ -29,12 +30,14 @@ Cells = Tuple[Cell, ...]
 
 
 class Sheet(NamedTuple):
-    """A spreadsheet as the texts of a ward's files by their names, warnings, and the shifts as which days away count in its history."""
+    """A spreadsheet as the texts of a ward's files by their names, warnings, the shifts as which days away count in its history, and the
+    times of shift types."""
 
     texts: Dict[str, str]
     warnings: Sequence[str]
     days: PlanDays
     credit: Dict[str, int]
+    times: Mapping[str, Times] = {}
 
 
 class Stored(NamedTuple):

@@ -5,7 +5,8 @@ from typing import Collection, Dict, Iterator, List, NamedTuple, Optional, Set, 
 
 from ..judging.absences import readable
 from ..week.facts import SHIFTS, WEEKENDS, WORK_DAYS
-from ..week.faults import Gathering
+from ..week.dates import Times, times_of
+from ..week.faults import Gathering, Misuse
 from ..week.records import DAYS, Contract, History, Limits, Nurse, NurseHistory, Scenario, ShiftType
 from .sheet_files import Book
 from .sheet_rows import KEPT, SheetCell, SheetRow, Table
@@ -15,7 +16,7 @@ _WEEKDAYS = ("Monday", "Tuesday", "Wednesday", "Thursday", "Friday", "Saturday",
 _NIGHT = re.compile("night|nacht|nuit|noche|notte|noite", re.IGNORECASE)
 _YES, _NO = ("1", "yes", "x", "true"), ("", "0", "no", "-", "false")
 _HEADS = {
-    "shifts": (("shift",), ("min in a row", "max in a row", "not followed by")),
+    "shifts": (("shift",), ("min in a row", "max in a row", "not followed by", "times")),
     "contracts": (
         ("contract",), ("shifts min", "shifts max", "work min", "work max", "off min", "off max", "weekends", "complete weekends"),
     ),
@@ -106,6 +107,22 @@ def _shift_types(table: Table) -> Dict[str, ShiftType]:
             with faults.step():
                 after = dict.fromkeys(part.known("shift type", names) for part in row.of("not followed by").parts())
                 found[name] = ShiftType(name, _limits(row, "min in a row", "max in a row"), tuple(after))
+    return found
+
+
+def shift_times(book: Book) -> Dict[str, Times]:
+    """When the shifts of each type begin and end, if the sheet has it for one of them."""
+    cells = {row.of("shift").text.replace(" ", "_"): row.of("times") for row in table_of(book, "shifts").rows}
+    if not any(cell.text for cell in cells.values()):
+        return {}
+    found: Dict[str, Times] = {}
+    with Gathering() as faults:
+        for name, cell in cells.items():
+            with faults.step():
+                try:
+                    found[name] = times_of(cell.text, readable(name))
+                except Misuse as fault:
+                    cell.fault(f"{fault}; all shifts have times, or none has")
     return found
 
 

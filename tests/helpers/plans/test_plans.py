@@ -196,8 +196,15 @@ class Verbs(FolderTest):
 
     def test_a_plan_that_hangs_on_the_wall_changes_little(self):
         self.begin()
+        for row, times in zip(self.rows["shifts"], ("times", "7:00-15:30", "14:30-23:00", "22:30-7:15")):
+            row.append(times)
+        self.write()
         self.does("page")
-        self.assertEqual(len(list((self.ward / "calendars").glob("*.ics"))), 7)
+        calendars = [path.read_text() for path in (self.ward / "calendars").glob("*.ics")]
+        self.assertEqual(len(calendars), 7)
+        nurse, night = next((nurse, day) for (nurse, day), (shift, _) in sorted(self.cells().items()) if shift == "Night")
+        begins, ends = (f"{MONDAY + datetime.timedelta(days=night + later)}".replace("-", "") for later in (0, 1))
+        self.assertIn(f"DTSTART:{begins}T223000\nDTEND:{ends}T071500\n", (self.ward / "calendars" / f"{nurse}.ics").read_text())
         before, points = self.cells(), sum(self.points())
         self.does("plan")
         now = self.cells()
@@ -308,6 +315,14 @@ class Refused(FolderTest):
             with self.subTest(words):
                 self.assert_refused(says, self.ward, *words)
                 self.assertFalse(list((self.ward / "plans").glob("0*")))
+
+    def test_times_of_some_shifts_only(self):
+        for row, times in zip(self.rows["shifts"], ("times", "7:00-15:30", "", "22:30-25:00")):
+            row.append(times)
+        self.write()
+        status, _, said = run("plan", self.ward, "check")
+        self.assertEqual(status, 1)
+        self.assertRegex(said, "sheet shifts, row 3, column E: Late: '' has no times: .*\n.*row 4, column E: Night: 25:00 is no time of a day")
 
     def test_folders_that_are_no_ward(self):
         empty, missing = self.folder / "empty", self.folder / "missing"
