@@ -15,7 +15,7 @@ from .plan import POINT, STEP, WEEK_DAYS
 from .pricing import Pricing, NurseWeek
 from ..week.records import Place, Requirement
 from .row_generation import NoRow
-from .row_search import RowSearch, WrongBound
+from .row_search import RowSearch
 from .skills import staffed
 
 # The nurses of the first neighborhood of one week, and the fewest of any.
@@ -185,11 +185,6 @@ class RowParts:
         try:
             search.generate(clock)
         except NoRow:
-            return True
-        except WrongBound:
-            if not part.changed:
-                raise
-            # With these choices forbidden each roster costs more.
             return True
         name = f"{len(own)} nurses" + (f", {len(part.days)} days" if len(part.days) < whole.plan.days else "")
         if search.is_proved:

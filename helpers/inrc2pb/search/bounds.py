@@ -4,7 +4,7 @@ are computed in plain Python."""
 import os
 import re
 import tempfile
-from dataclasses import dataclass
+from dataclasses import dataclass, replace
 from pathlib import Path
 from typing import Callable, List, Optional, Sequence, Tuple
 
@@ -145,11 +145,13 @@ class Bounds:
         assert self._best is not None
         return self._best
 
-    def prove(self, certificate: Certificate) -> Optional[Bound]:
-        """The best bound, after one by a certificate. Nothing but a program proves one by cases, so without one it changes nothing."""
+    def prove(self, certificate: Certificate, week: int) -> Optional[Bound]:
+        """The best bound of the week of this number, after one by a certificate; only a program that reads it proves it."""
         if certificate is not self._certified and self._prover.reads(PROOF):
             self._certified = certificate
-            self._take((self._files.options(), certificate.text(self._scenario.name)), PROOF, lambda: 0)
+            fix = ["--fix", f"{week}={self._files.fix}"] if self._files.fix else []
+            words = [*replace(self._files, fix=None).options(), *fix]
+            self._take((words, certificate.text(self._scenario.name)), PROOF, lambda: 0)
         return self._best
 
     def _take(self, week: PricedWeek, option: str, plain: Callable[[], int]) -> None:

@@ -11,7 +11,7 @@ from ..judging.absences import in_words, way_out
 from ..judging.given import read_given, with_given
 from ..judging.limits import limits_in_words, limits_way_out
 from .best_roster import BestRoster
-from .bounds import CASES, PLAIN, PROVER
+from .bounds import PLAIN, PRICES, PROVER
 from ..programs.clock import Clock
 from ..week.faults import Misuse, ProgramFault
 from ..week.files import read_files
@@ -44,8 +44,9 @@ class SearchResult:
         self.kept_bound = 0 if self.breaks or self.exceeds else search.kept_bound
         self.bound = search.bound.points if search.bound else None
         self.bound_by = search.bound.by if search.bound else ""
-        # The file that has cases in place of prices, if any.
-        self.cases = prices if search.bound and search.bound.option == CASES else None
+        # The file that has cases in place of prices, if any, and the option by which the program reads it.
+        option = search.bound.option if search.bound else PRICES
+        self.cases = f"{prices} has cases: {PROVER} {option}" if prices and option != PRICES else ""
         self.claimed_by = search.claimed_by
         self.proved = best.proved
         self.stopped = stopped
@@ -53,7 +54,7 @@ class SearchResult:
 
     def lines(self) -> List[str]:
         """The lines that follow the report."""
-        return [*self._bound_lines(), *([f"{self.cases} has cases: {PROVER} {CASES} reads them"] if self.cases else [])]
+        return [*self._bound_lines(), *([f"{self.cases} reads them"] if self.cases else [])]
 
     def _bound_lines(self) -> List[str]:
         if self.bound is None:

@@ -4,8 +4,9 @@ import concurrent.futures
 from pathlib import Path
 from typing import Callable, List, NamedTuple, Optional
 
-from .bounds import PERIOD_PROVER, PLAIN, Bound, PricedWeek, Prover, prices_text
+from .bounds import PERIOD_PROVER, PLAIN, PROOF, PROVER, Bound, PricedWeek, Prover, prices_text
 from ..programs.clock import Clock
+from ..rows.certificate import Certificate
 from ..rows.plan import WEEK_DAYS
 from .planned_weeks import PlannedWeeks, prices_name
 from ..rows.pricing import Prices, Pricing, plain_bound
@@ -15,6 +16,8 @@ from ..week.writing import write_text
 
 # The part of the time in which prices are proved that may still become better.
 LAST_SHARE = 0.3
+# Seconds for the proof of a certificate if no time is left.
+PROOF_SECONDS = 5.0
 # Seconds of a wait for a proof; a longer one is reported.
 WAIT_SECONDS = 1.0
 
@@ -37,12 +40,14 @@ class PeriodBound:
         # A search that has found the best plan ends its own processes, and not these.
         self._processes = Processes()
         self._prover = Prover(PERIOD_PROVER, self._processes, self._faults.append)
+        self._reader = Prover(PROVER, self._processes, self._faults.append)
         self._thread = concurrent.futures.ThreadPoolExecutor(1)
         self._running: Optional["concurrent.futures.Future[Optional[Bound]]"] = None
         # The best prices, those of the last proof, the best bound that is proved, and its prices.
         self._best: Optional[_Priced] = None
         self._tried: Optional[_Priced] = None
         self._proved: Optional[Bound] = None
+        self._certified: Optional[Certificate] = None
         self._of_proved: Optional[_Priced] = None
 
     def heard(self, search: RowSearch) -> None:
@@ -53,6 +58,24 @@ class PeriodBound:
             self._best = _Priced(search.pricing, search.prices, None if search.plan.asks else search.lower_bound)
         if search.complete or self._clock.left() < self._last_from:
             self._begin()
+
+    @property
+    def reads_certificates(self) -> bool:
+        """Whether there is a program that proves a bound by a certificate."""
+        return self._reader.reads(PROOF)
+
+    def prove(self, certificate: Certificate, penalty: Optional[int]) -> bool:
+        """Whether a program proves by a certificate that no plan costs less than this penalty."""
+        if certificate is self._certified:
+            return self._proved is not None and self._proved.points == penalty
+        self._certified = certificate
+        words = [word for of_week in self._weeks.options() for word in of_week]
+        fixes = [word for number, path in self._weeks.files.fixes.items() for word in ("--fix", f"{number}={path}")]
+        text = certificate.text(self._weeks.scenario.name)
+        found = self._reader.bound([([*words, *fixes], text)], max(self._clock.left(), PROOF_SECONDS), PROOF)
+        if found and found.is_believed(penalty) and (self._proved is None or found.points > self._proved.points):
+            self._proved = found
+        return self._proved is not None and self._proved.points == penalty
 
     def stop(self) -> None:
         """Ends the proof that runs, permanently."""

@@ -4,7 +4,7 @@ import tempfile
 from pathlib import Path
 from typing import Callable, List, Optional, Sequence, Tuple
 
-from .bounds import PERIOD_PROVER, PLAIN, Bound
+from .bounds import PERIOD_PROVER, PLAIN, PROVER, Bound
 from ..programs.clock import Clock
 from ..week.faults import ProgramFault
 from ..week.records import Cell
@@ -132,8 +132,13 @@ class PeriodSearch:
             elif plan.keeping == STRICT:
                 self._kept_bound = max(self._kept_bound, run.search.lower_bound)
 
-        run = RowRun(plan, solver, self._clock, offer, heard, self._first(plan, solver), self._seed)
+        def proves() -> bool:
+            return run.certificate is not None and self._proof.prove(run.certificate, self.penalty)
+
+        cases = self._proof.reads_certificates and not plan.asks and not self._weeks.later()
+        run = RowRun(plan, solver, self._clock, offer, heard, self._first(plan, solver), self._seed, proves if cases else None)
         run.run()
+        proves()
         return run
 
     def _first(self, plan: Plan, solver: Optional[LinearSolver]) -> Optional[List[NurseWeek]]:
@@ -194,7 +199,7 @@ class PeriodSearch:
             return "no lower bound"
         bound = f"lower bound {self.bound.points} of the sum ({self.bound.by})"
         if self.penalty <= self.bound.points:
-            return f"{bound}: no plan costs less" + (", proved" if self.bound.by == PERIOD_PROVER else "")
+            return f"{bound}: no plan costs less" + (", proved" if self.bound.by in (PERIOD_PROVER, PROVER) else "")
         best = self.bound.points
         if self._rank and not any(self._rank[:2]) and self._kept_bound > best:
             best, bound = self._kept_bound, f"{bound}, {self._kept_bound} with all absences and limits ({PLAIN})"

@@ -122,7 +122,7 @@ class WeekSearch:
             if cases:
                 bound = bounds.of_cases(pricing.plan.nurses, cases, lambda: plain_cases_bound(pricing.free(), cases or ()))
             if run.certificate:
-                bound = bounds.prove(run.certificate) or bound
+                bound = bounds.prove(run.certificate, self._week.history.week) or bound
             if self._bound is None or bound.points > self._bound.points:
                 self._bound = bound
                 if self.bound is None:

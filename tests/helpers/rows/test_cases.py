@@ -153,11 +153,11 @@ class Hunts(HelperTest):
 
 @unittest.skipUnless(HAS_CBC, "needs cbc")
 class Improve(HelperTest):
-    def improve(self, answer):
+    def improve(self, answer, option="--cases"):
         """The report and the faults of a run with an `inrc2pb-bound` that has this answer to cases, and the file of its prices."""
         prices = self.folder / "prices.txt"
         self.script("inrc2pb", f'exec {program.find_program()} "$@"\n')
-        self.script(PROVER, f'case "$*" in *--cases*) {answer};; *) echo lower bound {BY_PRICES};; esac\n')
+        self.script(PROVER, f'case "$*" in --help) echo "{option} <FILE>";; *{option}*) {answer};; *) echo lower bound {BY_PRICES};; esac\n')
         words = (*FILES.options(), "--sol", self.folder / "best.txt", "--prices", prices, "--time", 60)
         status, report, said = run("improve", *words, environment={"INRC2PB": str(self.folder / "inrc2pb")})
         self.assertEqual(status, 0, said)
@@ -168,6 +168,13 @@ class Improve(HelperTest):
         lines = f"lower bound {BEST} ({PROVER})\nno roster costs less, proved\n{prices} has cases: {PROVER} --cases reads them\n"
         self.assertTrue(report.endswith(lines), report)
         self.assertTrue(prices.read_text().startswith("CASES\ncases\n\nOFF = "), said)
+
+    def test_a_proof_by_a_tree_of_cases(self):
+        report, said, prices = self.improve(f"echo lower bound {BEST}", "--proof")
+        lines = f"lower bound {BEST} ({PROVER})\nno roster costs less, proved\n{prices} has cases: {PROVER} --proof reads them\n"
+        self.assertTrue(report.endswith(lines), report)
+        self.assertTrue(prices.read_text().startswith("CERTIFICATE cases\nWEEKS = 1\nPRICES = "), said)
+        self.assertIn("\nSPLIT EVEN\n", prices.read_text())
 
     def test_with_the_programs_that_are_there(self):
         _, report, said = run("improve", *FILES.options(), "--sol", self.folder / "best.txt", "--time", 60)

@@ -14,13 +14,15 @@ from unittest import mock
 from ward import HAS_CBC, HELPERS, HISTORY, SCENARIO, WARD, WEEK, HelperTest, program, run
 
 from inrc2pb.search import bounds
-from inrc2pb.search.bounds import PERIOD_PROVER, PLAIN, Bound
+from inrc2pb.search.bounds import PERIOD_PROVER, PLAIN, PROOF, PROVER, Bound
 from inrc2pb.programs.clock import Clock
 from inrc2pb.search.period_bound import PeriodBound
 from inrc2pb.search.period_search import PeriodSearch
 from inrc2pb.search.planned_weeks import PeriodFiles, PlannedWeeks
+from inrc2pb.rows.certificate import Certificate, Leaf, Split
 from inrc2pb.rows.pricing import Crews
 from inrc2pb.programs.progress import Progress
+from inrc2pb.week.facts import Even
 
 FAKE = Path(__file__).resolve().parents[1] / "fake_prover.py"
 SECOND = WARD / "week-1.txt"
@@ -100,6 +102,21 @@ class Proofs(FakeProver):
                 self.assertEqual((len(prices), set(prices) | {"0", "7"}), (7, {"0", "7"}))
         self.assertEqual(priced[0] | priced[1], {tuple(place) for place in Crews(self.plan).places[::2]})
         self.assertTrue(priced[0] and priced[1])
+
+    def test_a_certificate_is_proved_by_a_program_that_reads_it(self):
+        leaf = Leaf([7] * len(self.plan.demand))
+        certificate = Certificate(2, list(self.plan.demand), Split(Even(), leaf, leaf))
+        for option, bound, proves in ((PROOF, PENALTY, True), (PROOF, 50, False), (PROOF, PENALTY + 5, False), ("--prices", PENALTY, False)):
+            given = self.folder / "given.txt"
+            keeps = f'for word; do case "$word" in *prices-0.txt) cp "$word" {given};; esac; done'
+            self.script(PROVER, f'[ "$1" != --help ] || {{ echo "{option} <FILE>"; exit; }}\n{keeps}\necho lower bound {bound}\n')
+            with mock.patch.object(bounds, "find_prover", lambda name: self.folder / name if name == PROVER else None):
+                proof = PeriodBound(self.weeks, Clock(60.0), self.warnings.append)
+            self.assertEqual(proof.reads_certificates, option == PROOF)
+            if proof.reads_certificates:
+                self.assertEqual(proof.prove(certificate, PENALTY), proves)
+                self.assertEqual(proof.bound(PENALTY), Bound(bound, PROVER, PROOF) if bound <= PENALTY else None)
+                self.assertEqual(given.read_text(), certificate.text("ward"))
 
     def test_better_prices_are_proved_after_the_first_ones(self):
         proof = self.bound_by(50)
