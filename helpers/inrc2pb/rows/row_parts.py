@@ -68,9 +68,16 @@ class RowParts:
         shared = clock.part(clock.left())
         with concurrent.futures.ThreadPoolExecutor(len(self._solvers)) as pool:
             workers = [pool.submit(self._work, solver, shared, number == 0) for number, solver in enumerate(self._solvers)]
+            left = len(workers)
             try:
                 for worker in concurrent.futures.as_completed(workers):
-                    worker.result()
+                    try:
+                        worker.result()
+                    except SolverFault as fault:
+                        left -= 1
+                        if not left:
+                            raise
+                        self._solvers[0].warn(f"{fault}: the search goes on with {left} of {len(workers)} threads")
             except (SolverFault, TimeIsOver):
                 # A thread that finds the proof stops the clock of all, and their solvers.
                 if not self._search.is_proved:

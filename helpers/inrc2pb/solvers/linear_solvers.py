@@ -48,6 +48,9 @@ class LinearSolver:
         """A linear program of this solver, without rows and columns."""
         return LinearProgram(None, self.relax)
 
+    def warn(self, line: str) -> None:
+        """Prints a warning."""
+
     def end_all(self) -> None:
         """Ends what runs now, also in the solvers beside this one."""
         self._processes.end_running()
@@ -251,6 +254,10 @@ class LinearSolvers(LinearSolver):
             resident = self._child is not None and self._child.works
             self._beside[number] = LinearSolvers([other.name for other in self._others], self._processes, folder, self._warn, resident)
         return self._beside[number]
+
+    def warn(self, line: str) -> None:
+        """Prints a warning."""
+        self._warn(line)
 
     def program(self) -> LinearProgram:
         """A linear program, kept by the child."""

@@ -58,14 +58,14 @@ class Together(PeriodTest):
             (["--ahead"], "^planned ahead of 2 weeks that are not known: no lower bound$"),
         ):
             with self.subTest(totals):
-                status, printed, said = run("period", *WARD_OPTIONS, *totals, "--out", self.folder, "--time", 1)
+                status, printed, said = run("period", *WARD_OPTIONS, *totals, "--out", self.folder, "--time", 4)
                 self.assertEqual(status, 0, said)
                 self.assert_period(printed, WARD_OPTIONS, 2, "--early" in totals)
                 self.assertRegex(printed.splitlines()[-1], says)
-                self.assertIn("weeks 0 to 1 together, at most 2 s\n", said)
+                self.assertIn("weeks 0 to 1 together, at most 8 s\n", said)
 
     def test_thirty_nurses_in_four_weeks(self):
-        status, printed, said = run("period", *MONTH_OPTIONS, *MONTH_WEEKS, "--out", self.folder, "--time", 1)
+        status, printed, said = run("period", *MONTH_OPTIONS, *MONTH_WEEKS, "--out", self.folder, "--time", 5)
         self.assertEqual(status, 0, said)
         self.assert_period(printed, (*MONTH_OPTIONS, *MONTH_WEEKS), 4)
         table = ("--sce", MONTH / "ward.txt", "--his", MONTH / "history-0.txt", *MONTH_WEEKS)
@@ -75,14 +75,14 @@ class Together(PeriodTest):
 
     def test_held_shifts_of_a_week(self):
         held = self.solution("Grace Sat Day Nurse", week=1, name="held.txt")
-        status, _, said = run("period", *WARD_OPTIONS, "--fix", f"1={held}", "--out", self.folder, "--time", 1)
+        status, _, said = run("period", *WARD_OPTIONS, "--fix", f"1={held}", "--out", self.folder, "--time", 4)
         self.assertEqual(status, 0, said)
         self.assertIn("Grace Sat Day Nurse\n", (self.folder / "roster-1.txt").read_text())
 
     def test_held_shifts_that_no_rosters_have(self):
         rows = [f"{nurse} Mon Day Nurse" for nurse in ("Amara", "Bruno", "Chen", "Dilek", "Ewa", "Finn", "Grace")]
         held = self.solution(*rows, week=1, name="held.txt")
-        status, printed, said = run("period", *WARD_OPTIONS, "--fix", f"1={held}", "--out", self.folder / "out", "--time", 20)
+        status, printed, said = run("period", *WARD_OPTIONS, "--fix", f"1={held}", "--out", self.folder / "out", "--time", 120)
         self.assertEqual((status, printed), (5, ""))
         self.assertRegex(said.splitlines()[-1], "^inrc2pb-period: no rosters keep the hard rules of these weeks together, by plain Python: ")
 
@@ -101,18 +101,18 @@ class Together(PeriodTest):
             self.assertRegex(printed.splitlines()[-1], "^lower bound [0-9]+ of the sum ")
 
     def test_a_stop_keeps_the_best_plan(self):
-        words = (*MONTH_OPTIONS, *MONTH_WEEKS, "--out", self.folder, "--time", 60)
+        words = (*MONTH_OPTIONS, *MONTH_WEEKS, "--out", self.folder, "--time", 600)
         with subprocess.Popen([sys.executable, str(HELPERS / "inrc2pb-period"), *map(str, words)], stdout=subprocess.PIPE, stderr=subprocess.PIPE) as period:
             while not (self.folder / "roster-3.txt").exists() and period.poll() is None:
                 time.sleep(0.05)
             period.send_signal(signal.SIGINT)
-            printed, said = period.communicate(timeout=60)
+            printed, said = period.communicate(timeout=300)
         self.assertEqual(period.returncode, 130, said)
         self.assert_period(printed.decode(), (*MONTH_OPTIONS, *MONTH_WEEKS), 4)
         self.assertEqual(printed.decode().splitlines()[-1], "stopped: weeks 0 to 3 are planned")
 
     def test_one_week_has_the_bound_of_the_week(self):
-        status, printed, said = run("period", *WEEK_OPTIONS, "--out", self.folder, "--time", 20)
+        status, printed, said = run("period", *WEEK_OPTIONS, "--out", self.folder, "--time", 120)
         self.assertEqual(status, 0, said)
         self.assert_period(printed, WEEK_OPTIONS, 1)
         self.assertRegex(printed, "\nlower bound 20 \\(.*\\)\nno roster costs less")
@@ -122,7 +122,7 @@ class Together(PeriodTest):
 class Periods(PeriodTest):
     def test_held_shifts_of_a_week(self):
         held = self.folder / "held.txt"
-        words = (*WARD_OPTIONS, "--fix", f"1={held}", "--out", self.folder, "--time", 5, "--solver", "clasp")
+        words = (*WARD_OPTIONS, "--fix", f"1={held}", "--out", self.folder, "--time", 20, "--solver", "clasp")
         files_of = ", ".join(str(self.folder / name) for name in ("roster-0.txt", "roster-1.txt", "history-1.txt", "history-2.txt"))
         for week, hint in ((1, ""), (3, f"inrc2pb-period: {held}: line 1 has week 3, and the history has week 1: is the file of another week?\n")):
             held.write_text(f"SOLUTION {week} ward ASSIGNMENTS = 1 Grace Sat Day Nurse\n")
@@ -176,7 +176,7 @@ class PeriodFaults(PeriodTest):
             while not started.exists() and period.poll() is None:
                 time.sleep(0.05)
             period.send_signal(signal.SIGTERM)
-            printed, said = period.communicate(timeout=30)
+            printed, said = period.communicate(timeout=300)
         return period.returncode, printed.decode(), said.decode()
 
     def test_after_a_stop_the_roster_that_the_solver_has_is_reported(self):

@@ -12,6 +12,7 @@ from ward import HAS_CBC, HELPERS, ROOT, THIRTY_FILES, HelperTest, files, record
 
 from inrc2pb.programs.clock import Clock, TimeIsOver
 from inrc2pb.rows.first_rows import matched_rows
+from inrc2pb.solvers.answers import SolverFault
 from inrc2pb.solvers.linear_solvers import LinearSolvers
 from inrc2pb.judging.next_history import next_history
 from inrc2pb.rows.plan import POINT, WEEK_DAYS, Plan
@@ -164,6 +165,34 @@ class Parts(HelperTest):
         with mock.patch.object(parts, "improve", improve):
             parts.run(search.clock)
         self.assertEqual(ended, [-9])
+
+    def test_without_a_solver_that_fails_the_others_go_on(self):
+        plan, warnings = Plan.of(SCENARIO, HISTORY, WEEKS[:1]), []
+        solver = LinearSolvers(["cbc"], Processes(), self.folder, warnings.append)
+        search = RowSearch(Pricing(plan, Crews(plan), lambda: None), solver, Clock(60), lambda rows, finder: search.value_of(rows), lambda: None)
+        search.begin(matched_rows(plan, search.pricing.crews, lambda: None), None)
+        parts, failed = RowParts(search, [solver, solver.beside(1)]), threading.Event()
+
+        def improve(part, used, clock):
+            if used is solver:
+                failed.set()
+                raise SolverFault("cbc wrote an empty answer")
+            failed.wait()
+            while not warnings:
+                clock.check()
+            search.bound, search.penalty = 0, 0
+            return True, 0
+
+        with mock.patch.object(parts, "improve", improve):
+            parts.run(search.clock)
+        self.assertEqual(warnings, ["cbc wrote an empty answer: the search goes on with 1 of 2 threads"])
+
+        def fails(part, used, clock):
+            raise SolverFault("cbc wrote an empty answer")
+
+        search.bound, search.penalty = None, 10_000
+        with mock.patch.object(parts, "improve", fails), self.assertRaises(SolverFault):
+            parts.run(search.clock)
 
     def test_parts_that_the_time_does_not_end_get_smaller(self):
         plan = Plan.of(SCENARIO, HISTORY, WEEKS[:1])

@@ -46,7 +46,7 @@ class Says(LinearSolver):
 
 
 class RowSearches(HelperTest):
-    def run_rows(self, week, names=("cbc",), seconds=60.0, held=(), early=False):
+    def run_rows(self, week, names=("cbc",), seconds=300.0, held=(), early=False):
         """A search over the rows of a week. `rules` judge each roster."""
         self.plan = Plan.of(week.scenario, week.history, [week.data], early, held)
         self.warnings, self.penalties = [], []
@@ -115,7 +115,7 @@ class RowSearches(HelperTest):
         for seconds in (0.0, 0.05, 0.3):
             began = time.monotonic()
             self.run_rows(week_of("thirty"), seconds=seconds)
-            self.assertLess(time.monotonic() - began, 10)
+            self.assertLess(time.monotonic() - began, 60)
 
     @unittest.skipUnless(HAS_CBC, "needs cbc")
     def test_solvers_that_fail_or_lie(self):
@@ -132,7 +132,7 @@ class RowSearches(HelperTest):
             with self.subTest(how):
                 self.script("cbc", f'exec {sys.executable} {FAKE} {how} {cbc} "$@"\n')
                 with mock.patch.dict(os.environ, PATH=f"{self.folder}:{os.environ['PATH']}"):
-                    search = self.run_rows(week, seconds=30.0 if fault else 2.0).search
+                    search = self.run_rows(week, seconds=120.0 if fault else 4.0).search
                 self.assertGreaterEqual(min(self.penalties), 435)
                 self.assertLessEqual(search.lower_bound or 0, 435)
                 self.assertEqual(len(self.warnings), int(fault is not None), self.warnings)

@@ -119,10 +119,10 @@ class Searches(HelperTest):
         prover = self.folder / "inrc2pb-bound"
         for bound, says in ((15, "lower bound 15 (inrc2pb-bound): the gap is 5, 25.0 %"), (20, "lower bound 20 (inrc2pb-bound)\nno roster costs less, proved")):
             self.script(prover.name, f"echo lower bound {bound}\n")
-            ran = run("improve", *WEEK_OPTIONS, "--sol", self.target, "--time", 5, environment={"INRC2PB": str(self.folder / "inrc2pb")})
+            ran = run("improve", *WEEK_OPTIONS, "--sol", self.target, "--time", 20, environment={"INRC2PB": str(self.folder / "inrc2pb")})
             self.assertTrue(ran[1].endswith(f"{says}\n"), ran)
         self.script(prover.name, "echo lower bound 25\n")
-        ran = run("improve", *WEEK_OPTIONS, "--sol", self.target, "--time", 5, environment={"INRC2PB": str(self.folder / "inrc2pb")})
+        ran = run("improve", *WEEK_OPTIONS, "--sol", self.target, "--time", 20, environment={"INRC2PB": str(self.folder / "inrc2pb")})
         self.assertTrue(ran[1].endswith("\nno lower bound\n"), ran)
         self.assertEqual(ran[2].count("the lower bound 25 (inrc2pb-bound) is above the penalty of a roster: it is wrong\n"), 1)
         self.script(prover.name, "echo inrc2pb-bound: out of memory >&2\nexit 4\n")
@@ -137,7 +137,7 @@ class WrongNumbers(HelperTest):
         target, cost = self.folder / "roster.txt", Pricing.places_cost
         too_much = mock.patch.object(Pricing, "places_cost", lambda pricing, prices: cost(pricing, prices) + 200_000)
         with too_much, mock.patch.object(bounds, "find_prover", lambda name: None):
-            found = search(WEEK_FILES, target, None, 20.0, None, None, Progress(None))
+            found = search(WEEK_FILES, target, None, 120.0, None, None, Progress(None))
         self.assertIsInstance(found.fault, WrongBound)
         self.assertEqual((found.lines(), found.proved, found.claimed_by), (["no lower bound"], False, ""))
         self.assertEqual(program.penalty_of(WEEK_FILES, target), found.report.penalty)
@@ -242,7 +242,7 @@ class Stops(HelperTest):
         while not running.exists() and search.poll() is None:
             time.sleep(0.05)
         search.send_signal(signal.SIGINT)
-        report, _ = search.communicate(timeout=120)
+        report, _ = search.communicate(timeout=300)
         return search.returncode, report.decode()
 
     def test_before_the_first_roster_a_solver_prints_what_it_has(self):
@@ -268,15 +268,15 @@ class Stops(HelperTest):
     def test_the_best_roster_is_reported(self):
         for number in (signal.SIGINT, signal.SIGTERM):
             target = self.folder / f"{number}.txt"
-            words = [*THIRTY_FILES.options(), "--sol", target, "--time", "60"]
+            words = [*THIRTY_FILES.options(), "--sol", target, "--time", "600"]
             search = subprocess.Popen(
                 [sys.executable, str(HELPERS / "inrc2pb-improve"), *map(str, words)], stdout=subprocess.PIPE, stderr=subprocess.PIPE)
             line = search.stderr.readline()
             self.assertIn(b"penalty", line)
             search.send_signal(number)
             began = time.monotonic()
-            report, _ = search.communicate(timeout=120)
-            self.assertLess(time.monotonic() - began, 60)
+            report, _ = search.communicate(timeout=300)
+            self.assertLess(time.monotonic() - began, 300)
             self.assertEqual(search.returncode, 0)
             penalty = int(re.search(r"^penalty (\d+)$", report.decode(), re.MULTILINE).group(1))
             self.assertEqual(program.penalty_of(THIRTY_FILES, target), penalty)
