@@ -29,8 +29,8 @@ numpy = _numpy()
 
 
 class Arrays:
-    """The days of a graph as arrays: by choice and node the costs and the nodes that are reached, and by node of the next day the choice that
-    reaches it."""
+    """The days of a graph as arrays: by choice and node the costs and the nodes that are reached, and by node of the next day the choice
+    that reaches it."""
 
     def __init__(self, days: Sequence[Tuple[Any, Any, Any]]) -> None:
         self.days = list(days)

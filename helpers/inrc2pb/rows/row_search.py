@@ -188,8 +188,8 @@ class RowSearch(RowGeneration):
         return [[row for _, row in sorted(rows)[:most]] for rows in found]
 
     def choose(self, use: Sequence[int], clock: Clock, finder: str, nodes: int = 0) -> bool:
-        """Lets the integer program choose among these columns, in at most so many nodes, if that is not 0. Returns whether the solver claims
-        that their rows have nothing better than the best roster now."""
+        """Lets the integer program choose among these columns, in at most so many nodes, if that is not 0. Returns whether the solver
+        claims that their rows have nothing better than the best roster now."""
         if self._solver is None or not self._solver.chooses:
             return False
         cutoff = None if self.penalty is None else self.penalty - STEP

@@ -27,8 +27,8 @@ def plain(name: str) -> str:
 class Content:
     """What a page shows: the roster, an older one, the date of the first Monday, and the times of shift types, as far as they are known.
 
-    `only_table` is for a wall: nothing on what the roster costs, nor on wishes and held shifts. `link` has the address of a nurse's day in a
-    week of the table, if its cells are links.
+    `only_table` is for a wall: nothing on what the roster costs, nor on wishes and held shifts. `link` has the address of a nurse's day
+    in a week of the table, if its cells are links.
     """
 
     view: RosterView
