@@ -8,7 +8,7 @@ import sys
 from pathlib import Path
 from typing import Iterable, Mapping, Optional, Sequence
 
-from ..shown.calendars import write_calendars
+from ..shown.calendars import issue_now, shift_dates, write_calendars
 from ..shown.changes import changed_lines, swapped
 from .command import add_given_option, fixes_by_week, parser
 from ..week.dates import read_monday, read_times
@@ -142,7 +142,8 @@ def main() -> Optional[int]:
     else:
         text = table_text(view, given, content)
     if monday and given.ics:
-        write_calendars(view, given.ics, monday, content.times)
+        issue = issue_now(shift_dates(content.old, monday)) if content.old else None
+        write_calendars(view, given.ics, monday, content.times, issue)
     if given.out:
         write_text(given.out, text)
     else:

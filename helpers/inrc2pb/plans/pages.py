@@ -1,9 +1,9 @@
 """The pages and calendars of a ward's folder."""
 
 from pathlib import Path
-from typing import List, Optional
+from typing import Collection, List, Mapping, Optional
 
-from ..shown.calendars import write_calendars
+from ..shown.calendars import issue_now, write_calendars
 from ..shown.page import page_text
 from ..shown.page_tables import Content
 from ..week.dates import DAY
@@ -19,13 +19,14 @@ def write_roster_page(top: Path, plan: WardPlan, old: Optional[WardPlan] = None)
     return top / ROSTER
 
 
-def write_all(top: Path, plan: WardPlan) -> List[Path]:
-    """Writes the page for the wall, and a calendar for each nurse if the plan has dates."""
+def write_all(top: Path, plan: WardPlan, before: Mapping[str, Collection[int]]) -> List[Path]:
+    """Writes the page for the wall, and a calendar for each nurse if the plan has dates. `before` has the days of her shifts in older ones."""
     content = roster_content(plan)
     write_text(top / WALL, page_text(Content(content.view, None, content.monday, content.times, True)))
     if content.monday is None:
         return [top / WALL]
-    write_calendars(content.view, top / CALENDARS, content.monday, content.times)
+    dates = {nurse: [plan.days.date(day) for day in days if day >= plan.first] for nurse, days in before.items()}
+    write_calendars(content.view, top / CALENDARS, content.monday, content.times, issue_now(dates))
     return [top / WALL, top / CALENDARS]
 
 

@@ -33,10 +33,15 @@ class PlanDays(NamedTuple):
         """The number of days."""
         return WEEK_DAYS * self.weeks
 
+    def date(self, day: int) -> datetime.date:
+        """The date of a day of a plan with dates."""
+        assert self.monday is not None
+        return self.monday + day * DAY
+
     def text(self, day: int) -> str:
         """A day in a sentence, as `Fri 4 Dec`, or `Fri of week 0`."""
         name = DAYS[day % WEEK_DAYS]
-        return f"{name} of week {day // WEEK_DAYS}" if self.monday is None else f"{name} {date_text(self.monday + day * DAY)}"
+        return f"{name} of week {day // WEEK_DAYS}" if self.monday is None else f"{name} {date_text(self.date(day))}"
 
     def span(self, days: Sequence[int]) -> str:
         """The first and the last of these days, as `Fri 4 Dec to Sun 6 Dec`."""
@@ -44,7 +49,7 @@ class PlanDays(NamedTuple):
 
     def head(self, day: int) -> str:
         """The day as the head of a column, as `2026-12-04` or `Fri 0`."""
-        return f"{DAYS[day % WEEK_DAYS]} {day // WEEK_DAYS}" if self.monday is None else str(self.monday + day * DAY)
+        return f"{DAYS[day % WEEK_DAYS]} {day // WEEK_DAYS}" if self.monday is None else str(self.date(day))
 
     def number(self, text: str, near: int) -> int:
         """The day that a text names. A day of the week is the first one from the day `near` on."""

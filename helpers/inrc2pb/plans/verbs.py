@@ -25,7 +25,7 @@ from .shift_changes import ShiftChange, change_lines, shift_changes
 from .swaps import Offer, Swap, Swaps, swapped
 from .told_absences import BACK, Told, with_days
 from .ward_folder import WardFolder
-from .ward_plan import Sheet, WardPlan, continued, first_plan, read_stored
+from .ward_plan import Sheet, WardPlan, continued, first_plan, published_days, read_stored
 from .wording import Wording
 
 # Reads the spreadsheet of a ward, which has this name, if it has one, with these absences in its plan.
@@ -84,7 +84,10 @@ class Verbs:
             return []
         top = self._folder.top
         try:
-            written = [pages.write_roster_page(top, plan, old), *(pages.write_all(top, plan) if plan.published else ())]
+            written = [pages.write_roster_page(top, plan, old)]
+            if plan.published:
+                before = published_days([*self._folder.all_plans(), *self._folder.undone()], plan.days)
+                written += pages.write_all(top, plan, before)
         except OSError as fault:
             return [f"the plan holds, but its pages are not written: {fault_line(fault)}"]
         return [f"written: {', '.join(map(str, written))}"]

@@ -51,7 +51,7 @@ class WardFolder:
 
     def add(self, verb: str, texts: Dict[str, str], now: datetime.datetime) -> Path:
         """Writes a plan with these files: its folder is there as a whole or not at all."""
-        number = 1 + max((int(path.name[:4]) for path in [*self.all_plans(), *self._undone()]), default=0)
+        number = 1 + max((int(path.name[:4]) for path in [*self.all_plans(), *self.undone()]), default=0)
         target = self.plans / f"{number:04}-{now:%Y-%m-%d-%H%M}-{verb}"
         new = Path(tempfile.mkdtemp(prefix=".new-", dir=self.plans))
         try:
@@ -66,7 +66,8 @@ class WardFolder:
             raise
         return target
 
-    def _undone(self) -> List[Path]:
+    def undone(self) -> List[Path]:
+        """The folders of the plans that were undone."""
         folder = self.plans / UNDONE
         return [path for path in folder.iterdir() if _NAME.fullmatch(path.name)] if folder.is_dir() else []
 

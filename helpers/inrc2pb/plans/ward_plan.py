@@ -3,7 +3,7 @@
 from dataclasses import dataclass, field, replace
 from functools import cached_property
 from pathlib import Path
-from typing import Dict, Iterable, List, Mapping, NamedTuple, Optional, Sequence, Tuple
+from typing import Dict, Iterable, List, Mapping, NamedTuple, Optional, Sequence, Set, Tuple
 
 from ..judging.absences import readable
 from ..judging.given import read_given, with_given
@@ -57,6 +57,17 @@ def read_stored(folder: Path) -> Stored:
     weeks = [number for number in range(of_plan.days.weeks) if (folder / roster_name(number)).exists()]
     rosters = {number: read_solution(folder / roster_name(number)).cells for number in weeks}
     return Stored(folder, of_plan, start, rosters, read_told(folder, of_plan.days))
+
+
+def published_days(folders: Iterable[Path], days: PlanDays) -> Dict[str, Set[int]]:
+    """The days of each nurse's shifts in plans of these days that hung on the wall."""
+    found: Dict[str, Set[int]] = {}
+    for folder in folders:
+        of_plan = read_record(folder)
+        for number in range(days.weeks) if of_plan.published and of_plan.days == days else ():
+            for cell in read_solution(folder / roster_name(number)).cells:
+                found.setdefault(cell.nurse, set()).add(WEEK_DAYS * number + cell.day)
+    return found
 
 
 def roster_name(number: int) -> str:

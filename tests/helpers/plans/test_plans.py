@@ -4,6 +4,7 @@ import csv
 import datetime
 import fcntl
 import os
+import re
 import signal
 import subprocess
 import sys
@@ -211,6 +212,24 @@ class Verbs(FolderTest):
         changed = {key for key in {*before, *now} if before.get(key, "-")[0] != now.get(key, "-")[0]}
         # Each change has saved at least its 20 points.
         self.assertLessEqual(sum(self.points()) + 20 * len(changed), points)
+
+    def test_a_shift_that_is_taken_back_is_cancelled_in_the_calendar(self):
+        self.begin()
+        self.does("page")
+        nurse, day = next((nurse, day) for nurse, day in sorted(self.cells()) if day > 7)
+
+        def events():
+            text = (self.ward / "calendars" / f"{nurse}.ics").read_text()
+            return {re.search("DTSTART[^:]*:([0-9]+)", event)[1]: event for event in text.split("BEGIN:VEVENT")[1:]}
+
+        date, before = DATES[day].replace("-", ""), events()
+        self.does("ill", nurse, DATES[day])
+        now = events()
+        self.assertIn("STATUS:CANCELLED\n", now[date])
+        self.assertNotIn("STATUS", before[date])
+        uid, number = ("UID:(.*)", "SEQUENCE:([0-9]+)")
+        self.assertEqual(*(re.search(uid, one[date])[1] for one in (before, now)))
+        self.assertLessEqual(*(int(re.search(number, one[date])[1]) for one in (before, now)))
 
     def test_a_nurse_who_comes_and_one_who_leaves(self):
         self.begin()
