@@ -94,9 +94,11 @@ class CasePricing:
 
     def price(self, limits: CaseLimits, prices: Prices, surcharge: int) -> Optional[Found]:
         """The cheapest rows of a case at these prices, and its bound; None if it has no roster. A surcharge below 0 is for charges of shift
-        runs that are due, one above 0 for those that are too many."""
+        runs that are due, one above 0 for those that are too many; without such a limit there is none."""
         if limits.is_empty:
             return None
+        limit = limits.most if surcharge > 0 else limits.least
+        surcharge = surcharge if limit else 0
         pay = self._pay(prices, limits.forbidden)
         weight = NEVER if limits.most and limits.most.number == 0 else SHIFT_RUN * POINT + surcharge
         values: List[int] = [0] * len(self._starts)
@@ -109,7 +111,7 @@ class CasePricing:
                     return None
                 found.append(priced)
                 values[nurse] = value + self._base[nurse]
-        return Found(found, values, sum(values) + self._places_cost(limits, prices) + self._due(limits, surcharge))
+        return Found(found, values, sum(values) + self._places_cost(limits, prices) - surcharge * (limit.number if limit else 0))
 
     def _pay(self, prices: Prices, forbidden: Dict[int, Set[Tuple[int, int]]]) -> Any:
         """What each choice costs each nurse beside the costs of her row."""
@@ -125,12 +127,6 @@ class CasePricing:
         return self._missing * limits.given_up + sum(
             least * price + (best - least) * min(self._missing, price) for least, best, price in asked
         )
-
-    @staticmethod
-    def _due(limits: CaseLimits, surcharge: int) -> int:
-        """What the bound gains or loses by a surcharge."""
-        limit = limits.most if surcharge > 0 else limits.least
-        return -surcharge * limit.number if limit else 0
 
     def bound(self, case: Case, leaf: Leaf) -> Optional[int]:
         """What no roster of a case costs less than by a leaf, in points; None if it has no roster."""

@@ -4,7 +4,7 @@ bound first. It also finds better rosters."""
 import heapq
 import itertools
 from dataclasses import dataclass, field
-from typing import Callable, Iterable, List, Optional, Tuple
+from typing import Callable, FrozenSet, Iterable, List, Optional, Tuple
 
 from ..judging.runs import NEVER
 from ..programs.clock import Clock, TimeIsOver
@@ -22,6 +22,8 @@ from .row_generation import EXACT, SMOOTHING, WORTH
 from .row_graph import Check
 from .row_search import RowSearch
 
+# With more leaves than this all are kept.
+MOST_PRUNED = 30
 # Gets the rows of a roster.
 Offer = Callable[[List[NurseWeek]], object]
 
@@ -171,13 +173,30 @@ class CaseTree:
 
     def certificate(self) -> Certificate:
         """The cases with their prices, without those that the bound does not need."""
-        plan = self._pricing.plan
-        return Certificate(len(plan.weeks), self._pricing.crews.places, self._needed(self.root, self.bound))
+        plan, is_small = self._pricing.plan, self.leaves < MOST_PRUNED
+        return Certificate(len(plan.weeks), self._pricing.crews.places, self._needed(self.root, frozenset(), self.bound, is_small))
 
-    def _needed(self, node: CaseNode, bound: int) -> Node:
-        if node.fact is None or node.points >= bound:
-            return leaf_of(node.limits, node.prices, node.surcharge)
-        return Split(node.fact, *(self._needed(case, bound) for case in node.cases))
+    def _needed(self, node: CaseNode, dropped: FrozenSet[Fact], bound: int, prunes: bool) -> Node:
+        """The tree of a case without these facts. A split is not needed if one of its cases proves the bound without its fact, too."""
+        if node.fact is None or self._proves(node, dropped, bound):
+            return leaf_of(self._without(node, dropped), node.prices, node.surcharge)
+        for case in node.cases if prunes else ():
+            more = dropped | {node.fact}
+            if all(self._proves(leaf, more, bound) for leaf in self._leaves(case)):
+                return self._needed(case, more, bound, prunes)
+        return Split(node.fact, *(self._needed(case, dropped, bound, prunes) for case in node.cases))
+
+    def _without(self, node: CaseNode, dropped: FrozenSet[Fact]) -> CaseLimits:
+        """The limits of a case without these facts."""
+        return self._pricing.limits(tuple(claim for claim in node.case if claim.fact not in dropped)) if dropped else node.limits
+
+    def _proves(self, node: CaseNode, dropped: FrozenSet[Fact], bound: int) -> bool:
+        """Whether the prices of a case prove the bound without these facts."""
+        if not dropped:
+            return node.points >= bound
+        limits = self._without(node, dropped)
+        found = self._pricing.price(limits, node.prices, node.surcharge)
+        return found is None or limits.in_steps(found.bound) >= bound
 
 
 def tree_of(search: RowSearch, solver: LinearSolver, check: Check) -> CaseTree:

@@ -25,7 +25,6 @@ from inrc2pb.rows.skills import staffed
 from inrc2pb.solvers.answers import SolverFault
 from inrc2pb.solvers.linear_solvers import LinearSolvers
 from inrc2pb.solvers.resident_program import OPTIMAL, LinearProgram, Solution
-from inrc2pb.week.facts import Even
 
 FEW = 10**6
 
@@ -105,8 +104,9 @@ class Trees(HelperTest):
         tree.run(Clock(60.0))
         leaves = tree.certificate().leaves()
         self.assertEqual((tree.bound, self.penalty, min(self.pricing.bound(*leaf) for leaf in leaves)), (135, 135, 135))
-        self.assertTrue(all(case[0].fact == Even() for case, _ in leaves))
-        self.assertLess(len(leaves), 10)
+        # No case proves the bound for one that it is a part of, so each is needed.
+        self.assertTrue(all(self.pricing.bound(case[:-1], leaf) < 135 for case, leaf in leaves))
+        self.assertTrue(1 < len(leaves) < 10)
 
     def test_solvers_that_lie(self):
         for seed in range(6):
