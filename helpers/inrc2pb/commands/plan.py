@@ -13,7 +13,7 @@ from ..plans.verbs import Means, Verbs
 from ..plans.ward_folder import WardFolder
 from ..plans.ward_plan import Sheet
 from ..programs.interrupts import interrupts
-from ..programs.program import BROKEN_RULE, find_program
+from ..programs.program import find_program
 from ..programs.progress import Progress
 from ..sheets.plan_sheets import AWAY, read_days
 from ..sheets.sheet_files import read_book
@@ -156,4 +156,4 @@ def main() -> Optional[int]:
     with folder.locked(_say):
         lines = _done(verbs, given)
     print("\n".join(lines))
-    return BROKEN_RULE if verbs.refused else 0
+    return verbs.status

@@ -1,18 +1,21 @@
 """A search for the weeks of a ward's plan that are not over. Days that are over stay as they are."""
 
 import tempfile
+from dataclasses import replace
 from pathlib import Path
 from typing import Iterator, List, NamedTuple, Sequence
 
 from ..programs.clock import Clock
 from ..programs.interrupts import interrupts
+from ..programs.program import WeekFiles
 from ..programs.progress import Progress
 from ..search.period_search import PeriodSearch
 from ..search.planned_weeks import PeriodFiles, PlannedWeeks, history_name
+from ..search.why_none import EXISTS, why_none
 from ..week.facts import Choice, Claim, Fact, facts_text
 from ..week.faults import FileFault, fault_line
 from ..week.files import history_text, solution_text, week_text
-from ..week.records import Cell, Solution, WeekData
+from ..week.records import Cell, Solution, Week, WeekData
 from ..week.writing import write_text
 from .few_changes import with_few_changes
 from .plan_days import WEEK_DAYS
@@ -105,3 +108,25 @@ def _past_claims(old: WardPlan, first: int) -> Iterator[Claim]:
     for day in range(old.first, first):
         off = (nurse for nurse in old.scenario.nurses if (nurse, day) not in works)
         yield from (Claim(Choice(day // WEEK_DAYS + 1, nurse, day % WEEK_DAYS, None)) for nurse in off)
+
+
+def why_no_plan(plan: WardPlan) -> List[str]:
+    """Which minimum numbers to lower in the first week that has no roster; nothing if each week alone has one."""
+    with tempfile.TemporaryDirectory(prefix="inrc2pb-plan-") as name:
+        for number in plan.weeks:
+            past = plan.histories[min(number, len(plan.histories) - 1)]
+            week = Week(plan.scenario, replace(past, week=number), plan.data[number])
+            lines = list(why_none(_week_files(plan, week, Path(name)), week))
+            if not lines[0].startswith(EXISTS):
+                return [f"week {number}: {line}" for line in lines]
+    return []
+
+
+def _week_files(plan: WardPlan, week: Week, folder: Path) -> WeekFiles:
+    """The files of a week, in this folder."""
+    number = week.history.week
+    paths = [folder / file for file in ("ward.txt", "history.txt", f"week-{number}.txt", f"fix-{number}.txt", FACTS)]
+    texts = plan.sheet.texts
+    for path in paths:
+        write_text(path, history_text(week.history) if path.name == "history.txt" else texts[path.name])
+    return WeekFiles(paths[0], paths[1], paths[2], paths[3], given=paths[4])

@@ -10,16 +10,17 @@ from ..judging.absences import absences_of, in_words, joined, readable, working_
 from ..judging.limits import exceeded, limits_in_words, limits_way_out
 from ..judging.next_history import next_history
 from ..programs.interrupts import interrupts
+from ..programs.program import BROKEN_RULE, NO_ROSTER
 from ..programs.progress import Progress
 from ..shown.telling import held_sentences, history_sentences, scenario_sentences, week_sentences
 from ..shown.why import breach_lines, change_lines as cost_lines
-from ..week.faults import Misuse, fault_line
+from ..week.faults import Misuse, ProgramFault, fault_line
 from ..week.hints import plural
 from ..week.records import Cell
 from . import pages
 from .few_changes import POINTS
 from .plan_days import WEEK_DAYS, PlanDays
-from .plan_search import Asked, search_plan
+from .plan_search import Asked, search_plan, why_no_plan
 from .record import Record
 from .shift_changes import ShiftChange, change_lines, shift_changes
 from .swaps import Offer, Swap, Swaps, swapped
@@ -48,8 +49,8 @@ class Verbs:
 
     def __init__(self, folder: WardFolder, means: Means) -> None:
         self._folder, self._means = folder, means
-        # Whether what was asked for was not possible.
-        self.refused = False
+        # The exit status: that of a broken rule, or of no roster, if what was asked for is not possible.
+        self.status = 0
 
     # ---- the plan that holds
 
@@ -134,7 +135,10 @@ class Verbs:
         self._means.say(f"{days}, at most {asked.seconds:g} s; Ctrl-C ends the search and keeps the best plan")
         # A second Ctrl-C does not end it before the plan is written.
         with interrupts():
-            found = search_plan(old, asked, self._means.progress)
+            try:
+                found = search_plan(old, asked, self._means.progress)
+            except ProgramFault as fault:
+                return self._no_plan(old, fault)
             lines = self._not_kept(found.plan)
             if old.is_planned:
                 lines += _changes(shift_changes(old.cells(), found.plan.cells()), old.days, absent)
@@ -142,6 +146,17 @@ class Verbs:
             lines += [f"a change was counted as {POINTS} points more, which are not in this sum"] if asked.few_changes else [found.bound]
             lines += ["stopped: this is the best plan until then"] * found.stopped
             return [*lines, *self._save(verb, found.plan, old if old.is_planned else None)]
+
+    def _no_plan(self, old: WardPlan, fault: ProgramFault) -> List[str]:
+        """Which minimum numbers to lower, if that is why there is no plan."""
+        if fault.status != NO_ROSTER or "stopped" in fault.message:
+            raise fault
+        self._means.say("no plan was found: a search for the reason, at most 30 s for each week")
+        lines = why_no_plan(old)
+        if not lines:
+            raise fault
+        self.status = NO_ROSTER
+        return lines
 
     def _not_kept(self, plan: WardPlan) -> List[str]:
         """Who works while she is away, or above a limit that holds, and what would help."""
@@ -217,7 +232,7 @@ class Verbs:
         faults = swaps.faults(swap)
         lines = [*_changes(shift_changes(old.cells(), new.cells()), old.days), *(f"not possible: {fault}" for fault in faults)]
         if faults:
-            self.refused = do
+            self.status = BROKEN_RULE * do
             return [*lines, *self._offers(old, swaps, *_shift_of(swaps, swap))]
         lines += [readable(line) for line in cost_lines(old.view(), new.view()) if line[:1] in " +-"]
         if not do:

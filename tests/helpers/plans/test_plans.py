@@ -231,6 +231,15 @@ class Verbs(FolderTest):
         self.assertEqual(*(re.search(uid, one[date])[1] for one in (before, now)))
         self.assertLessEqual(*(int(re.search(number, one[date])[1]) for one in (before, now)))
 
+    def test_needs_that_no_plan_meets(self):
+        # Amara, Bruno and Ewa have the skill.
+        self.rows["needs"][1][8] = "4"
+        self.write()
+        status, printed, said = run("plan", self.ward, "plan", "--time", "3")
+        self.assertEqual(status, 5, said)
+        self.assertRegex(printed, "^week 0: No roster .* Lower these by 1 in all; no roster can do with less:\nweek 0: Sat Day Charge: lower 4 to 3\n$")
+        self.assertFalse(list((self.ward / "plans").glob("0*")))
+
     def test_a_nurse_who_comes_and_one_who_leaves(self):
         self.begin()
         self.rows["nurses"].append(["Ida", "Half", "Nurse", *[""] * 8])
