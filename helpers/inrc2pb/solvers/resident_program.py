@@ -22,7 +22,7 @@ from ..programs.clock import Clock, TimeIsOver
 from ..programs.processes import MAX_WAIT, PIECE, Processes
 
 # Seconds that a child has beyond the end of the time to say so.
-GRACE = 0.5
+GRACE = 1.0
 # What Clp takes for infinity.
 _INFINITE = 1e30
 # The line before and after columns that are integers.
