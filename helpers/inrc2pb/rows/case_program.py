@@ -36,6 +36,8 @@ class CaseProgram:
 
     def __init__(self, pricing: CasePricing, program: LinearProgram) -> None:
         self.rows: Dict[int, PricedRow] = {}
+        # The steps of the simplex method until now.
+        self.iterations = 0
         self._pricing, self._crews, self._program = pricing, pricing.crews, program
         self._limits = pricing.limits(())
         self._known: Set[Tuple[int, NurseWeek]] = set()
@@ -109,7 +111,9 @@ class CaseProgram:
         """The value in another case by the known rows, from the kept basis and after at most these steps of the dual simplex method."""
         self.take(limits)
         self._program.take_basis()
-        return self._value(self._program.solve(clock, DUAL, iterations, whole=False).value)
+        found = self._program.solve(clock, DUAL, iterations, whole=False)
+        self.iterations += found.iterations
+        return self._value(found.value)
 
     def solve(self, clock: Clock, is_new_case: bool) -> CaseSolution:
         """A solution of the program in the case that it has now."""

@@ -14,8 +14,9 @@ from .plan import STEP, WEEK_DAYS
 _Key = TypeVar("_Key", int, NurseChoice)
 # A share this near to a whole number is one.
 WHOLE = 1e-3
-# The splits of each kind that are tried, the most steps of the dual simplex method for each, and the least rise that counts as one.
-TRIED, STEPS, LEAST_RISE = 5, 400, 1e-3
+# The splits of each kind that are tried, the most steps of the dual simplex method for each case of one and for all, and the least rise
+# that counts as one.
+TRIED, STEPS, MOST_STEPS, LEAST_RISE = 5, 400, 6000, 1e-3
 # How much the higher of the two rises counts beside the lower one.
 HIGHER = 0.1
 
@@ -48,15 +49,15 @@ def suggested(pricing: CasePricing, program: CaseProgram, now: CaseSolution, lim
             counts[nurse, day, choice] = counts.get((nurse, day, choice), 0.0) + share
     if limits.odd is not None and _is_partly(runs):
         yield Charged(SHIFT_RUNS, None, math.floor(runs))
+    names, shifts = pricing.plan.nurses, [None, *pricing.shifts]
+    for partly in (on, off):
+        shares = {of: share for of, share in partly.items() if _is_partly(share)}
+        for nurse, day, choice in _halves(shares):
+            yield Choice(day // WEEK_DAYS + 1, names[nurse], day % WEEK_DAYS, shifts[choice])
     there = {at: limits.optimal[at] - share for at, share in now.missing.items() if _is_partly(share)}
     for at in _halves(there):
         place = pricing.crews.places[at]
         yield AtPlace(place.day // WEEK_DAYS + 1, place._replace(day=place.day % WEEK_DAYS), math.floor(there[at]))
-    names, shifts = pricing.plan.nurses, [None, *pricing.shifts]
-    for partly in (off, on):
-        shares = {of: share for of, share in partly.items() if _is_partly(share)}
-        for nurse, day, choice in _halves(shares):
-            yield Choice(day // WEEK_DAYS + 1, names[nurse], day % WEEK_DAYS, shifts[choice])
 
 
 def _is_partly(number: float) -> bool:
@@ -77,7 +78,10 @@ def best_split(
     program.keep_basis()
     most = pricing.limits(case).below(target) + STEP
     tried: List[Rated] = []
+    spent = program.iterations
     for fact in facts:
+        if program.iterations - spent > MOST_STEPS:
+            break
         cases = [pricing.limits((*case, Claim(fact, holds))) for holds in (True, False)]
         holds, fails = (min(float(most), program.rise(limits, clock, STEPS)) - now.value for limits in cases)
         tried.append(Rated(fact, (holds, fails)))
