@@ -27,10 +27,10 @@ def excel(path, sheets, dates=False):
     shared, parts, links, named = [], {}, [], []
     for number, (name, rows) in enumerate(sheets.items(), 1):
         xml = ""
-        for at, row in enumerate(rows, 1):
+        for line, row in enumerate(rows, 1):
             cells = ""
             for column, text in enumerate(row):
-                place = f'r="{letters_of(column)}{at}"'
+                place = f'r="{letters_of(column)}{line}"'
                 if not text:
                     continue
                 if text.isdigit():
@@ -40,7 +40,7 @@ def excel(path, sheets, dates=False):
                 else:
                     shared.append(f"<si><r><t>{escape(text[:1])}</t></r><r><t>{escape(text[1:])}</t></r><rPh sb='0' eb='1'><t>spoken</t></rPh></si>")
                     cells += f'<c {place} t="s"><v>{len(shared) - 1}</v></c>'
-            xml += f'<row r="{at}">{cells}</row>'
+            xml += f'<row r="{line}">{cells}</row>'
         space = 'xmlns="http://schemas.openxmlformats.org/spreadsheetml/2006/main"'
         parts[f"xl/worksheets/sheet{number}.xml"] = f"<worksheet {space}><sheetData>{xml}</sheetData></worksheet>"
         links.append(f'<Relationship Id="rId{number}" Target="/xl/worksheets/sheet{number}.xml"/>' if number % 2 else
