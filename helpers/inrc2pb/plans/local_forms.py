@@ -77,7 +77,7 @@ def form_markup(form: Form, plan: WardPlan, address: str) -> Markup:
     """A form of the page. With the choice `-` a field is left out."""
     fields = [_field(name, plan) for name in form.fields]
     button = element("button", form.button, name="verb", value=form.verb)
-    return element("form", button, " ", *fields, element("small", form.text), method="post", action=address)
+    return element("form", *fields, button, " ", element("small", form.text), method="post", action=address)
 
 
 def swap_markup(words: Mapping[str, str], text: str, address: str) -> Markup:

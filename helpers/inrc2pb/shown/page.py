@@ -17,7 +17,7 @@ body { font: 10pt/1.3 sans-serif; margin: 1.2em; color: #111; background: #fff; 
 h1 { font-size: 1.4em; margin: 0 0 .2em }
 h2 { font-size: 1.15em; margin: 1.2em 0 .3em }
 p, ul { margin: .3em 0 }
-section { overflow-x: auto }
+section { overflow-x: auto; position: relative }
 table { border-collapse: collapse; margin: .6em 0 1em }
 caption { text-align: left; padding: .2em 0; font-size: .9em }
 th, td { border: 1px solid #999; padding: .15em .4em; text-align: center; font-variant-numeric: tabular-nums }
