@@ -4,6 +4,7 @@ from typing import Collection, Dict, Iterator, List, Optional, Sequence, Tuple
 
 from .absences import absences_of, joined
 from .odd_values import IMPOSSIBLE
+from ..week.facts import SHIFTS
 from .rules import ASSIGNMENT_TOTAL, MISSING_NURSE
 from ..week.records import DAYS, Absence, Cell, History, Place, Scenario, WeekData
 
@@ -53,9 +54,13 @@ def supply_warnings(scenario: Scenario, history: History, weeks: Sequence[WeekDa
         supplied += max(0, min(scenario.contract_of(nurse).assignments.maximum - history.nurses[nurse].assignments, there))
     least, best = (sum(numbers) for numbers in zip(*map(asked_shifts, weeks)))
     if best > supplied:
+        hold = {limit.nurse for data in weeks for limit in data.limits if limit.kind == SHIFTS}
+        costs = f"each shift above costs {ASSIGNMENT_TOTAL} points, and a nurse below a best number {MISSING_NURSE}: lower best numbers"
+        if hold.issuperset(scenario.nurses):
+            costs = f"{best - supplied} will be missing, for {MISSING_NURSE} points each: lower best numbers"
+            costs = f"{least - supplied} too many to keep the limits that hold: lower minimum numbers" if least > supplied else costs
         supply = f"and the contracts supply at most {supplied} beside absences"
-        costs = f"each shift above costs {ASSIGNMENT_TOTAL} points, and a nurse below a best number {MISSING_NURSE}"
-        yield f"the best numbers ask for {best} shifts, the minimum numbers for {least}, {supply}: {costs}: lower best numbers"
+        yield f"the best numbers ask for {best} shifts, the minimum numbers for {least}, {supply}: {costs}"
 
 
 def can_work(scenario: Scenario, history: Optional[History], away: Collection[Absence], nurse: str, place: Place) -> bool:

@@ -292,6 +292,11 @@ class Contents(unittest.TestCase):
         # Day Charge 14, Day Nurse 12 and 11, Late and Night 14 each; six nurses have 8 shifts, and two have 6.
         asks = "sheet needs: the best numbers ask for 65 shifts, the minimum numbers for 51, and the contracts supply at most 60 beside absences"
         self.assertIn(f"{asks}: each shift above costs 20 points, and a nurse below a best number 30: lower best numbers", made(sheets).warnings)
+        sheets["contracts"][0][2] = "shifts max!"
+        self.assertIn(f"{asks}: 5 will be missing, for 30 points each: lower best numbers", made(sheets).warnings)
+        sheets["contracts"][1][1:3] = ["4", "6"]
+        few = asks.replace("at most 60", "at most 48")
+        self.assertIn(f"{few}: 3 too many to keep the limits that hold: lower minimum numbers", made(sheets).warnings)
         self.assertFalse([line for line in made(SHEETS).warnings if "supply at most" in line])
 
 
