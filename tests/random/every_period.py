@@ -21,7 +21,7 @@ from trials import run_trials
 
 from inrc2pb.search.bounds import prices_text
 from inrc2pb.judging.next_history import next_history
-from inrc2pb.rows.plan import WEEK_DAYS, Plan
+from inrc2pb.rows.plan import FREE, WEEK_DAYS, Plan
 from inrc2pb.rows.pricing import MAX_PRICE, Crews, Pricing, plain_bound
 
 ROSTERS = 40
@@ -81,7 +81,7 @@ def try_period(program, folder, chance):
     """Whether there are several weeks, whether the bound is above 0, and the number of rosters that were tried."""
     drafts, early = random_period(chance), chance.random() < 0.4
     values = [week_of(draft) for draft in drafts]
-    plan = Plan.of(values[0].scenario, values[0].history, [value.data for value in values], early, keeps=False)
+    plan = Plan.of(values[0].scenario, values[0].history, [value.data for value in values], early, keeping=FREE)
     crews = Crews(plan)
     prices = random_prices(chance, crews.places)
     texts = [files_of(draft) for draft in drafts]
