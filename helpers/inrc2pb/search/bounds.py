@@ -1,6 +1,7 @@
 """Lower bounds from prices: `inrc2pb-bound` proves those of a week, and `inrc2pb-period-bound` those of several weeks. Without them they
 are computed in plain Python."""
 
+import contextlib
 import os
 import re
 import tempfile
@@ -9,7 +10,7 @@ from pathlib import Path
 from typing import Callable, List, Optional, Sequence, Tuple
 
 from ..rows.cases import PricedCase
-from ..rows.certificate import Certificate, table_lines
+from ..rows.certificate import Certificate, Leaf, table_lines
 from ..week.faults import ProgramFault
 from ..rows.pricing import Prices
 from ..programs.processes import Processes
@@ -20,6 +21,8 @@ from ..week.writing import write_text
 PROVER, PERIOD_PROVER, PLAIN = "inrc2pb-bound", "inrc2pb-period-bound", "plain Python, not proved"
 # The options of the programs for what proves a bound.
 PRICES, CASES, PROOF = "--prices", "--cases", "--proof"
+# Seconds for the help of a program.
+HELP_SECONDS = 5.0
 # The options of a week's files, and the text of its prices or cases.
 PricedWeek = Tuple[Sequence[str], str]
 
@@ -97,9 +100,11 @@ class Prover:
 
     def reads(self, option: str) -> bool:
         """Whether the program has this option."""
-        if self._help is None:
-            self._help = self._run(["--help"], LONGEST_RUN) or ""
-        return f"{option} " in self._help
+        if self._help is None and self._program:
+            self._help = ""
+            with contextlib.suppress(ProgramFault):
+                self._help = run_unless_stopped(self._program, ["--help"], HELP_SECONDS, self._processes) or ""
+        return f"{option} " in (self._help or "")
 
     def _run(self, words: Sequence[str], seconds: float) -> Optional[str]:
         """What the program prints."""
@@ -122,9 +127,9 @@ class Bounds:
     `inrc2pb-bound`, which `warn` gets, bounds are computed in plain Python."""
 
     def __init__(
-        self, files: WeekFiles, scenario: Scenario, places: Sequence[Place], target: Optional[Path], warn: Callable[[str], None]
+        self, files: WeekFiles, week: int, scenario: Scenario, places: Sequence[Place], target: Optional[Path], warn: Callable[[str], None]
     ) -> None:
-        self._files, self._scenario, self._places, self._target = files, scenario, places, target
+        self._files, self._week, self._scenario, self._places, self._target = files, week, scenario, places, target
         # Ctrl-C does not end a proof of one week, which takes moments.
         self._prover = Prover(PROVER, Processes(), warn)
         self._seen: Optional[Prices] = None
@@ -135,7 +140,7 @@ class Bounds:
         """The bound of these prices; `plain` computes it in plain Python."""
         if prices is not self._seen or self._best is None:
             self._seen = prices
-            self._take(self._priced(prices), PRICES, plain)
+            self._take(*self._priced(prices), plain)
         assert self._best is not None
         return self._best
 
@@ -145,13 +150,11 @@ class Bounds:
         assert self._best is not None
         return self._best
 
-    def prove(self, certificate: Certificate, week: int) -> Optional[Bound]:
-        """The best bound of the week of this number, after one by a certificate; only a program that reads it proves it."""
+    def prove(self, certificate: Certificate) -> Optional[Bound]:
+        """The best bound, after one by a certificate; only a program that reads it proves it."""
         if certificate is not self._certified and self._prover.reads(PROOF):
             self._certified = certificate
-            fix = ["--fix", f"{week}={self._files.fix}"] if self._files.fix else []
-            words = [*replace(self._files, fix=None).options(), *fix]
-            self._take((words, certificate.text(self._scenario.name)), PROOF, lambda: 0)
+            self._take(self._certificate(certificate), PROOF, lambda: 0)
         return self._best
 
     def _take(self, week: PricedWeek, option: str, plain: Callable[[], int]) -> None:
@@ -164,14 +167,22 @@ class Bounds:
     def no_roster(self, places: Sequence[Place], prices: Prices) -> Optional[str]:
         """What proved by these prices that no roster keeps the minimums; None if they do not prove it."""
         self._places = places
-        self._write(self._priced(prices))
-        answer = self._prover.answer([self._priced(prices)], ["--minimums"])
+        week, option = self._priced(prices)
+        self._write(week)
+        answer = self._prover.answer([week], ["--minimums"], option=option)
         if answer is None:
             return PLAIN
         return PROVER if answer.startswith("no roster exists") else None
 
-    def _priced(self, prices: Prices) -> PricedWeek:
-        return self._files.options(), prices_text(self._scenario, self._places, prices)
+    def _priced(self, prices: Prices) -> Tuple[PricedWeek, str]:
+        """The week with these prices, and the option for them."""
+        if self._prover.reads(PROOF):
+            return self._certificate(Certificate(1, self._places, Leaf(prices))), PROOF
+        return (self._files.options(), prices_text(self._scenario, self._places, prices)), PRICES
+
+    def _certificate(self, certificate: Certificate) -> PricedWeek:
+        fix = ["--fix", f"{self._week}={self._files.fix}"] if self._files.fix else []
+        return [*replace(self._files, fix=None).options(), *fix], certificate.text(self._scenario.name)
 
     def _write(self, week: PricedWeek) -> None:
         if self._target:

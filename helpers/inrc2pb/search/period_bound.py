@@ -2,11 +2,11 @@
 
 import concurrent.futures
 from pathlib import Path
-from typing import Callable, List, NamedTuple, Optional
+from typing import Callable, List, NamedTuple, Optional, Tuple
 
-from .bounds import PERIOD_PROVER, PLAIN, PROOF, PROVER, Bound, PricedWeek, Prover, prices_text
+from .bounds import PERIOD_PROVER, PLAIN, PRICES, PROOF, PROVER, Bound, PricedWeek, Prover, prices_text
 from ..programs.clock import Clock
-from ..rows.certificate import Certificate
+from ..rows.certificate import Certificate, Leaf
 from ..rows.plan import WEEK_DAYS
 from .planned_weeks import PlannedWeeks, prices_name
 from ..rows.pricing import Prices, Pricing, plain_bound
@@ -39,8 +39,10 @@ class PeriodBound:
         self._faults: List[str] = []
         # A search that has found the best plan ends its own processes, and not these.
         self._processes = Processes()
-        self._prover = Prover(PERIOD_PROVER, self._processes, self._faults.append)
-        self._reader = Prover(PROVER, self._processes, self._faults.append)
+        reader = Prover(PROVER, self._processes, self._faults.append)
+        # Whether there is a program that proves a bound by a certificate.
+        self.reads_certificates = reader.reads(PROOF)
+        self._prover = reader if self.reads_certificates else Prover(PERIOD_PROVER, self._processes, self._faults.append)
         self._thread = concurrent.futures.ThreadPoolExecutor(1)
         self._running: Optional["concurrent.futures.Future[Optional[Bound]]"] = None
         # The best prices, those of the last proof, the best bound that is proved, and its prices.
@@ -59,20 +61,12 @@ class PeriodBound:
         if search.complete or self._clock.left() < self._last_from:
             self._begin()
 
-    @property
-    def reads_certificates(self) -> bool:
-        """Whether there is a program that proves a bound by a certificate."""
-        return self._reader.reads(PROOF)
-
     def prove(self, certificate: Certificate, penalty: Optional[int]) -> bool:
         """Whether a program proves by a certificate that no plan costs less than this penalty."""
         if certificate is self._certified:
             return self._proved is not None and self._proved.points == penalty
         self._certified = certificate
-        words = [word for of_week in self._weeks.options() for word in of_week]
-        fixes = [word for number, path in self._weeks.files.fixes.items() for word in ("--fix", f"{number}={path}")]
-        text = certificate.text(self._weeks.scenario.name)
-        found = self._reader.bound([([*words, *fixes], text)], max(self._clock.left(), PROOF_SECONDS), PROOF)
+        found = self._prover.bound([self._certificate(certificate)], max(self._clock.left(), PROOF_SECONDS), PROOF)
         if found and found.is_believed(penalty) and (self._proved is None or found.points > self._proved.points):
             self._proved = found
         return self._proved is not None and self._proved.points == penalty
@@ -87,16 +81,15 @@ class PeriodBound:
         while self._begin() and self._running:
             concurrent.futures.wait([self._running], WAIT_SECONDS)
             if not told and not self._running.done() and self._clock.left() > WAIT_SECONDS:
-                self._warn(
-                    f"the plan is written, and {PERIOD_PROVER} proves its bound, in at most {self._clock.left():.0f} s: Ctrl-C ends that"
-                )
+                proves = f"{self._prover.name} proves its bound, in at most {self._clock.left():.0f} s"
+                self._warn(f"the plan is written, and {proves}: Ctrl-C ends that")
                 told = True
 
     def bound(self, penalty: Optional[int]) -> Optional[Bound]:
         """The bound that is proved, or that of plain Python; None without prices. One above the penalty of a plan is not believed."""
         self._take()
         if self._best and self._best is not self._tried and self._prover.works and not self._clock.stopped:
-            self._faults.append(f"no time was left for {PERIOD_PROVER}")
+            self._faults.append(f"no time was left for {self._prover.name}")
         if self._proved and not self._proved.is_believed(penalty):
             self._prover.fail(f"its bound {self._proved.points} is above the penalty of a plan")
             self._proved = None
@@ -122,7 +115,7 @@ class PeriodBound:
         if self._best is None or self._best is self._tried or not self._prover.works or not self._clock.left():
             return False
         self._tried = self._best
-        self._running = self._thread.submit(self._prover.bound, self._by_week(self._best), self._clock.left())
+        self._running = self._thread.submit(self._prover.bound, *self._given(self._best))
         return True
 
     def _take(self) -> None:
@@ -138,6 +131,18 @@ class PeriodBound:
             return None
         points = self._best.points
         return Bound(plain_bound(self._best.pricing.free(), self._best.prices) if points is None else points, PLAIN)
+
+    def _given(self, priced: _Priced) -> Tuple[List[PricedWeek], float, str]:
+        """What the program gets of these prices, its time, and the option for them."""
+        if not self.reads_certificates:
+            return self._by_week(priced), self._clock.left(), PRICES
+        certificate = Certificate(len(self._weeks.numbers), priced.pricing.crews.places, Leaf(priced.prices))
+        return [self._certificate(certificate)], self._clock.left(), PROOF
+
+    def _certificate(self, certificate: Certificate) -> PricedWeek:
+        words = [word for of_week in self._weeks.options() for word in of_week]
+        fixes = [word for number, path in self._weeks.files.fixes.items() for word in ("--fix", f"{number}={path}")]
+        return [*words, *fixes], certificate.text(self._weeks.scenario.name)
 
     def _by_week(self, priced: _Priced) -> List[PricedWeek]:
         """The options and the text of the prices of each week."""

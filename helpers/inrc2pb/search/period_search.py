@@ -4,7 +4,7 @@ import tempfile
 from pathlib import Path
 from typing import Callable, List, Optional, Sequence, Tuple
 
-from .bounds import PERIOD_PROVER, PLAIN, PROVER, Bound
+from .bounds import PLAIN, Bound
 from ..programs.clock import Clock
 from ..week.faults import ProgramFault
 from ..week.records import Cell
@@ -199,7 +199,7 @@ class PeriodSearch:
             return "no lower bound"
         bound = f"lower bound {self.bound.points} of the sum ({self.bound.by})"
         if self.penalty <= self.bound.points:
-            return f"{bound}: no plan costs less" + (", proved" if self.bound.by in (PERIOD_PROVER, PROVER) else "")
+            return f"{bound}: no plan costs less" + (", proved" if self.bound.by != PLAIN else "")
         best = self.bound.points
         if self._rank and not any(self._rank[:2]) and self._kept_bound > best:
             best, bound = self._kept_bound, f"{bound}, {self._kept_bound} with all absences and limits ({PLAIN})"

@@ -67,7 +67,7 @@ class WeekSearch:
         Rows keep all absences and limits, unless no roster can.
         """
         plan = Plan.of(self._week.scenario, self._week.history, [self._week.data], self._files.early, self._held)
-        bounds = Bounds(self._files, plan.scenario, list(plan.demand), prices, self._progress.warn)
+        bounds = Bounds(self._files, self._week.history.week, plan.scenario, list(plan.demand), prices, self._progress.warn)
         names = installed()
         if not names:
             self._progress.warn(f"there is no cbc, clp or glpsol, so this is only a first roster: {INSTALL}")
@@ -122,7 +122,7 @@ class WeekSearch:
             if cases:
                 bound = bounds.of_cases(pricing.plan.nurses, cases, lambda: plain_cases_bound(pricing.free(), cases or ()))
             if run.certificate:
-                bound = bounds.prove(run.certificate, self._week.history.week) or bound
+                bound = bounds.prove(run.certificate) or bound
             if self._bound is None or bound.points > self._bound.points:
                 self._bound = bound
                 if self.bound is None:

@@ -170,7 +170,8 @@ class Improve(HelperTest):
         self.assertTrue(prices.read_text().startswith("CASES\ncases\n\nOFF = "), said)
 
     def test_a_proof_by_a_tree_of_cases(self):
-        report, said, prices = self.improve(f"echo lower bound {BEST}", "--proof")
+        by_file = f"for file; do :; done; grep -q SPLIT $file && echo lower bound {BEST} || echo lower bound {BY_PRICES}"
+        report, said, prices = self.improve(by_file, "--proof")
         lines = f"lower bound {BEST} ({PROVER})\nno roster costs less, proved\n{prices} has cases: {PROVER} --proof reads them\n"
         self.assertTrue(report.endswith(lines), report)
         self.assertTrue(prices.read_text().startswith("CERTIFICATE cases\nWEEKS = 1\nPRICES = "), said)

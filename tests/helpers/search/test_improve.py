@@ -57,7 +57,7 @@ class Searches(HelperTest):
         week, target = files.read_files(SCENARIO, HISTORY, WEEK), self.folder / "prices.txt"
         plan = Plan.of(week.scenario, week.history, [week.data])
         with mock.patch.object(bounds, "find_prover", lambda name: None):
-            found = bounds.Bounds(WEEK_FILES, plan.scenario, list(plan.demand), target, self.fail)
+            found = bounds.Bounds(WEEK_FILES, 0, plan.scenario, list(plan.demand), target, self.fail)
         for price, points in ((7, 20), (8, 10)):
             self.assertEqual(found.of([price] * len(plan.demand), lambda: points).points, 20)
         self.assertIn(" 7 7 ", target.read_text())

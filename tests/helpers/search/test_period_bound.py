@@ -60,7 +60,7 @@ class Proofs(FakeProver):
     def bound_by(self, how, seconds=600.0):
         """The bound of a period with this program, which gets that many seconds."""
         self.clock = Clock(seconds)
-        with mock.patch.object(bounds, "find_prover", lambda name: None if how is None else self.prover(how)):
+        with mock.patch.object(bounds, "find_prover", lambda name: self.prover(how) if how is not None and name == PERIOD_PROVER else None):
             return PeriodBound(self.weeks, self.clock, self.warnings.append)
 
     def search(self, price, is_final=True, points=BY_PYTHON.points):
