@@ -8,7 +8,7 @@ import math
 import threading
 from typing import Callable, Dict, List, Optional, Sequence, Tuple
 
-from ..programs.clock import Clock
+from ..programs.clock import Clock, TimeIsOver
 from ..week.faults import Misuse
 from .first_rows import Descent
 from ..solvers.linear_solvers import LinearSolver
@@ -105,22 +105,41 @@ class RowSearch(RowGeneration):
 
     def dive(self, clock: Clock) -> Optional[List[NurseWeek]]:
         """Fixes rows a few at a time, with new ones in between. Returns a row of each nurse, None if they cannot be better than the
-        best."""
+        best. At the end of the time the other rows are those of the greatest shares, made better one after another."""
+        chosen: Dict[int, int] = {}
         try:
-            chosen = self._dive(clock)
+            found = self._dive(clock, chosen)
+        except TimeIsOver:
+            self.clock.check()
+            self._round(chosen)
+            return None
         finally:
             self.program.free()
-        return [self.program.columns[chosen[nurse]].row for nurse in range(len(self.plan.nurses))] if chosen else None
+        return [self.program.columns[chosen[nurse]].row for nurse in range(len(self.plan.nurses))] if found else None
 
-    def _dive(self, clock: Clock) -> Optional[Dict[int, int]]:
-        """The column of each nurse, by number."""
-        columns, chosen = self.program.columns, dict.fromkeys(range(0), 0)
+    def _round(self, chosen: Dict[int, int]) -> None:
+        """Takes the chosen rows, and the others of the greatest shares in the last solution of all, made better one after another."""
+        columns, shares = self.program.columns, self.solved.shares if self.solved else {}
+        by_nurse = {columns[number].nurse: number for number in sorted(shares, key=shares.__getitem__)}
+        by_nurse.update(chosen)
+        if len(by_nurse) < len(self.plan.nurses):
+            return
+        descent = Descent(self.pricing, [columns[by_nurse[nurse]].row for nurse in range(len(self.plan.nurses))])
+        try:
+            while descent.sweep(self.clock.check):
+                pass
+        finally:
+            self.keep(descent.rows, "fixing rows in a short time")
+
+    def _dive(self, clock: Clock, chosen: Dict[int, int]) -> bool:
+        """Chooses a column of each nurse, by number. Returns whether there is one."""
+        columns = self.program.columns
         share, last, most_share = FIRST_SHARE, -math.inf, MOST_SHARE if len(self.plan.weeks) == 1 else FIRST_SHARE
         while len(chosen) < len(self.plan.nurses):
             before = clock.left()
             now = self._relaxed_beside(chosen, clock)
             if self.penalty is not None and now.value > self.penalty - STEP + EXACT:
-                return None
+                return False
             share = min(most_share, share * 1.5) if now.value <= last + EXACT else max(LEAST_SHARE, share * 0.7)
             last = now.value
             free = len(self.plan.nurses) - len(chosen)
@@ -136,8 +155,8 @@ class RowSearch(RowGeneration):
                     self.program.hold(number)
                     fixed += 1
             if not fixed:
-                return None
-        return chosen
+                return False
+        return True
 
     def _relaxed_beside(self, chosen: Dict[int, int], clock: Clock) -> Solved:
         """The linear program with these columns fixed, and some new rows for the other nurses."""

@@ -11,9 +11,10 @@ from unittest import mock
 from ward import HAS_CBC, ROOT, HelperTest, files, records
 
 from inrc2pb.rows import row_generation, row_program
-from inrc2pb.programs.clock import Clock
+from inrc2pb.programs.clock import Clock, TimeIsOver
 from inrc2pb.solvers.answers import Chosen, SolverFault
 from inrc2pb.solvers.linear_solvers import LinearSolver, LinearSolvers
+from inrc2pb.rows.first_rows import matched_rows
 from inrc2pb.rows.plan import Plan
 from inrc2pb.rows.pricing import Crews, Pricing
 from inrc2pb.programs.processes import Processes
@@ -153,6 +154,23 @@ class RowSearches(HelperTest):
         for text in (basis.read_text()[:200], basis.read_text().replace(" v1", " x1"), "", "nonsense\n"):
             basis.write_text(text)
             self.assertEqual(solver.relax(models[1], Clock(60), True).value, values[1])
+
+    @unittest.skipUnless(HAS_CBC, "needs cbc")
+    def test_fixing_that_its_time_ends(self):
+        week = week_of("thirty")
+        plan = Plan.of(week.scenario, week.history, [week.data])
+        solver = LinearSolvers(["cbc"], Processes(), self.folder, self.fail, resident=True)
+        self.addCleanup(solver.close)
+        pricing = Pricing(plan, Crews(plan), lambda: None)
+        search = RowSearch(pricing, solver, Clock(60), lambda rows, finder: search.value_of(rows), lambda: None)
+        search.begin(matched_rows(plan, search.pricing.crews, lambda: None), None)
+        search.generate(search.clock)
+        before = search.penalty
+        with mock.patch.object(RowSearch, "_dive", side_effect=TimeIsOver):
+            self.assertIsNone(search.dive(Clock(60)))
+        self.assertLess(search.penalty, before)
+        cells = staffed(plan, search.pricing.crews, search.rows).cells
+        self.assertEqual((first_broken(week, cells), sum(costs(week, cells).values())), (None, search.penalty))
 
     def chosen(self, names, proved):
         """What a search makes of this answer to a program whose only rows are those of nurses who are always off."""
