@@ -44,9 +44,9 @@ class SearchResult:
         self.kept_bound = 0 if self.breaks or self.exceeds else search.kept_bound
         self.bound = search.bound.points if search.bound else None
         self.bound_by = search.bound.by if search.bound else ""
-        # The file that has cases in place of prices, if any, and the option by which the program reads it.
+        # What reads the file of what proves the bound, if that is not prices.
         option = search.bound.option if search.bound else PRICES
-        self.cases = f"{prices} has cases: {PROVER} {option}" if prices and option != PRICES else ""
+        self.reads = f"{PROVER} {option} reads {prices}" if prices and option != PRICES else ""
         self.claimed_by = search.claimed_by
         self.proved = best.proved
         self.stopped = stopped
@@ -54,7 +54,7 @@ class SearchResult:
 
     def lines(self) -> List[str]:
         """The lines that follow the report."""
-        return [*self._bound_lines(), *([f"{self.cases} reads them"] if self.cases else [])]
+        return [*self._bound_lines(), *([self.reads] if self.reads else [])]
 
     def _bound_lines(self) -> List[str]:
         if self.bound is None:

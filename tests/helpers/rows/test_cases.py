@@ -165,14 +165,14 @@ class Improve(HelperTest):
 
     def test_a_proof_by_cases(self):
         report, said, prices = self.improve(f"echo lower bound {BEST}")
-        lines = f"lower bound {BEST} ({PROVER})\nno roster costs less, proved\n{prices} has cases: {PROVER} --cases reads them\n"
+        lines = f"lower bound {BEST} ({PROVER})\nno roster costs less, proved\n{PROVER} --cases reads {prices}\n"
         self.assertTrue(report.endswith(lines), report)
         self.assertTrue(prices.read_text().startswith("CASES\ncases\n\nOFF = "), said)
 
     def test_a_proof_by_a_tree_of_cases(self):
         by_file = f"for file; do :; done; grep -q SPLIT $file && echo lower bound {BEST} || echo lower bound {BY_PRICES}"
         report, said, prices = self.improve(by_file, "--proof")
-        lines = f"lower bound {BEST} ({PROVER})\nno roster costs less, proved\n{prices} has cases: {PROVER} --proof reads them\n"
+        lines = f"lower bound {BEST} ({PROVER})\nno roster costs less, proved\n{PROVER} --proof reads {prices}\n"
         self.assertTrue(report.endswith(lines), report)
         self.assertTrue(prices.read_text().startswith("CERTIFICATE cases\nWEEKS = 1\nPRICES = "), said)
         self.assertIn("\nSPLIT ", prices.read_text())
