@@ -37,6 +37,8 @@ def read_record(folder: Path) -> Record:
     """The record of a plan's folder."""
     path = folder / NAME
     values: Dict[str, str] = {}
+    if not path.exists():
+        raise FileFault(folder, 0, "this folder is no plan: move it away, or type undo to go back to the plan before it")
     for line in path.read_text(encoding="utf-8").splitlines():
         key, _, value = line.partition(" = ")
         values[key] = value

@@ -14,14 +14,14 @@ from ..programs.program import BROKEN_RULE, NO_ROSTER
 from ..programs.progress import Progress
 from ..shown.telling import held_sentences, history_sentences, scenario_sentences, week_sentences
 from ..shown.why import breach_lines, change_lines as cost_lines
-from ..week.faults import Misuse, ProgramFault, fault_line
+from ..week.faults import FileFault, Misuse, ProgramFault, fault_line
 from ..week.hints import plural
 from ..week.records import Cell
 from . import pages
 from .few_changes import POINTS
 from .plan_days import WEEK_DAYS, PlanDays
 from .plan_search import Asked, search_plan, why_no_plan
-from .record import Record
+from .record import Record, read_record
 from .shift_changes import ShiftChange, change_lines, shift_changes
 from .swaps import Offer, Swap, Swaps, swapped
 from .told_absences import BACK, Told, with_days
@@ -69,6 +69,14 @@ class Verbs:
         plan = self.current()
         if not plan.is_planned:
             raise Misuse(f"{self._folder.top} has no plan yet: type inrc2pb-plan FOLDER plan")
+        return plan
+
+    def _fitting(self) -> WardPlan:
+        """The same; that the spreadsheet does not have its names any more is a Misuse."""
+        plan = self._planned()
+        if plan.unknown:
+            names = f"the plan has '{plan.unknown[0].row()}', and the spreadsheet has not all of these names"
+            raise Misuse(f"{names}: the verb plan makes a plan that fits, undo goes back to the plan before it")
         return plan
 
     def _wording(self, plan: WardPlan, words: Sequence[str], usage: str) -> Wording:
@@ -208,7 +216,7 @@ class Verbs:
 
     def swap(self, words: Sequence[str], do: bool) -> List[str]:
         """What a swap costs and breaks; who else could swap. With `do` it is written."""
-        old = self._planned()
+        old = self._fitting()
         names = [readable(nurse) for nurse in old.scenario.nurses][:2]
         wording = self._wording(old, words, f"swap {names[0]} Fri {names[-1]} Sat, or swap {names[0]} Fri for all who could")
         nurse, day = wording.nurse(), wording.open_day()
@@ -258,7 +266,7 @@ class Verbs:
 
     def over(self, words: Sequence[str]) -> List[str]:
         """The first week that is not over is over, as it was planned, or with these corrections."""
-        old = self._planned()
+        old = self._fitting()
         if not old.weeks:
             raise Misuse("all weeks are over")
         name = readable(next(iter(old.scenario.nurses)))
@@ -299,18 +307,30 @@ class Verbs:
 
     def page(self) -> List[str]:
         """Writes all pages and calendars. From now on the plan hangs on the wall."""
-        plan = self._planned()
+        plan = self._fitting()
         if not plan.published:
             return self._save("page", replace(plan, published=True))
         return self._pages(plan)
 
     def undo(self) -> List[str]:
         """The plan before the last verb holds again."""
-        undone = read_stored(self._folder.undo()).record
+        undone = _made(self._folder.undo())
         last = self._folder.last()
         if last is None:
-            return [f"undone: {undone.made}; there is no plan any more"]
-        return [f"undone: {undone.made}", f"the plan of {read_stored(last).record.made} holds again", *self._pages(self.current())]
+            return [f"undone: {undone}; there is no plan any more"]
+        lines = [f"undone: {undone}", f"the plan of {_made(last)} holds again"]
+        try:
+            return [*lines, *self._pages(self.current())]
+        except (FileFault, Misuse) as fault:
+            return [*lines, f"its pages are not written: {fault_line(fault)}"]
+
+
+def _made(folder: Path) -> str:
+    """The verb and the time of a plan; the name of its folder if it is damaged."""
+    try:
+        return read_record(folder).made
+    except (FileFault, OSError):
+        return folder.name
 
 
 def _changes(changes: List[ShiftChange], days: PlanDays, absent: str = "") -> List[str]:

@@ -64,8 +64,9 @@ def published_days(folders: Iterable[Path], days: PlanDays) -> Dict[str, Set[int
     found: Dict[str, Set[int]] = {}
     for folder in folders:
         of_plan = read_record(folder)
-        for number in range(days.weeks) if of_plan.published and of_plan.days == days else ():
-            for cell in read_solution(folder / roster_name(number)).cells:
+        rosters = [(number, folder / roster_name(number)) for number in range(days.weeks)]
+        for number, path in rosters if of_plan.published and of_plan.days == days else ():
+            for cell in read_solution(path).cells if path.exists() else ():
                 found.setdefault(cell.nurse, set()).add(WEEK_DAYS * number + cell.day)
     return found
 
@@ -85,6 +86,8 @@ class WardPlan:
     rosters: Dict[int, Cells] = field(default_factory=dict)
     told: Tuple[Told, ...] = ()
     published: bool = False
+    # The planned assignments that were left out, since the spreadsheet does not have their names.
+    unknown: Tuple[Cell, ...] = ()
 
     @property
     def days(self) -> PlanDays:
@@ -212,10 +215,10 @@ def continued(stored: Stored, sheet: Sheet) -> WardPlan:
     _check_days(sheet.days, before.days)
     for number in range(before.open_week):
         _check_names(plan.scenario, number, stored.rosters.get(number, ()))
-    rosters = {
-        number: _known_cells(plan.scenario, cells) if number >= before.open_week else cells for number, cells in stored.rosters.items()
-    }
-    return replace(plan, open_week=before.open_week, rosters=rosters, told=stored.told, published=before.published)
+    open_cells = [(number, cell) for number, cells in stored.rosters.items() if number >= before.open_week for cell in cells]
+    unknown = tuple(cell for _, cell in open_cells if not _is_known(plan.scenario, cell))
+    rosters = {number: tuple(cell for cell in cells if cell not in unknown) for number, cells in stored.rosters.items()}
+    return replace(plan, open_week=before.open_week, rosters=rosters, told=stored.told, published=before.published, unknown=unknown)
 
 
 def _check_days(now: PlanDays, before: PlanDays) -> None:
@@ -243,8 +246,6 @@ def _check_names(scenario: Scenario, number: int, cells: Cells) -> None:
             )
 
 
-def _known_cells(scenario: Scenario, cells: Cells) -> Cells:
-    """The assignments that the ward still has names for."""
-    return tuple(
-        cell for cell in cells if cell.nurse in scenario.nurses and cell.shift in scenario.shift_types and cell.skill in scenario.skills
-    )
+def _is_known(scenario: Scenario, cell: Cell) -> bool:
+    """Whether the ward has the names of an assignment."""
+    return cell.nurse in scenario.nurses and cell.shift in scenario.shift_types and cell.skill in scenario.skills

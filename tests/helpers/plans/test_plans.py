@@ -273,6 +273,27 @@ class Verbs(FolderTest):
             self.does("undo")
         self.assertTrue(offers)
 
+    def test_plans_that_were_edited_by_hand(self):
+        self.begin()
+        roster = self.last() / "roster-1.txt"
+        text = roster.read_text()
+        row = text.splitlines()[4]
+        other = f"{row.rsplit(' ', 1)[0]} Nurze"
+        for new, says in (
+            (text.replace(row, other), f"the plan has '{other}', and the spreadsheet has not all of these names: "),
+            (text.replace(f"{row}\n", "", 1), "roster-1.txt: end of file"),
+            ("", "roster-1.txt"),
+        ):
+            roster.write_text(new)
+            for verb in ("page", "over"):
+                status, printed, said = run("plan", self.ward, verb)
+                self.assertEqual((status, printed, said.count("\n")), (1, "", 1), said)
+                self.assertIn(says.split(":")[0], said)
+        (self.ward / "plans" / "0002-other").mkdir()
+        status, _, said = run("plan", self.ward, "page")
+        self.assertEqual((status, said.split(": ")[2]), (1, "this folder is no plan"))
+        self.assertIn("undone: 0002-other\n", self.does("undo"))
+
     def test_a_swap_that_cannot_be_is_not_written(self):
         self.begin()
         cells = self.cells()
