@@ -20,7 +20,7 @@ def write_roster_page(top: Path, plan: WardPlan, old: Optional[WardPlan] = None)
 
 
 def write_all(top: Path, plan: WardPlan, before: Mapping[str, Collection[int]]) -> List[Path]:
-    """Writes the page for the wall, and a calendar for each nurse if the plan has dates. `before` has the days of her shifts in older ones."""
+    """Writes the page for the wall, and a calendar for each nurse if the plan has dates. `before` has the days of their older shifts."""
     content = roster_content(plan)
     write_text(top / WALL, page_text(Content(content.view, None, content.monday, content.times, True)))
     if content.monday is None:
