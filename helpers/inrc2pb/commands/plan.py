@@ -8,7 +8,7 @@ from typing import Callable, Dict, List, Optional, Sequence
 from ..plans.local_jobs import Jobs
 from ..plans.local_server import LocalServer
 from ..plans.plan_days import PlanDays
-from ..plans.told_absences import Told, with_told
+from ..plans.written_absences import WrittenAbsence, with_written
 from ..plans.verbs import Means, Verbs
 from ..plans.ward_folder import WardFolder
 from ..plans.ward_plan import Sheet
@@ -27,7 +27,7 @@ from .ward import ward_files, ward_name
 CREDITED = tuple(word for word in AWAY if word not in ("away", "unpaid"))
 # What each verb does, in the order of the help. Those that only read need no lock.
 VERBS = {
-    "check": "read the spreadsheet, say what is wrong, and tell the ward in sentences",
+    "check": "name the mistakes of the spreadsheet, and print the ward in sentences",
     "plan [DAY]": "plan the weeks that are not over, from this day on",
     "ill NAME DAY [DAY]": "she is ill from the first to the last day: a plan with few changes; also leave, unpaid, training, away",
     "back NAME DAY": "she is back from this day on",
@@ -73,10 +73,10 @@ def _options() -> argparse.ArgumentParser:
     return options
 
 
-def read_sheet(path: Path, name: Optional[str], told: Sequence[Told]) -> Sheet:
+def read_sheet(path: Path, name: Optional[str], written: Sequence[WrittenAbsence]) -> Sheet:
     """The files of a ward's spreadsheet, with these absences in its plan."""
     book = read_book(path)
-    book = with_told(book, read_days(book), told)
+    book = with_written(book, read_days(book), written)
     days = read_days(book)
     files = ward_files(book, name or ward_name(path), days, days.weeks, CREDITED)
     credit = {nurse: shifts for nurse, (_, shifts) in files.credit.items()}

@@ -25,7 +25,7 @@ class Form(NamedTuple):
 
 
 FORMS = (
-    Form("check", "Read the spreadsheet", "says what is wrong, and tells the ward in sentences", (), False),
+    Form("check", "Read the spreadsheet", "names its mistakes, and prints the ward in sentences", (), False),
     Form("plan", "Plan", "the weeks that are not over", ("from", "seconds", "free"), False),
     Form("away", "Write an absence", "all days before stay as they are", ("nurse", "first", "last", "reason")),
     Form("back", "Back", "from a day on", ("nurse", "first")),

@@ -24,13 +24,13 @@ from .plan_search import Asked, search_plan, why_no_plan
 from .record import Record, read_record
 from .shift_changes import ShiftChange, change_lines, shift_changes
 from .swaps import Offer, Swap, Swaps, swapped
-from .told_absences import BACK, Told, with_days
+from .written_absences import BACK, WrittenAbsence, with_days
 from .ward_folder import WardFolder
 from .ward_plan import Sheet, WardPlan, continued, first_plan, published_days, read_stored
 from .wording import Wording
 
 # Reads the spreadsheet of a ward, which has this name, if it has one, with these absences in its plan.
-Reader = Callable[[Path, Optional[str], Sequence[Told]], Sheet]
+Reader = Callable[[Path, Optional[str], Sequence[WrittenAbsence]], Sheet]
 # The seconds of a search, for each week if it is a whole plan; and the most swaps that are offered.
 WEEK_SECONDS, CHANGE_SECONDS, MOST_OFFERS = 20.0, 30.0, 8
 OFF = "off"
@@ -54,15 +54,15 @@ class Verbs:
 
     # ---- the plan that holds
 
-    def current(self, told: Sequence[Told] = ()) -> WardPlan:
+    def current(self, written: Sequence[WrittenAbsence] = ()) -> WardPlan:
         """The plan that holds, with what the spreadsheet says now, and with more absences."""
         last, spreadsheet = self._folder.last(), self._folder.spreadsheet()
         if last is None:
-            return first_plan(self._means.read(spreadsheet, None, told))
+            return first_plan(self._means.read(spreadsheet, None, written))
         stored = read_stored(last)
-        all_told = told or stored.told
-        sheet = self._means.read(spreadsheet, stored.start.scenario, all_told)
-        return replace(continued(stored, sheet), told=tuple(all_told))
+        all_written = written or stored.written
+        sheet = self._means.read(spreadsheet, stored.start.scenario, all_written)
+        return replace(continued(stored, sheet), written=tuple(all_written))
 
     def _planned(self) -> WardPlan:
         """The same; that it has no rosters is a Misuse."""
@@ -190,11 +190,11 @@ class Verbs:
         wording.end()
         if last < first:
             raise Misuse(f"{old.days.text(last)} is before {old.days.text(first)}: give the first day first")
-        told = with_days(old.told, nurse, range(first, last + 1), word)
+        written = with_days(old.written, nurse, range(first, last + 1), word)
         self._means.say(f"{readable(nurse)}: {word}, {old.days.span([first, last])}")
         return self._search(
             f"{word} {nurse} {old.days.head(first)} {old.days.head(last)}",
-            self.current(told),
+            self.current(written),
             Asked(first, True, seconds or CHANGE_SECONDS),
             nurse,
         )
@@ -208,9 +208,9 @@ class Verbs:
         days = _days_away(old, nurse, first)
         if not days:
             raise Misuse(f"{readable(nurse)} is not away on {old.days.text(first)}")
-        told = with_days(old.told, nurse, days, BACK)
+        written = with_days(old.written, nurse, days, BACK)
         self._means.say(f"{readable(nurse)}: back, {old.days.span(days)}")
-        return self._search(f"back {nurse} {old.days.head(first)}", self.current(told), Asked(first, True, seconds or CHANGE_SECONDS))
+        return self._search(f"back {nurse} {old.days.head(first)}", self.current(written), Asked(first, True, seconds or CHANGE_SECONDS))
 
     # ---- swaps
 
@@ -293,7 +293,7 @@ class Verbs:
         monday = old.days.monday and old.days.monday + datetime.timedelta(days=old.days.total)
         days = PlanDays(monday, 0)
         begun = replace(
-            worked, sheet=worked.sheet._replace(days=days, credit={}), start=past, open_week=0, rosters={}, told=(), published=False
+            worked, sheet=worked.sheet._replace(days=days, credit={}), start=past, open_week=0, rosters={}, written=(), published=False
         )
         self._save("over period", begun)
         begin = f"from {monday} on, " if monday else ""

@@ -22,8 +22,8 @@ from ..week.writing import write_text
 from . import record
 from .plan_days import WEEK_DAYS, PlanDays
 from .record import Record, read_record
-from .told_absences import Told, read_told, told_text
-from .told_absences import NAME as ABSENCES
+from .written_absences import WrittenAbsence, read_written, written_text
+from .written_absences import NAME as ABSENCES
 
 START, FACTS, REASONS = "start.txt", "facts.txt", "reasons.txt"
 Cells = Tuple[Cell, ...]
@@ -47,7 +47,7 @@ class Stored(NamedTuple):
     record: Record
     start: History
     rosters: Dict[int, Cells]
-    told: Tuple[Told, ...]
+    written: Tuple[WrittenAbsence, ...]
 
 
 def read_stored(folder: Path) -> Stored:
@@ -56,7 +56,7 @@ def read_stored(folder: Path) -> Stored:
     start = read_history(folder / START, read_scenario(folder / "ward.txt"))
     weeks = [number for number in range(of_plan.days.weeks) if (folder / roster_name(number)).exists()]
     rosters = {number: read_solution(folder / roster_name(number)).cells for number in weeks}
-    return Stored(folder, of_plan, start, rosters, read_told(folder, of_plan.days))
+    return Stored(folder, of_plan, start, rosters, read_written(folder, of_plan.days))
 
 
 def published_days(folders: Iterable[Path], days: PlanDays) -> Dict[str, Set[int]]:
@@ -84,7 +84,7 @@ class WardPlan:
     start: History
     open_week: int = 0
     rosters: Dict[int, Cells] = field(default_factory=dict)
-    told: Tuple[Told, ...] = ()
+    written: Tuple[WrittenAbsence, ...] = ()
     published: bool = False
     # The planned assignments that were left out, since the spreadsheet does not have their names.
     unknown: Tuple[Cell, ...] = ()
@@ -178,7 +178,7 @@ class WardPlan:
         found = {
             **self.sheet.texts,
             START: history_text(self.start),
-            ABSENCES: told_text(self.told, self.days),
+            ABSENCES: written_text(self.written, self.days),
             record.NAME: of_plan.text(),
         }
         found.update({f"history-{number}.txt": history_text(past) for number, past in enumerate(self.histories[: self.open_week + 1])})
@@ -218,7 +218,7 @@ def continued(stored: Stored, sheet: Sheet) -> WardPlan:
     open_cells = [(number, cell) for number, cells in stored.rosters.items() if number >= before.open_week for cell in cells]
     unknown = tuple(cell for _, cell in open_cells if not _is_known(plan.scenario, cell))
     rosters = {number: tuple(cell for cell in cells if cell not in unknown) for number, cells in stored.rosters.items()}
-    return replace(plan, open_week=before.open_week, rosters=rosters, told=stored.told, published=before.published, unknown=unknown)
+    return replace(plan, open_week=before.open_week, rosters=rosters, written=stored.written, published=before.published, unknown=unknown)
 
 
 def _check_days(now: PlanDays, before: PlanDays) -> None:

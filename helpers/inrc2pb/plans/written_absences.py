@@ -18,7 +18,7 @@ NAME = "absences.csv"
 BACK = "back"
 
 
-class Told(NamedTuple):
+class WrittenAbsence(NamedTuple):
     """A nurse's day, counted from the first Monday of the plan, and the word for it, such as `ill`."""
 
     nurse: str
@@ -26,33 +26,33 @@ class Told(NamedTuple):
     word: str
 
 
-def with_days(told: Sequence[Told], nurse: str, days: Iterable[int], word: str) -> Tuple[Told, ...]:
+def with_days(written: Sequence[WrittenAbsence], nurse: str, days: Iterable[int], word: str) -> Tuple[WrittenAbsence, ...]:
     """The absences with this word for these days of a nurse, in place of older ones."""
-    new = [Told(nurse, day, word) for day in days]
+    new = [WrittenAbsence(nurse, day, word) for day in days]
     taken = {(one.nurse, one.day) for one in new}
-    return (*(one for one in told if (one.nurse, one.day) not in taken), *new)
+    return (*(one for one in written if (one.nurse, one.day) not in taken), *new)
 
 
-def told_text(told: Sequence[Told], days: PlanDays) -> str:
+def written_text(written: Sequence[WrittenAbsence], days: PlanDays) -> str:
     """The text of the file."""
     text = io.StringIO()
     csv.writer(text, lineterminator="\n").writerows(
-        [("nurse", "day", "word"), *((one.nurse, days.head(one.day), one.word) for one in told)]
+        [("nurse", "day", "word"), *((one.nurse, days.head(one.day), one.word) for one in written)]
     )
     return text.getvalue()
 
 
-def read_told(folder: Path, days: PlanDays) -> Tuple[Told, ...]:
+def read_written(folder: Path, days: PlanDays) -> Tuple[WrittenAbsence, ...]:
     """The absences of a plan's folder that are on these days."""
     path = folder / NAME
-    found: List[Told] = []
+    found: List[WrittenAbsence] = []
     with open(path, encoding="utf-8", newline="") as file:
         for number, row in enumerate(csv.reader(file), 1):
             if len(row) != 3:
                 raise FileFault(path, number, "this row was changed: write a nurse, a day and a word")
             day = _day(path, number, row[1], days) if number > 1 else None
             if day is not None:
-                found.append(Told(row[0], day, row[2]))
+                found.append(WrittenAbsence(row[0], day, row[2]))
     return tuple(found)
 
 
@@ -66,13 +66,13 @@ def _day(path: Path, line: int, text: str, days: PlanDays) -> Optional[int]:
         raise FileFault(path, line, str(fault)) from fault
 
 
-def with_told(book: Book, days: Days, told: Sequence[Told]) -> Book:
+def with_written(book: Book, days: Days, written: Sequence[WrittenAbsence]) -> Book:
     """The spreadsheet with these absences in its plan. A nurse without a row there gets one, unless she has none in the sheet nurses."""
     rows = [list(row) for row in book.sheets["plan"]]
     head = days.plan.columns["nurse"]
     at = {_name(row.of("nurse")): row.of("nurse").row - 1 for row in days.plan.rows}
     known = {_name(row.of("nurse")) for row in table_of(book, "nurses").rows}
-    for one in told:
+    for one in written:
         nurse = one.nurse.casefold()
         if one.day >= len(days.columns) or nurse not in known:
             continue
