@@ -2,6 +2,7 @@
 
 import concurrent.futures
 import contextlib
+import math
 import time
 from typing import Callable, List, Optional, Sequence, Tuple, TypeVar
 
@@ -157,19 +158,21 @@ class RowRun:
                 beside.close()
 
     def _close_beside(self, search: RowSearch, solver: LinearSolver, clock: Clock) -> None:
-        """Closes cases as soon as the gap is small. If that ends the search, it ends all solvers."""
+        """Closes cases, in a week as soon as the gap is small. If that ends the search, it ends all solvers."""
+        most_gap = TREE_GAP if len(self._plan.weeks) == 1 else math.inf
         with contextlib.suppress(SolverFault, TimeIsOver):
-            while not self._splits(search):
+            while not self._splits(search, most_gap):
                 clock.check()
                 time.sleep(WAIT_SECONDS)
             if self._close_cases(search, solver, clock):
                 clock.stop()
                 solver.end_all()
 
-    def _splits(self, search: RowSearch) -> bool:
-        """Whether a tree of cases is worth its time."""
-        small = not search.is_proved and search.penalty is not None and search.gap() <= TREE_GAP
-        return small and self._proves is not None and numpy is not None and not search.program.names_places
+    def _splits(self, search: RowSearch, most_gap: float = TREE_GAP) -> bool:
+        """Whether a tree of cases is worth its time: up to this gap, in thousandths."""
+        if search.is_proved or search.penalty is None or search.gap() > most_gap:
+            return False
+        return self._proves is not None and numpy is not None and not search.program.names_places
 
     def _close_cases(self, search: RowSearch, solver: LinearSolver, clock: Clock) -> bool:
         """Looks for cases that show that no roster costs less than the best one, and for better rosters. Returns whether there is no better
