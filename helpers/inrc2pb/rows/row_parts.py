@@ -39,11 +39,12 @@ SMALL_GAP, WHOLE_SHARE = 0.03, 0.3
 
 class Part(NamedTuple):
     """A neighborhood: the nurses who may get new rows, the days on which these may differ from their rows now, and those of the nurses, by
-    their places in it, who must have another choice on a day."""
+    their places in it, who must have another choice on a day. If it is not `limited`, only its time ends its search."""
 
     nurses: Tuple[int, ...]
     days: range
     changed: Tuple[Tuple[int, int], ...] = ()
+    limited: bool = True
 
 
 class RowParts:
@@ -90,7 +91,7 @@ class RowParts:
         search = self._search
         if is_first and search.bound is not None and search.penalty is not None and search.gap() < SMALL_GAP * search.bound:
             with contextlib.suppress(TimeIsOver):
-                everything = Part(tuple(range(len(search.plan.nurses))), range(search.plan.days))
+                everything = Part(tuple(range(len(search.plan.nurses))), range(search.plan.days), limited=False)
                 self.improve(everything, solver, clock.part(clock.left() * WHOLE_SHARE))
         while not search.is_proved:
             clock.check()
@@ -165,7 +166,7 @@ class RowParts:
             return search.value_of(found) if kept else None
 
         search = RowSearch(self._pricing(part, rows), solver, clock, offer, lambda: None)
-        search.program.most_iterations = MOST_WORK
+        search.program.most_iterations = MOST_WORK if part.limited else math.inf
         search.rows = [rows[nurse] for nurse in nurses]
         try:
             return self._improve(search, part, clock), search.program.iterations
@@ -200,9 +201,9 @@ class RowParts:
             found = search.dive(clock)
             if found and search.keep(found, f"{name}, fixing rows"):
                 return True
-        if search.penalty is not None and search.gap() > CHOOSE_GAP:
+        if part.limited and search.penalty is not None and search.gap() > CHOOSE_GAP:
             return False
-        return search.choose(search.known_within(), clock, name, MOST_NODES)
+        return search.choose(search.known_within(), clock, name, MOST_NODES if part.limited else 0)
 
     def _pricing(self, part: Part, rows: Sequence[NurseWeek]) -> Pricing:
         """The rows of a neighborhood, with the demand that the other nurses leave on its days."""

@@ -55,7 +55,8 @@ class RowProgram:
         # The row of each crew that has several places.
         self._links: Dict[int, int] = {}
         # The steps of the simplex method until now, and at most.
-        self.iterations, self.most_iterations = 0, math.inf
+        self.iterations = 0
+        self.most_iterations = math.inf
         # Whether a column names the places of its row. Then the columns of a row have some of its places, and not all.
         self.names_places = sum(len(places) > 1 for places in crews.members) > MOST_LINKS
         program.add_rows([(1.0, 1.0)] * self._nurses + [(float(optimal), math.inf) for optimal in crews.optimal])

@@ -128,7 +128,8 @@ class Parts(HelperTest):
     def test_two_threads_find_the_best_roster(self):
         week = files.read_files(THIRTY_FILES.scenario, THIRTY_FILES.history, THIRTY_FILES.week)
         plan = Plan.of(week.scenario, week.history, [week.data])
-        solver = LinearSolvers(["cbc"], Processes(), self.folder, self.fail)
+        solver = LinearSolvers(["cbc"], Processes(), self.folder, self.fail, resident=True)
+        self.addCleanup(solver.close)
         kept = []
 
         def offer(rows, finder):
@@ -203,7 +204,7 @@ class Parts(HelperTest):
             parts = RowParts(search, [solver])
             first = parts._sizes[7]
             with mock.patch.object(RowParts, "improve", return_value=(ended, 1000)), self.assertRaises(TimeIsOver):
-                parts.run(Clock(0.1))
+                parts.run(Clock(1.0))
             self.assertEqual(parts._sizes[7] > first, grows)
 
 if __name__ == "__main__":
