@@ -12,8 +12,8 @@ from ..week.dates import DAY, day_names
 from .local_forms import FORMS, form_markup, swap_markup
 from .local_jobs import Said
 from .plan_days import WEEK_DAYS
+from .swap_words import MOST_OFFERS, offer_text
 from .swaps import Swaps
-from .verbs import MOST_OFFERS, offer_text
 from .ward_plan import WardPlan
 
 REFRESH_SECONDS = 2

@@ -6,7 +6,7 @@ from typing import Dict, Iterator, List, NamedTuple, Optional, Sequence, Tuple
 from ..judging.absences import absences_of, is_broken_by, readable
 from ..judging.limits import exceeded, excess, limits_in_words
 from ..judging.next_history import next_nurse_history
-from ..judging.rules import Charge, costs
+from ..judging.rules import costs
 from ..week.records import Cell, History, Week, WeekData
 from .plan_days import WEEK_DAYS
 from .ward_plan import WardPlan
@@ -100,13 +100,17 @@ class Swaps:
         """What the nurse is charged for these assignments in all weeks that are not over."""
         return sum(sum(costs(week, of_week).values()) for week, of_week in self._weeks(nurse, cells))
 
-    def _above(self, nurse: str, cells: Dict[int, Cell]) -> List[Charge]:
-        """What these assignments of the nurse have above limits that hold."""
-        return [charge for week, of_week in self._weeks(nurse, cells) for charge in exceeded(week, week.data.limits, of_week)]
+    def _above(self, nurse: str, cells: Dict[int, Cell]) -> Tuple[int, List[str]]:
+        """How much these assignments of the nurse have above limits that hold, and in words."""
+        weeks = [(exceeded(week, week.data.limits, of_week), of_week) for week, of_week in self._weeks(nurse, cells)]
+        return sum(excess(charges) for charges, _ in weeks), [limits_in_words(charges, of_week) for charges, of_week in weeks if charges]
 
     def _faults(self, nurse: str, cells: Dict[int, Cell], days: Sequence[int]) -> Iterator[str]:
         """Why the nurse cannot have these assignments, of which those on these days are new."""
         plan = self._plan
+        above, words = self._above(nurse, cells)
+        if above > self._above(nurse, self._cells[nurse])[0]:
+            yield f"{', '.join(words)}, and this limit holds"
         shift_on = {
             plan.first - 1: plan.histories[plan.open_week].nurses[nurse].last_shift,
             **{day: cell.shift for day, cell in cells.items()},

@@ -4,7 +4,7 @@ import datetime
 import tempfile
 from dataclasses import replace
 from pathlib import Path
-from typing import Callable, List, NamedTuple, Optional, Sequence, Tuple
+from typing import Callable, List, NamedTuple, Optional, Sequence
 
 from ..judging.absences import absences_of, in_words, joined, readable, working_while_away
 from ..judging.limits import exceeded, limits_in_words, limits_way_out
@@ -23,7 +23,8 @@ from .plan_days import WEEK_DAYS, PlanDays
 from .plan_search import Asked, search_plan, why_no_plan
 from .record import Record, read_record
 from .shift_changes import ShiftChange, change_lines, shift_changes
-from .swaps import Offer, Swap, Swaps, swapped
+from .swap_words import offer_lines, shift_of
+from .swaps import Swap, Swaps, swapped
 from .written_absences import BACK, WrittenAbsence, with_days
 from .ward_folder import WardFolder
 from .ward_plan import Sheet, WardPlan, continued, first_plan, published_days, read_stored
@@ -31,8 +32,8 @@ from .wording import Wording
 
 # Reads the spreadsheet of a ward, which has this name, if it has one, with these absences in its plan.
 Reader = Callable[[Path, Optional[str], Sequence[WrittenAbsence]], Sheet]
-# The seconds of a search, for each week if it is a whole plan; and the most swaps that are offered.
-WEEK_SECONDS, CHANGE_SECONDS, MOST_OFFERS = 20.0, 30.0, 8
+# The seconds of a search, for each week if it is a whole plan.
+WEEK_SECONDS, CHANGE_SECONDS = 20.0, 30.0
 OFF = "off"
 
 
@@ -224,7 +225,7 @@ class Verbs:
         if wording.is_over:
             if do:
                 raise Misuse("--do is for a swap of two nurses: name the other one and her day")
-            return self._offers(old, swaps, nurse, day)
+            return offer_lines(old, swaps, nurse, day)
         swap = Swap(nurse, wording.nurse(), (day,))
         swap = swap._replace(days=tuple(sorted({day, day if wording.is_over else wording.open_day()})))
         wording.end()
@@ -241,26 +242,13 @@ class Verbs:
         lines = [*_changes(shift_changes(old.cells(), new.cells()), old.days), *(f"not possible: {fault}" for fault in faults)]
         if faults:
             self.status = BROKEN_RULE * do
-            return [*lines, *self._offers(old, swaps, *_shift_of(swaps, swap))]
+            return [*lines, *offer_lines(old, swaps, *shift_of(swaps, swap))]
         lines += [readable(line) for line in cost_lines(old.view(), new.view()) if line[:1] in " +-"]
         if not do:
-            return [*lines, "nothing is written: type it again with --do", *self._offers(old, swaps, *_shift_of(swaps, swap))]
+            return [*lines, "nothing is written: type it again with --do", *offer_lines(old, swaps, *shift_of(swaps, swap))]
         self._costs(new)
         days = " ".join(map(old.days.head, swap.days))
         return [*lines, *self._save(f"swap {swap.one} {swap.other} {days}", new, old)]
-
-    def _offers(self, old: WardPlan, swaps: Swaps, nurse: str, day: int) -> List[str]:
-        cell = swaps.works(nurse, day)
-        if cell is None:
-            raise Misuse(f"{readable(nurse)} is off on {old.days.text(day)}: name a day on which she works")
-        found = swaps.offers(nurse, day)
-        shift = f"{readable(nurse)}'s {readable(cell.shift)} on {old.days.text(day)}"
-        if not found:
-            return [f"nobody can take {shift}"]
-        return [
-            f"who could take {shift}, and what it adds to the points:",
-            *(offer_text(old.days, swaps, offer) for offer in found[:MOST_OFFERS]),
-        ]
 
     # ---- the end of a week
 
@@ -346,15 +334,3 @@ def _days_away(plan: WardPlan, nurse: str, first: int) -> List[int]:
             break
         days.append(day)
     return days
-
-
-def _shift_of(swaps: Swaps, swap: Swap) -> Tuple[str, int]:
-    """The first shift that one of the two gives away."""
-    return next((nurse, day) for nurse in (swap.one, swap.other) for day in swap.days if swaps.works(nurse, day))
-
-
-def offer_text(days: PlanDays, swaps: Swaps, offer: Offer) -> str:
-    """An offer in words: who takes the shift, and which of hers is taken for it."""
-    one, other, _ = offer.swap
-    given = [f"{readable(cell.shift)} on {days.text(day)}" for day in offer.swap.days for cell in [swaps.works(other, day)] if cell]
-    return f"{offer.cost:+5}  {readable(other)} takes it" + "".join(f", and {readable(one)} her {shift}" for shift in given)

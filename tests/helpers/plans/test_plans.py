@@ -11,16 +11,20 @@ import sys
 import tempfile
 import time
 import unittest
+from dataclasses import replace
 
 from ward import HAS_CBC, HELPERS, HelperTest, files, program, run
 
+from inrc2pb.commands.plan import read_sheet
 from inrc2pb.plans.few_changes import with_few_changes
 from inrc2pb.plans.plan_days import OtherPlan, PlanDays
 from inrc2pb.plans.skill_labels import with_old_skills
+from inrc2pb.plans.swaps import Swap, Swaps
+from inrc2pb.plans.ward_plan import first_plan
 from inrc2pb.plans.wording import Wording
 from inrc2pb.sheets.ward_template import EXAMPLE
 from inrc2pb.week.faults import Misuse
-from inrc2pb.week.records import Cell, Request, WeekData
+from inrc2pb.week.records import Cell, KeptLimit, Request, WeekData
 
 MONDAY = datetime.date(2026, 11, 30)
 DATES = [str(MONDAY + datetime.timedelta(days=day)) for day in range(14)]
@@ -261,9 +265,13 @@ class Verbs(FolderTest):
     def test_swaps(self):
         self.begin()
         cells, before = self.cells(), sum(self.points())
-        nurse, day = next((nurse, day) for (nurse, day), (_, skill) in sorted(cells.items()) if skill == "Nurse" and day > 3)
-        offers = [line for line in self.does("swap", nurse, DATES[day]).splitlines() if line.endswith(" takes it")]
-        for line in offers[:3]:
+        offers = []
+        for nurse, day in sorted(cells):
+            printed = self.does("swap", nurse, DATES[day])
+            offers = [line for line in printed.splitlines() if line.endswith(" takes it")]
+            if offers:
+                break
+        for line in offers[:2]:
             cost, other = line.split()[:2]
             self.assertIn("nothing is written", self.does("swap", nurse, DATES[day], other))
             self.assertEqual(self.cells(), cells)
@@ -273,6 +281,17 @@ class Verbs(FolderTest):
             self.assertNotIn((nurse, day), self.cells())
             self.does("undo")
         self.assertTrue(offers)
+
+    def test_a_swap_above_a_limit_that_holds(self):
+        self.begin()
+        sheet = read_sheet(self.ward, None, ())
+        rows = [Cell("Chen", day, "Day", "Nurse") for day in range(5)] + [Cell("Grace", 5, "Day", "Nurse")]
+        plan = replace(first_plan(sheet), rosters={0: tuple(rows), 1: ()})
+        swap = Swap("Chen", "Grace", (5,))
+        for limits, faults in ((frozenset(), 0), (frozenset([KeptLimit("Chen", "WORK_DAYS", 0)]), 1)):
+            plan.data[0] = replace(plan.data[0], limits=limits)
+            # Chen's contract has at most five days of work in a row.
+            self.assertEqual(len(Swaps(plan).faults(swap)), faults)
 
     def test_plans_that_were_edited_by_hand(self):
         self.begin()
