@@ -1,6 +1,6 @@
 """What the facts of a case say about a plan, in its numbers: choices that are forbidden, nurses at places, and charges of shift runs."""
 
-from typing import Dict, List, NamedTuple, Optional, Set, Tuple
+from typing import Dict, NamedTuple, Optional, Set, Tuple
 
 from ..week.facts import SHIFT_RUNS, AtPlace, Charged, Choice, Claim
 from .certificate import Case

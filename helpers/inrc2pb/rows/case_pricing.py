@@ -1,6 +1,6 @@
 """The pricing of cases by NumPy, for all nurses at once: charges of shift runs are counted apart, so that a surcharge is one number."""
 
-from typing import Any, Dict, List, NamedTuple, Optional, Sequence, Set, Tuple
+from typing import Any, Dict, List, NamedTuple, Optional, Set, Tuple
 
 from ..judging.rules import SHIFT_RUN
 from ..judging.runs import NEVER

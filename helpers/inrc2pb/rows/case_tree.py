@@ -12,7 +12,7 @@ from ..solvers.answers import SolverFault
 from ..solvers.linear_solvers import LinearSolver
 from ..week.facts import Claim, Even, Fact
 from .case_limits import CaseLimits
-from .case_pricing import CasePricing, Found, PricedRow, leaf_of
+from .case_pricing import CasePricing, PricedRow, leaf_of
 from .case_program import CaseProgram, CaseSolution
 from .case_splits import best_split, suggested
 from .certificate import MOST_LEAVES, Case, Certificate, Node, Split
@@ -175,6 +175,11 @@ class CaseTree:
         """The cases with their prices, without those that the bound does not need."""
         plan, is_small = self._pricing.plan, self.leaves < MOST_PRUNED
         return Certificate(len(plan.weeks), self._pricing.crews.places, self._needed(self.root, frozenset(), self.bound, is_small))
+
+    def bound_of(self, certificate: Certificate) -> int:
+        """What no roster costs less than by a certificate, each leaf priced anew."""
+        found = (self._pricing.bound(case, leaf) for case, leaf in certificate.leaves())
+        return min((points for points in found if points is not None), default=NEVER)
 
     def _needed(self, node: CaseNode, dropped: FrozenSet[Fact], bound: int, prunes: bool) -> Node:
         """The tree of a case without these facts. A split is not needed if one of its cases proves the bound without its fact, too."""

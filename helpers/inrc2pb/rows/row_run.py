@@ -183,7 +183,7 @@ class RowRun:
         found, penalty = tree.certificate(), search.penalty
         if tree.bound > (search.lower_bound or 0) and not self._plan.asks:
             self.certificate = found
-        if tree.bound == penalty and not search.is_proved:
+        if not search.is_proved and penalty is not None and tree.bound == tree.bound_of(found) == penalty:
             self.claim = f"Python, by {len(found.leaves())} cases"
         return bool(self.claim) or search.is_proved
 

@@ -4,6 +4,7 @@ import itertools
 import random
 import unittest
 from array import array
+from unittest import mock
 
 import certificate_bound as plain
 from test_cases import FILES
@@ -14,6 +15,7 @@ from ward import HAS_CBC, HelperTest, files
 
 from inrc2pb.programs.clock import Clock, TimeIsOver
 from inrc2pb.programs.processes import Processes
+from inrc2pb.rows import row_run
 from inrc2pb.rows.case_pricing import CasePricing
 from inrc2pb.rows.case_program import CaseProgram
 from inrc2pb.rows.case_tree import CaseTree
@@ -103,7 +105,7 @@ class Trees(HelperTest):
         tree = self.tree(Plan.of(week.scenario, week.history, [week.data]), 140)
         tree.run(Clock(60.0))
         leaves = tree.certificate().leaves()
-        self.assertEqual((tree.bound, self.penalty, min(self.pricing.bound(*leaf) for leaf in leaves)), (135, 135, 135))
+        self.assertEqual((tree.bound, self.penalty, tree.bound_of(tree.certificate())), (135, 135, 135))
         # No case proves the bound for one that it is a part of, so each is needed.
         self.assertTrue(all(self.pricing.bound(case[:-1], leaf) < 135 for case, leaf in leaves))
         self.assertTrue(1 < len(leaves) < 10)
@@ -159,7 +161,8 @@ class Runs(HelperTest):
         self.assertGreater(len(run.certificate.leaves()), 1)
 
     def test_without_its_proof_days_off_are_tried(self):
-        run = self.run_rows(lambda: False)
+        with mock.patch.object(row_run, "CASES_SECONDS", 60.0):
+            run = self.run_rows(lambda: False)
         self.assertRegex(run.claim, "^Python, by [2-9] cases$")
         self.assertIsNotNone(run.cases)
 
