@@ -26,7 +26,7 @@ who_fits:
 
 # Compiles without a proof and runs the example, in about a minute.
 try:
-	bin/try.sh
+	examples/try.sh
 
 example: build
 	out/inrc2pb encode --sce examples/n005w4/ward.txt --his examples/n005w4/history-0.txt \
@@ -34,7 +34,7 @@ example: build
 
 # A week to a solver and back, each command shown before it runs.
 tour: build
-	bin/tour.sh
+	examples/tour.sh
 
 # Installs cbc from Debian, as root, plans the weeks of docs/solvers.md, and writes its table: takes some minutes.
 solvers: build
@@ -80,7 +80,7 @@ BIN = $(DESTDIR)$(PREFIX)/bin
 PAGES = $(SHARE)/doc/inrc2pb
 ZSH = $(SHARE)/zsh/site-functions
 HELPERS = $(wildcard helpers/inrc2pb-*)
-MODULES = $(wildcard helpers/inrc2pb/*.py helpers/inrc2pb/*/*.py) helpers/inrc2pb/py.typed
+MODULES = $(wildcard helpers/inrc2pb/*.py helpers/inrc2pb/*/*.py) helpers/inrc2pb/py.typed helpers/pyproject.toml
 TOP_PAGES = README.md CHANGELOG.md CONTRIBUTING.md
 COMPLETED = inrc2pb inrc2pb-bound inrc2pb-period-bound
 COMPLETIONS = "$(SHARE)/bash-completion/completions" "$(ZSH)" "$(SHARE)/fish/vendor_completions.d"
@@ -94,7 +94,7 @@ install:
 	test ! -x "$(BOUND)" || install -m 755 "$(BOUND)" "$(BIN)/inrc2pb-bound"
 	test ! -x "$(PERIOD_BOUND)" || install -m 755 "$(PERIOD_BOUND)" "$(BIN)/inrc2pb-period-bound"
 	test ! -x "$(FITS)" || install -m 755 "$(FITS)" "$(BIN)/inrc2pb-fits"
-	$(if $(HELPERS),install -m 755 $(HELPERS) "$(BIN)")
+	for helper in $(notdir $(HELPERS)); do install -m 755 helpers/launcher.py "$(BIN)/$$helper" || exit; done
 	for module in $(MODULES:helpers/%=%); do install -D -m 644 "helpers/$$module" "$(SHARE)/inrc2pb/$$module" || exit; done
 	install -m 644 man/*.1 "$(SHARE)/man/man1"
 	for helper in $(notdir $(HELPERS)); do echo '.so man1/inrc2pb-helpers.1' > "$(SHARE)/man/man1/$$helper.1"; done
@@ -102,7 +102,12 @@ install:
 	    install -m 644 "completions/$$name.bash" "$(SHARE)/bash-completion/completions/$$name" || exit; \
 	    install -m 644 "completions/_$$name" "$(ZSH)" || exit; \
 	done
-	install -m 644 completions/*.fish "$(SHARE)/fish/vendor_completions.d"
+	for name in $(COMPLETED); do install -m 644 "completions/$$name.fish" "$(SHARE)/fish/vendor_completions.d" || exit; done
+	install -m 644 completions/_inrc2pb-helpers "$(ZSH)"
+	for helper in $(notdir $(HELPERS)); do \
+	    install -m 644 completions/inrc2pb-helpers.bash "$(SHARE)/bash-completion/completions/$$helper" || exit; \
+	    install -m 644 completions/inrc2pb-helpers.fish "$(SHARE)/fish/vendor_completions.d/$$helper.fish" || exit; \
+	done
 	install -m 644 $(TOP_PAGES) "$(PAGES)"
 	install -m 644 docs/*.md docs/*.svg "$(PAGES)/docs"
 	sed -E -i 's|\[[^]]*\]\(\.\./(crates/[^)]*)\)|`\1`|g' "$(PAGES)"/docs/*.md
@@ -115,8 +120,9 @@ install:
 uninstall:
 	rm -f "$(BIN)/inrc2pb" "$(BIN)/inrc2pb-bound" "$(BIN)/inrc2pb-period-bound" "$(BIN)/inrc2pb-fits" \
 	    $(patsubst man/%,"$(SHARE)/man/man1/%",$(wildcard man/*.1)) \
-	    $(foreach name,$(COMPLETED),"$(SHARE)/bash-completion/completions/$(name)" "$(ZSH)/_$(name)" \
-	    "$(SHARE)/fish/vendor_completions.d/$(name).fish")
+	    $(foreach name,$(COMPLETED) $(notdir $(HELPERS)),"$(SHARE)/bash-completion/completions/$(name)" \
+	    "$(SHARE)/fish/vendor_completions.d/$(name).fish") \
+	    $(foreach name,$(COMPLETED) inrc2pb-helpers,"$(ZSH)/_$(name)")
 	rm -f $(patsubst helpers/%,"$(BIN)/%",$(HELPERS)) $(patsubst helpers/%,"$(SHARE)/man/man1/%.1",$(HELPERS))
 	for page in $(TOP_PAGES) docs/*.md docs/*.svg bench/README.md bench/*.svg; do rm -f "$(PAGES)/$$page"; done
 	find examples -type f ! -name '*.sh' -exec rm -f "$(PAGES)/{}" \;

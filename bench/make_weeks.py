@@ -112,10 +112,10 @@ def demands_of_ward(numbers: Numbers, nurses: int = WARD, percent: int = 100) ->
     places and down at others."""
     wanted, whole = nurses * percent, WARD * 100
     demands = {}
-    for at, (shift, skill, day) in enumerate(itertools.product(SHIFTS, SKILLS, range(len(DAYS)))):
+    for index, (shift, skill, day) in enumerate(itertools.product(SHIFTS, SKILLS, range(len(DAYS)))):
         minimum = int(skill in ("Nurse", "Caretaker")) + (day < 5 and skill == "Nurse" and shift == "Early")
         best = minimum + (numbers.below(3) > 0)
-        up = 7 * at % WARD * 100
+        up = 7 * index % WARD * 100
         demands[Place(day, shift, skill)] = Requirement((minimum * wanted + up) // whole, (best * wanted + up) // whole)
     return demands
 

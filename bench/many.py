@@ -77,13 +77,17 @@ def run_line(line: str) -> Result:
     environment = {**os.environ, "PATH": f"{ROOT / 'helpers'}:{os.environ.get('PATH', '')}"}
     with tempfile.TemporaryDirectory() as folder:
         command = line.replace("{}", shlex.quote(folder))
-        ran = subprocess.run(command, shell=True, cwd=ROOT, env=environment, stdin=subprocess.DEVNULL, stdout=subprocess.PIPE, stderr=subprocess.PIPE)
+        ran = subprocess.run(
+            command, shell=True, cwd=ROOT, env=environment, stdin=subprocess.DEVNULL, stdout=subprocess.PIPE, stderr=subprocess.PIPE
+        )
     output, errors = (data.decode("utf-8", errors="replace") for data in (ran.stdout, ran.stderr))
     used = resource.getrusage(resource.RUSAGE_CHILDREN)
     seconds, processor = round(time.monotonic() - began, 2), round(used.ru_utime + used.ru_stime, 2)
     fault = (errors.strip().splitlines() or [""])[-1] if ran.returncode else ""
     where = platform.node()
-    return Result(line, ran.returncode, _last(PENALTY, output), _last(BOUND, output), seconds, processor, used.ru_maxrss // 1024, where, fault)
+    return Result(
+        line, ran.returncode, _last(PENALTY, output), _last(BOUND, output), seconds, processor, used.ru_maxrss // 1024, where, fault
+    )
 
 
 def _setting(line: str) -> str:
@@ -110,9 +114,9 @@ def _row(name: str, results: List[Result], alike: bool = True) -> str:
     """A row of the table. The penalties of lines that are not alike are left out."""
     solved = [result for result in results if result.penalty is not None]
     proved = [result for result in solved if result.penalty == result.bound]
-    gaps = [round(100 * (of.penalty - of.bound) / of.penalty, 1) for of in solved if of.penalty and of.bound is not None]
-    figures = [_spread(of.penalty for of in results if alike), _spread(of.bound for of in results if alike), _spread(gaps)]
-    costs = [_spread(of.seconds for of in results), _spread(of.processor for of in results), str(max(of.megabytes for of in results))]
+    gaps = [round(100 * (run.penalty - run.bound) / run.penalty, 1) for run in solved if run.penalty and run.bound is not None]
+    figures = [_spread(run.penalty for run in results if alike), _spread(run.bound for run in results if alike), _spread(gaps)]
+    costs = [_spread(run.seconds for run in results), _spread(run.processor for run in results), str(max(run.megabytes for run in results))]
     return f"| {' | '.join([name.replace('|', f'{chr(92)}|'), *map(str, map(len, (results, solved, proved))), *figures, *costs])} |"
 
 
@@ -121,12 +125,12 @@ def table(results: Iterable[Result]) -> List[str]:
     settings: Dict[str, List[Result]] = {}
     for result in results:
         settings.setdefault(_setting(result.line), []).append(result)
-    every = [result for of in settings.values() for result in of]
+    every = [result for run in settings.values() for result in run]
     if not every:
         return ["no result yet"]
     head = ["| line | runs | rosters | proved | penalty | bound | gap, % | seconds | processor seconds | MB |", "|---|" + "---:|" * 9]
-    faults = [f"status {of.status}: {of.line}: {of.fault}" for of in every if of.status]
-    return [*head, *(_row(name, of) for name, of in sorted(settings.items())), _row("all", every, False), *[""] * bool(faults), *faults]
+    faults = [f"status {run.status}: {run.line}: {run.fault}" for run in every if run.status]
+    return [*head, *(_row(name, run) for name, run in sorted(settings.items())), _row("all", every, False), *[""] * bool(faults), *faults]
 
 
 def main() -> int:

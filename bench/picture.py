@@ -11,8 +11,8 @@ Line = Sequence[Optional[float]]
 
 
 def _style() -> str:
-    light = " ".join(f".line{at} {{ stroke: {color} }} .label{at} {{ fill: {color} }}" for at, (color, _) in enumerate(COLORS))
-    dark = " ".join(f".line{at} {{ stroke: {color} }} .label{at} {{ fill: {color} }}" for at, (_, color) in enumerate(COLORS))
+    light = " ".join(f".line{index} {{ stroke: {color} }} .label{index} {{ fill: {color} }}" for index, (color, _) in enumerate(COLORS))
+    dark = " ".join(f".line{index} {{ stroke: {color} }} .label{index} {{ fill: {color} }}" for index, (_, color) in enumerate(COLORS))
     return (
         "<style>\n.page { fill: #ffffff } .ink { fill: #1a1a1a } .grid { stroke: #dddddd } .curve { fill: none; stroke-width: 2 }\n"
         f"{light}\n@media (prefers-color-scheme: dark) {{\n"
@@ -29,8 +29,8 @@ def _step(top: float) -> float:
 def _apart(heights: Sequence[float]) -> List[float]:
     """The heights of labels, moved down as far as they need to be readable."""
     placed, order = list(heights), sorted(range(len(heights)), key=heights.__getitem__)
-    for before, at in zip(order, order[1:]):
-        placed[at] = max(placed[at], placed[before] + LABEL_HEIGHT)
+    for before, index in zip(order, order[1:]):
+        placed[index] = max(placed[index], placed[before] + LABEL_HEIGHT)
     return placed
 
 
@@ -73,13 +73,13 @@ def picture(title: str, under: str, lines: Dict[str, Line], sizes: Sequence[int]
         *axes.lines(sizes),
     ]
     labels = _apart([axes.up(points[-1][1]) for points in known])
-    for at, (name, points, label) in enumerate(zip(lines, known, labels)):
-        parts += _curve(at, name, [(axes.across(size), axes.up(value)) for size, value in points], label)
+    for index, (name, points, label) in enumerate(zip(lines, known, labels)):
+        parts += _curve(index, name, [(axes.across(size), axes.up(value)) for size, value in points], label)
     return "\n".join([*parts, "</svg>"]) + "\n"
 
 
-def _curve(at: int, name: str, points: Sequence[Tuple[float, float]], label: float) -> Iterator[str]:
-    color = at % len(COLORS)
+def _curve(index: int, name: str, points: Sequence[Tuple[float, float]], label: float) -> Iterator[str]:
+    color = index % len(COLORS)
     yield f'<polyline class="curve line{color}" points="{" ".join(f"{x:.1f},{y:.1f}" for x, y in points)}"/>'
     for x, y in points:
         yield f'<circle class="label{color}" cx="{x:.1f}" cy="{y:.1f}" r="3"/>'

@@ -62,7 +62,9 @@ def main() -> None:
     options.add_argument("--first", type=int, default=70001, metavar="SEED", help="the first seed (default: %(default)s)")
     options.add_argument("--count", type=int, default=200, metavar="NUMBER", help="how many weeks (default: %(default)s)")
     options.add_argument("--time", type=float, default=60, metavar="SECONDS", help="the most seconds of a run (default: %(default)s)")
-    options.add_argument("--within", type=float, default=5, metavar="SECONDS", help="the seconds that count as in time (default: %(default)s)")
+    options.add_argument(
+        "--within", type=float, default=5, metavar="SECONDS", help="the seconds that count as in time (default: %(default)s)"
+    )
     options.add_argument("--wide", type=int, metavar="PERCENT", help="weeks with many shift types and skills, and this demand")
     given = options.parse_args()
     if find_prover(PROVER) is None:
@@ -82,7 +84,8 @@ def main() -> None:
         best = ran.proved.partition(";")[0]
         figures = f"{ran.penalty:>8} {ran.bound:>8} {gap(ran):>6}  {best:8} {ran.seconds:8.1f} {ran.processor:14.1f}"
         print(f"{seed:6} {nurses:>6} {week:>4} {figures}", flush=True)
-    print(f"{proved} of {given.count} are proved: {by_clock} within {given.within:g} s, {by_processor} within {given.within:g} s of processors")
+    within = f"within {given.within:g} s"
+    print(f"{proved} of {given.count} are proved: {by_clock} {within}, {by_processor} {within} of processors")
 
 
 if __name__ == "__main__":

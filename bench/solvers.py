@@ -76,7 +76,10 @@ def named(home: Path, name: str, number: int) -> WeekFiles:
 
 def run(files: WeekFiles, seconds: float, folder: Path) -> Run:
     """Plans the week from nothing."""
-    words = [sys.executable, str(ROOT / "helpers/inrc2pb-improve"), *files.options(), "--sol", str(folder / "roster.txt"), "--time", str(seconds)]
+    words = [
+        sys.executable, str(ROOT / "helpers/inrc2pb-improve"), *files.options(), "--sol", str(folder / "roster.txt"), "--time",
+        str(seconds),
+    ]
     began = time.monotonic()
     with open(folder / "said.txt", "w+") as said:
         improve = subprocess.Popen(words, stdout=said, stderr=subprocess.STDOUT)
@@ -106,8 +109,8 @@ def machine() -> str:
 def table(runs: Dict[str, Run]) -> str:
     """The table of these runs."""
     lines = ["| week | penalty | lower bound | the best | seconds | of processors | MB |", "|---|---:|---:|---|---:|---:|---:|"]
-    for name, of in runs.items():
-        lines.append(f"| `{name}` | {of.penalty} | {of.bound} | {of.proved} | {of.seconds:.1f} | {of.processor:.1f} | {of.memory} |")
+    for name, run in runs.items():
+        lines.append(f"| `{name}` | {run.penalty} | {run.bound} | {run.proved} | {run.seconds:.1f} | {run.processor:.1f} | {run.memory} |")
     return "\n".join(lines)
 
 

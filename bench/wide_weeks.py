@@ -43,12 +43,14 @@ def shift_types(numbers: Numbers, kinds: int) -> List[ShiftType]:
 def ward(name: str, nurses: int, kinds: int, numbers: Numbers) -> Scenario:
     """A ward of these sizes."""
     skills = [f"skill{number}" for number in range(kinds)]
-    types = {of.name: of for of in shift_types(numbers, kinds)}
+    types = {named.name: named for named in shift_types(numbers, kinds)}
     staff = {
-        f"nurse{number}": Nurse(f"nurse{number}", numbers.one_of(CONTRACTS).name, tuple(skills[at] for at in skills_of(numbers, kinds)))
+        f"nurse{number}": Nurse(
+            f"nurse{number}", numbers.one_of(CONTRACTS).name, tuple(skills[index] for index in skills_of(numbers, kinds))
+        )
         for number in range(nurses)
     }
-    return Scenario(name, WEEKS, tuple(skills), types, {of.name: of for of in CONTRACTS}, staff)
+    return Scenario(name, WEEKS, tuple(skills), types, {named.name: named for named in CONTRACTS}, staff)
 
 
 def past(nurse: Nurse, shifts: List[str], numbers: Numbers) -> NurseHistory:
@@ -60,17 +62,17 @@ def past(nurse: Nurse, shifts: List[str], numbers: Numbers) -> NurseHistory:
     return NurseHistory(nurse.name, assignments, weekends, None, 0, 0, 1 + numbers.below(3))
 
 
-def made_up_numbers(of: Scenario, history: History, numbers: Numbers) -> Dict[Place, int]:
+def made_up_numbers(scenario: Scenario, history: History, numbers: Numbers) -> Dict[Place, int]:
     """How many nurses are at each place in a made-up roster."""
     there: Dict[Place, int] = {}
-    for nurse in of.nurses.values():
+    for nurse in scenario.nurses.values():
         last, left = history.nurses[nurse.name].last_shift, WORKS[nurse.contract][0]
         for day in range(len(DAYS)):
             works = numbers.below(len(DAYS) - day) < left
             left -= works
-            forbidden = of.shift_types[last].forbidden_next if last else ()
+            forbidden = scenario.shift_types[last].forbidden_next if last else ()
             if works and (last is None or numbers.below(5) < 2):
-                last = numbers.one_of([shift for shift in of.shift_types if shift not in forbidden])
+                last = numbers.one_of([shift for shift in scenario.shift_types if shift not in forbidden])
             last = last if works else None
             if last:
                 place = Place(day, last, numbers.one_of(nurse.skills))
@@ -78,19 +80,19 @@ def made_up_numbers(of: Scenario, history: History, numbers: Numbers) -> Dict[Pl
     return there
 
 
-def last_week(of: Scenario, history: History, percent: int, numbers: Numbers) -> WeekData:
+def last_week(scenario: Scenario, history: History, percent: int, numbers: Numbers) -> WeekData:
     """A week with a request for each nurse."""
-    there = made_up_numbers(of, history, numbers)
+    there = made_up_numbers(scenario, history, numbers)
     asked = {}
-    for place in (Place(day, shift, skill) for day in range(len(DAYS)) for shift in of.shift_types for skill in of.skills):
+    for place in (Place(day, shift, skill) for day in range(len(DAYS)) for shift in scenario.shift_types for skill in scenario.skills):
         number = there.get(place, 0)
         minimum = min(number, (6 * number + numbers.below(9)) // 10)
         best = max(minimum, (number * percent + numbers.below(100)) // 100) + (numbers.below(100) < 15)
         if best:
             asked[place] = Requirement(minimum, best)
-    nurses, shifts = list(of.nurses), [None, *of.shift_types]
+    nurses, shifts = list(scenario.nurses), [None, *scenario.shift_types]
     requests = (Request(numbers.one_of(nurses), numbers.one_of(shifts), numbers.below(len(DAYS))) for _ in nurses)
-    return WeekData(of.name, asked, tuple(requests))
+    return WeekData(scenario.name, asked, tuple(requests))
 
 
 def main() -> None:
@@ -99,9 +101,10 @@ def main() -> None:
         sys.exit(__doc__)
     nurses, kinds, seed, percent = (*map(int, sys.argv[2:]), 100)[:4]
     numbers = Numbers(seed)
-    of = ward(f"wide{kinds}x{seed}", nurses, kinds, numbers)
-    history = History(WEEKS - 1, of.name, {nurse.name: past(nurse, list(of.shift_types), numbers) for nurse in of.nurses.values()})
-    write_week(Path(sys.argv[1]), of, last_week(of, history, percent, numbers), history)
+    scenario = ward(f"wide{kinds}x{seed}", nurses, kinds, numbers)
+    pasts = {nurse.name: past(nurse, list(scenario.shift_types), numbers) for nurse in scenario.nurses.values()}
+    history = History(WEEKS - 1, scenario.name, pasts)
+    write_week(Path(sys.argv[1]), scenario, last_week(scenario, history, percent, numbers), history)
 
 
 if __name__ == "__main__":

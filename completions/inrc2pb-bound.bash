@@ -3,6 +3,8 @@
 _inrc2pb_bound() {
     local word=${COMP_WORDS[COMP_CWORD]} before=${COMP_WORDS[COMP_CWORD - 1]} given choices='--sce --his --week --fix --early --prices --cases --roster --minimums --rows --help --version'
     COMPREPLY=()
+    # bash takes the sign of `--sce=file` for a word.
+    if [ "$word" = = ]; then word=''; elif [ "$before" = = ]; then before=${COMP_WORDS[COMP_CWORD - 2]}; fi
     case $before in
         --sce | --his | --week | --fix | --prices | --cases | --roster)
             compopt -o filenames 2> /dev/null

@@ -3,6 +3,8 @@
 _inrc2pb_period_bound() {
     local word=${COMP_WORDS[COMP_CWORD]} before=${COMP_WORDS[COMP_CWORD - 1]} given choices='--sce --his --week --prices --early --help --version'
     COMPREPLY=()
+    # bash takes the sign of `--sce=file` for a word.
+    if [ "$word" = = ]; then word=''; elif [ "$before" = = ]; then before=${COMP_WORDS[COMP_CWORD - 2]}; fi
     case $before in
         --sce | --his | --week | --prices)
             compopt -o filenames 2> /dev/null

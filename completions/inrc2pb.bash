@@ -11,6 +11,8 @@ _inrc2pb() {
         esac
     done
     COMPREPLY=()
+    # bash takes the sign of `--sce=file` for a word.
+    if [ "$word" = = ]; then word=''; elif [ "$before" = = ]; then before=${COMP_WORDS[COMP_CWORD - 2]}; fi
     case $before in
         --sce | --his | --week | --fix | --opb | --sol | --answer | --from)
             compopt -o filenames 2> /dev/null

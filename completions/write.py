@@ -1,5 +1,5 @@
 #!/usr/bin/env python3
-"""Writes the completions of the programs for bash, zsh and fish from one description of the commands and options.
+"""Writes the completions of the programs and helpers for bash, zsh and fish from one description of the commands and options.
 
 tests/program/manual.sh compares the files with the output of this script, and their words with those of the program's help and of the
 manual page. Needs Python 3.8 or later.
@@ -72,6 +72,8 @@ _inrc2pb() {
         esac
     done
     COMPREPLY=()
+    # bash takes the sign of `--sce=file` for a word.
+    if [ "$word" = = ]; then word=''; elif [ "$before" = = ]; then before=${COMP_WORDS[COMP_CWORD - 2]}; fi
     case $before in
         %(files)s)
             compopt -o filenames 2> /dev/null
@@ -100,6 +102,8 @@ PLAIN_BASH = """\
 %(function)s() {
     local word=${COMP_WORDS[COMP_CWORD]} before=${COMP_WORDS[COMP_CWORD - 1]} given choices='%(options)s'
     COMPREPLY=()
+    # bash takes the sign of `--sce=file` for a word.
+    if [ "$word" = = ]; then word=''; elif [ "$before" = = ]; then before=${COMP_WORDS[COMP_CWORD - 2]}; fi
     case $before in
         %(files)s)
             compopt -o filenames 2> /dev/null
@@ -115,6 +119,43 @@ PLAIN_BASH = """\
     mapfile -t COMPREPLY < <(compgen -W "$choices" -- "$word")
 }
 complete -F %(function)s %(program)s
+"""
+
+# The helpers' own help names their options, so their completion needs no list.
+HELPERS_BASH = """\
+# shellcheck shell=bash
+# Completion of the helpers' options, commands and file names, for bash. Written by completions/write.py.
+_inrc2pb_helper() {
+    local word=${COMP_WORDS[COMP_CWORD]} first=() wanted='^ +(-h, )?--[a-zA-Z-]+'
+    COMPREPLY=()
+    if [[ $word != -* ]]; then
+        # A word that is no option is a file, which bash completes, or a command.
+        [ "$COMP_CWORD" = 1 ] || return
+        wanted='^    [a-z-]+  '
+    elif [[ ${COMP_WORDS[1]} != -* ]]; then
+        first=("${COMP_WORDS[1]}")
+    fi
+    wanted=$("${COMP_WORDS[0]}" "${first[@]}" --help 2> /dev/null | grep -oE -- "$wanted" | sed 's/-h,//')
+    mapfile -t COMPREPLY < <(compgen -W "$wanted" -- "$word")
+}
+complete -o default -F _inrc2pb_helper %(names)s
+"""
+
+HELPERS_ZSH = """\
+#compdef %(names)s
+# Completion of the helpers' options and file names, for zsh. Written by completions/write.py.
+_gnu_generic
+"""
+
+HELPERS_FISH = """\
+# Completion of the helpers' options and file names, for fish. Written by completions/write.py.
+function __inrc2pb_options
+    set -l words (commandline -opc)
+    command $words[1] --help 2> /dev/null | string replace -rf '^ +(?:-h, )?(--[a-zA-Z-]+).*' '$1'
+end
+for name in %(names)s
+    complete -c $name -n 'string match -q -- "-*" (commandline -ct)' -a '(__inrc2pb_options)'
+end
 """
 
 ZSH = """\
@@ -224,11 +265,15 @@ def plain_fish(program: str) -> Iterator[str]:
 def main() -> None:
     """Writes the files."""
     parser = argparse.ArgumentParser(description="Writes the completions for bash, zsh and fish.")
-    parser.add_argument("folder", nargs="?", type=Path, default=Path(__file__).resolve().parent, help="where the files go [default: beside this script]")
+    here = Path(__file__).resolve().parent
+    parser.add_argument("folder", nargs="?", type=Path, default=here, help="where the files go [default: beside this script]")
     folder = parser.parse_args().folder
     (folder / "inrc2pb.bash").write_text(bash())
     (folder / "_inrc2pb").write_text(zsh())
     (folder / "inrc2pb.fish").write_text("\n".join(fish()) + "\n")
+    names = " ".join(sorted(path.name for path in (here.parent / "helpers").glob("inrc2pb-*")))
+    for name, text in (("inrc2pb-helpers.bash", HELPERS_BASH), ("_inrc2pb-helpers", HELPERS_ZSH), ("inrc2pb-helpers.fish", HELPERS_FISH)):
+        (folder / name).write_text(text % {"names": names})
     for program in PLAIN:
         (folder / f"{program}.bash").write_text(plain_bash(program))
         (folder / f"_{program}").write_text(plain_zsh(program))

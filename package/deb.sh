@@ -48,7 +48,7 @@ mkdir "$top/DEBIAN"
 cat > "$top/DEBIAN/prerm" << 'TEXT'
 #!/bin/sh
 set -e
-rm -rf "${DPKG_ROOT:-}/usr/share/inrc2pb/inrc2pb/__pycache__"
+find "${DPKG_ROOT:-}/usr/share/inrc2pb" -name __pycache__ -prune -exec rm -r {} +
 TEXT
 chmod 755 "$top/DEBIAN/prerm"
 (cd "$top" && find usr -type f -print0 | sort -z | xargs -0 md5sum > DEBIAN/md5sums) || exit
@@ -66,9 +66,11 @@ Priority: optional
 Description: nurse rostering as a pseudo-Boolean model
  Turns one week of the Second International Nurse Rostering Competition
  (INRC-II) into a pseudo-Boolean model (OPB) for a solver such as clasp, and
- the solver's answer into a roster with a report of its costs.
+ the solver's answer into a roster with a report of its costs. Lower bounds
+ prove how much a roster of a week or a period costs at least. Helpers make
+ the files of a ward from a spreadsheet, and find and show rosters.
  .
- The encoding, the decoder and every byte read and written, except messages,
+ The encoding, the decoder, the bounds and every byte read and written, except messages,
  have proofs: /usr/share/doc/inrc2pb/PROVED says whether they passed. The
  programs need an x86-64-v2 processor (Intel since 2009, AMD since 2011).
 TEXT

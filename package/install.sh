@@ -62,7 +62,7 @@ uninstall_files() {
     done << LIST
 $(grep / "$sums")
 LIST
-    rm -rf share/inrc2pb/inrc2pb/__pycache__
+    find share/inrc2pb -name __pycache__ -prune -exec rm -r {} + 2> /dev/null
     find share/inrc2pb share/doc/inrc2pb -depth -type d -exec rmdir {} + 2> /dev/null
     echo "Removed $removed files from $prefix."
     [ $removed -gt 0 ]

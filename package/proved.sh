@@ -14,7 +14,7 @@ kit=$(rt version 2> /dev/null || echo unknown)
 gate='have not passed on this commit on the machine that built this'
 if [ -r "${GATE:-out/gate}" ]; then
     { read -r gate_commit; read -r gate_line; read -r gate_kit; read -r gate_sum; } < "${GATE:-out/gate}"
-    if [ "$gate_commit" = "$commit" ] && [ "$gate_kit" = "$kit" ] && is_committed && [[ $gate_line == *' passed, 0 failed' ]]; then
+    if [ "$gate_commit" = "$commit" ] && [ "$gate_kit" = "$kit" ] && is_committed && [[ $gate_line == *' passed, 0 failed, '*' skipped' ]]; then
         gate="passed on this commit: $gate_line"
         sum=$(sum_of "${PROGRAM:-out/inrc2pb}" "${BOUND:-out/inrc2pb-bound}" "${PERIOD_BOUND:-out/inrc2pb-period-bound}" "${FITS:-out/inrc2pb-fits}")
         [ "$gate_sum" = "$sum" ] ||

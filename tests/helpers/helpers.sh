@@ -5,18 +5,19 @@
 #
 #   tests/helpers/helpers.sh [llvm | rattle | PROGRAM]
 #
-# Needs Python 3.8; tests that need clasp or cbc are skipped if it is not installed. Without mypy the script says so.
+# Needs Python 3.8. The script says which tests it skipped.
 . "$(dirname "$0")/../kit/kit.sh"
 
 # One case for each test of Python.
 run_tests() {
-    local ran
+    local good bad left
     what='tests/helpers'
-    INRC2PB=$program timeout 1500 python3 -B -W error::SyntaxWarning -m unittest discover -s tests/helpers > "$out" 2> "$err" ||
+    INRC2PB=$program timeout 1500 python3 -B -W error::SyntaxWarning tests/helpers/run.py > "$out" 2> "$err" ||
         complain "$(grep -A 25 -m 3 -E '^(FAIL|ERROR): ' "$err" | head -n 60)"
-    ran=$(sed -n 's/^Ran \([0-9]*\) tests\{0,1\} .*/\1/p' "$err")
-    checked=$((checked + ${ran:-0}))
-    [ "${ran:-0}" -gt 0 ] || complain "no test ran: $(tail -n 3 "$err")"
+    grep '^skipped: ' "$out"
+    read -r good bad left < <(tail -n 1 "$out" | tr -cd '0-9 \n') || complain "no test ran: $(tail -n 3 "$err")"
+    checked=$((checked + ${good:-0} + ${bad:-0}))
+    skipped=$((skipped + ${left:-0}))
 }
 
 # types_hold FILE..: mypy finds no mistake, and no function without types.
@@ -25,7 +26,7 @@ types_hold() {
 }
 
 checks_types() {
-    command -v mypy > /dev/null || { echo 'helpers.sh: mypy is not installed, so the types were not checked'; return; }
+    has mypy || return
     begins_case 'the types of the helpers'
     {
         types_hold helpers/inrc2pb && types_hold bench/*.py
@@ -75,7 +76,6 @@ explains_each_fault() {
     done < <(fault_texts)
 }
 
-# The imports between the packages of the library go one way. A line of Python has at most 140 columns.
 imports_go_one_way() {
     begins_case 'the imports of the helpers'
     tests/helpers/packages.py > "$out" || complain "$(head -n 20 "$out")"
@@ -83,13 +83,14 @@ imports_go_one_way() {
 
 lines_are_short() {
     begins_case 'lines of Python of at most 140 columns'
-    find bench completions helpers tests -name '*.py' -print0 | xargs -0 awk 'length($0) > 140 { print FILENAME ":" FNR }' > "$out"
+    find bench completions helpers -name '*.py' -exec awk 'length($0) > 140 { print FILENAME ":" FNR }' {} + > "$out"
     [ ! -s "$out" ] || complain "$(head -n 20 "$out")"
 }
 
 run_tests
 checks_types
 imports_go_one_way
+lines_are_short
 begins_case 'the readers find the same faults in changed files'
 tests/random/changed_tokens.py > "$room/out" || complain "$(cat "$room/out")"
 manual_has_each_option

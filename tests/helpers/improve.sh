@@ -4,13 +4,13 @@
 #
 #   tests/helpers/improve.sh [llvm | rattle | PROGRAM]
 #
-# SEED gives the moments. Without cbc the script says so and passes.
+# SEED gives the moments.
 . "$(dirname "$0")/../kit/kit.sh"
 
-command -v cbc > /dev/null || { echo 'improve.sh: cbc is not installed, so nothing was tried'; exit 0; }
 export INRC2PB=$program
 RANDOM=${SEED:-1}
 stops=20
+has cbc $stops || { finish; exit; }
 bench/make_weeks.py "$room" 500
 ward=$room/ward500
 week=(--sce "$ward/ward.txt" --his "$ward/history-3.txt" --week "$ward/week-3.txt")

@@ -101,7 +101,7 @@ has_part 'Earli = Earliest'
 begins_case 'words that do not fit'
 "$table" --his history-0.txt plain.txt > out 2> err && complain '--his alone is taken'
 
-if command -v script > /dev/null; then
+if has script 2; then
     begins_case 'a terminal'
     TERM=xterm NO_COLOR='' script -qec "$table plain.txt" /dev/null < /dev/null > out
     has_part $'\e[38;5;'

@@ -3,7 +3,7 @@
 #
 #   tests/kit/all.sh [llvm | rattle | PROGRAM]
 #
-# The last line is `N passed, M failed`. `make programs` builds what they need, without the gate.
+# The last line is `N passed, M failed, K skipped`; those above it say what was missing. `make programs` builds what they need, without the gate.
 cd "$(dirname "$0")/../.." || exit 2
 . tests/kit/parts.sh
 

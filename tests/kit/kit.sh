@@ -31,9 +31,10 @@ program=$(realpath "$program")
 room=$(mktemp -d) || exit 2
 trap 'rm -rf "$room"' EXIT
 
-# The numbers of cases that were checked and that failed. $what names the present case.
+# The numbers of cases that were checked, that failed and that were skipped. $what names the present case.
 checked=0
 failed=0
+skipped=0
 what='the files'
 in=/dev/null
 # The name of the program in its faults.
@@ -52,11 +53,24 @@ begins_case() {
     checked=$((checked + 1))
 }
 
+# skips CASES WHY: so many cases are not tried.
+skips() {
+    echo "skipped: $script: $2 ($1)"
+    skipped=$((skipped + $1))
+}
+
+# has COMMAND [CASES]: the command is installed; else so many cases, or one, are skipped.
+has() {
+    command -v "$1" > /dev/null && return
+    skips "${2:-1}" "needs $1"
+    return 1
+}
+
 # Tells the cases. In a run of all scripts their numbers also go to the file that $TALLY names.
 finish() {
-    echo "$script: $checked cases, $failed failed"
-    [ -z "${TALLY:-}" ] || echo "$checked $failed" > "$TALLY"
-    [ "$checked" -gt 0 ] && [ "$failed" = 0 ]
+    echo "$script: $checked cases, $failed failed, $skipped skipped"
+    [ -z "${TALLY:-}" ] || echo "$checked $failed $skipped" > "$TALLY"
+    [ $((checked + skipped)) -gt 0 ] && [ "$failed" = 0 ]
 }
 
 # ---- Files of the room.

@@ -56,9 +56,9 @@ def without(prefix, text):
     return text[len(prefix):] if text.startswith(prefix) else text
 
 
-def body_of(lines, at, indent):
+def body_of(lines, head, indent):
     """The lines where the body of the function at this line begins and ends: `rt fmt` puts its brace below the `fn`."""
-    for begin in range(at, len(lines)):
+    for begin in range(head, len(lines)):
         rest = without(indent, lines[begin])
         if rest in ("{", "{}") or rest[:1].strip() and rest.endswith((" {", " }")) or rest.endswith(";"):
             break
@@ -71,7 +71,7 @@ def functions(path, module, exports, is_open):
     """The functions of a file, in its order."""
     lines = Path(path).read_text(encoding="utf-8").split("\n")
     owner, shares, found = [], False, []
-    for at, line in enumerate(lines):
+    for start, line in enumerate(lines):
         head = FUNCTION.match(line)
         if re.match(r"[a-z]", line) and not head:
             block = OWNER.match(line)
@@ -80,15 +80,15 @@ def functions(path, module, exports, is_open):
         if not head:
             continue
         indent, visible, name = head.groups()
-        begin, end = body_of(lines, at, indent)
-        of = owner if indent else []
-        seen = of[-1] in exports if of else f"{module}::{name}" in exports
-        public = (visible == "pub " or shares and of != []) and (seen or is_open)
-        clauses = [(label, " ".join(text.split())) for label, text in PROMISE.findall("\n".join(lines[at:begin + 1]))]
-        whole = "::".join([" for ".join(of), name] if of else [name])
+        begin, end = body_of(lines, start, indent)
+        outer = owner if indent else []
+        seen = outer[-1] in exports if outer else f"{module}::{name}" in exports
+        public = (visible == "pub " or shares and outer != []) and (seen or is_open)
+        clauses = [(label, " ".join(text.split())) for label, text in PROMISE.findall("\n".join(lines[start:begin + 1]))]
+        whole = "::".join([" for ".join(outer), name] if outer else [name])
         law = bool(CITES.fullmatch("".join(lines[begin + 1:end])))
         fixed = fix_all(text.rstrip(" }") for _, text in clauses)
-        found.append(Function(whole, at, end, public, law, fixed, [promise(*clause) for clause in clauses]))
+        found.append(Function(whole, start, end, public, law, fixed, [promise(*clause) for clause in clauses]))
     return found
 
 

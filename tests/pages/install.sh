@@ -4,8 +4,8 @@
 #
 #   tests/pages/install.sh [llvm | rattle | PROGRAM]
 #
-# Nothing is proved. Needs bash, the usual tools of a shell, make and Python 3.8; if no clasp is installed, the commands that
-# search for rosters are not tried.
+# Nothing is proved. Needs bash, the usual tools of a shell, make and Python 3.8; the commands that search for rosters need cbc or
+# clasp.
 . "$(dirname "$0")/../kit/kit.sh"
 needs crates/who_fits/out/who_fits
 needs_bound
@@ -107,7 +107,7 @@ from inrc2pb.week import files
 print(program.penalty_of(program.WeekFiles(*sys.argv[1:4]), sys.argv[4]))' "$ward"/{ward,history-0,week-0,roster-0}.txt) \
         > "$out" 2> "$err" || complain "$(tail -n 1 "$err")"
     has_line 20
-    command -v cbc > /dev/null || return
+    has cbc 3 || return
     runs inrc2pb-improve "${week[@]}" --fix kept.txt --time 20 --sol roster-0.txt
     has_line 'penalty 20'
     runs inrc2pb-period "${week[@]}" --week "$ward/week-1.txt" --time 10 --out period
@@ -146,7 +146,7 @@ manual_names_commands
 runs_commands
 follows_page docs/helpers.md
 has_line 'Amara Bruno 110'
-if command -v clasp > /dev/null; then
+if has clasp 3; then
     for page in README.md docs/your_ward.md docs/solvers.md; do
         follows_page $page
     done

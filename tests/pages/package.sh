@@ -75,16 +75,17 @@ gates_are_told_apart() {
     sum=$(cat "$PROGRAM" "$BOUND" "$PERIOD_BOUND" "$FITS" | sha256sum)
     sum=${sum%% *}
     case $commit in
-        unknown | *-dirty) says_of_gate 'a gate of other files' "$commit" '9 passed, 0 failed' "$kit" "$sum" "$not" ;;
+        unknown | *-dirty) says_of_gate 'a gate of other files' "$commit" '9 passed, 0 failed, 2 skipped' "$kit" "$sum" "$not" ;;
         *)
-            says_of_gate 'a gate that passed' "$commit" '9 passed, 0 failed' "$kit" "$sum" 'passed on this commit: 9 passed, 0 failed'
-            says_of_gate 'a gate of another program' "$commit" '9 passed, 0 failed' "$kit" "0$sum" \
+            says_of_gate 'a gate that passed' "$commit" '9 passed, 0 failed, 2 skipped' "$kit" "$sum" \
+                'passed on this commit: 9 passed, 0 failed, 2 skipped'
+            says_of_gate 'a gate of another program' "$commit" '9 passed, 0 failed, 2 skipped' "$kit" "0$sum" \
                 'passed on this commit, but with another build of the programs'
             ;;
     esac
-    says_of_gate 'a gate that failed' "$commit" '8 passed, 1 failed' "$kit" "$sum" "$not"
-    says_of_gate 'a gate of another commit' "0$commit" '9 passed, 0 failed' "$kit" "$sum" "$not"
-    says_of_gate 'a gate of another kit' "$commit" '9 passed, 0 failed' "$kit, changed" "$sum" "$not"
+    says_of_gate 'a gate that failed' "$commit" '8 passed, 1 failed, 0 skipped' "$kit" "$sum" "$not"
+    says_of_gate 'a gate of another commit' "0$commit" '9 passed, 0 failed, 2 skipped' "$kit" "$sum" "$not"
+    says_of_gate 'a gate of another kit' "$commit" '9 passed, 0 failed, 2 skipped' "$kit, changed" "$sum" "$not"
 }
 
 # Every command that is installed runs.
@@ -144,8 +145,8 @@ installs_package() {
     has_line "Depends: libc6 (>= $(sed -n 's/^libc: \([0-9.]*\).*/\1/p' "$pages/PROVED")), python3 (>= 3.8)"
     has_line 'Recommends: clasp, coinor-cbc'
     begins_case 'dpkg --remove'
-    mkdir -p "$room/root/usr/share/inrc2pb/inrc2pb/__pycache__"
-    touch "$room/root/usr/share/inrc2pb/inrc2pb/__pycache__/files.pyc"
+    mkdir -p "$room"/root/usr/share/inrc2pb/inrc2pb/{,week/}__pycache__
+    touch "$room"/root/usr/share/inrc2pb/inrc2pb/{,week/}__pycache__/files.pyc
     by_dpkg --remove inrc2pb
     [ -z "$(find "$room/root" -path '*/usr/*' -type f)" ] || complain "left: $(find "$room/root" -path '*/usr/*' -type f | head -n 3)"
 }
@@ -168,11 +169,11 @@ uninstalls "$room/packed/$archive/install.sh"
 if command -v dpkg-deb dpkg strip | wc -l | grep -qx 3; then
     built_twice 'the package' deb.sh "$package"
     installs_package "$room/first/$package"
-    if command -v lintian > /dev/null; then
+    if has lintian; then
         begins_case 'lintian'
         lintian --fail-on error "$room/first/$package" > "$out" 2>&1 || complain "$(grep '^E:' "$out" | head -n 5)"
     fi
 else
-    echo 'package.sh: no dpkg or strip is installed, so the package was not tried'
+    skips 1 'needs dpkg, dpkg-deb and strip'
 fi
 finish

@@ -104,7 +104,7 @@ quotes_code() {
         blocks=$(grep -c "^\`\`\`$kind\$" "$1") || continue
         begins_case "the $kind in $1"
         case $kind in
-            rust) code=$(cat crates/*/src/*.rt) ;;
+            rust) code=$(find crates/*/src -name '*.rt' -exec cat {} +) ;;
             antt) code=$(find crates/*/proofs -name '*.antt' -exec cat {} +) ;;
         esac
         for number in $(seq "$blocks"); do

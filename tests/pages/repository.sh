@@ -33,18 +33,18 @@ weeks_are_made() {
     done
 }
 
-# Each command of the helpers is a copy of their launcher.
+# Each command of the helpers only runs their launcher.
 helpers_are_launchers() {
     local file
     begins_case 'the commands of the helpers'
-    for file in helpers/inrc2pb-*; do cmp -s helpers/launcher "$file" || complain "$file is no copy of helpers/launcher"; done
+    for file in helpers/inrc2pb-*; do cmp -s helpers/inrc2pb-check "$file" || complain "$file is not as helpers/inrc2pb-check"; done
 }
 
 # The kit at hand is the one that README.md names or a later one, with the logic that README.md and docs/trusted.md name.
 kit_is_named() {
     local kit named sum
+    has rt || return
     begins_case 'the kit in README.md'
-    command -v rt > /dev/null || return
     kit=$(rt version)
     named=$(grep -o -m 1 'rattle-kit-[0-9a-z]*' README.md)
     sum=$(grep -oP -m 1 'sum=\K[0-9a-f]+' docs/trusted.md)
@@ -99,16 +99,16 @@ mistakes_are_refused() {
 }
 
 scripts_are_clean() {
+    has shellcheck || return
     begins_case 'the scripts'
-    command -v shellcheck > /dev/null || return
-    shellcheck .ci/run ./*.sh bin/*.sh package/*.sh tests/*/*.sh > "$room/checked" || complain "$(head -n 20 "$room/checked")"
+    shellcheck .ci/run ./*.sh examples/*.sh package/*.sh tests/*/*.sh > "$room/checked" || complain "$(head -n 20 "$room/checked")"
 }
 
 # A file with an interpreter in its first line can be run, and no other.
 scripts_are_executable() {
     local file
     begins_case 'the files that can be run'
-    for file in .ci/run ./*.sh bench/*.* bin/*.* completions/*.py helpers/launcher package/*.* tests/*/*.*; do
+    for file in .ci/run ./*.sh bench/*.* completions/*.py examples/*.sh helpers/launcher.py helpers/inrc2pb-* package/*.* tests/*/*.*; do
         if [ "$(head -c 2 "$file")" = '#!' ]; then
             [ -x "$file" ] || complain "$file cannot be run"
         else

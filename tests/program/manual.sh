@@ -12,6 +12,8 @@
 . completions/inrc2pb-bound.bash
 # shellcheck source=completions/inrc2pb-period-bound.bash
 . completions/inrc2pb-period-bound.bash
+# shellcheck source=completions/inrc2pb-helpers.bash
+. completions/inrc2pb-helpers.bash
 needs_bound
 needs_period_bound
 
@@ -90,8 +92,25 @@ completes() {
     is 'the rest of a command' "$(complete_words inrc2pb en)" 'encode '
     is 'the rest of an option' "$(complete_words inrc2pb decode --a)" '--answer '
     is 'an option once' "$(complete_words inrc2pb extend --sce a --his b --week c --early --)" '--fix --from --help '
+    is 'a file after the sign' "$(cd "$room" && touch week.first && complete_words inrc2pb encode --sce = week.f)" 'week.first '
+    is 'files after the sign' "$(cd "$room" && complete_words inrc2pb encode --week = | tr ' ' '\n' | grep -x week.first)" 'week.first'
     is 'a file' "$(cd "$room" && touch week.first week.second && complete_words inrc2pb encode --sce week.)" \
         "$(cd "$room" && echo week.* | tr ' ' '\n' | sort | tr '\n' ' ')"
+}
+
+# helper_words WORD..: the words that the completion of the helpers offers for the last of these.
+helper_words() {
+    COMP_WORDS=("$@")
+    COMP_CWORD=$(($# - 1))
+    _inrc2pb_helper
+    printf '%s\n' "${COMPREPLY[@]}" | sort | tr '\n' ' '
+}
+
+completes_helpers() {
+    is 'options of a helper' "$(helper_words helpers/inrc2pb-next --)" '--help --new-period --out --version '
+    is 'options of a command' "$(helper_words helpers/inrc2pb-lp model --l)" '--lp '
+    is 'commands of a helper' "$(helper_words helpers/inrc2pb-lp '')" 'answer model '
+    is 'a file of a helper, which bash completes' "$(helper_words helpers/inrc2pb-next ward.txt '')" ' '
 }
 
 # The completions are as completions/write.py writes them, and their shells read them.
@@ -99,15 +118,16 @@ completions_are_written() {
     local file offered
     begins_case 'the completions'
     completions/write.py "$room"
-    for file in inrc2pb{,-bound,-period-bound}.{bash,fish} _inrc2pb{,-bound,-period-bound}; do
+    for file in inrc2pb{,-bound,-period-bound,-helpers}.{bash,fish} _inrc2pb{,-bound,-period-bound,-helpers}; do
         cmp -s "$room/$file" "completions/$file" || complain "$file is not as write.py writes it"
     done
-    if command -v zsh > /dev/null; then
+    if has zsh; then
+        begins_case 'the completions in zsh'
         for file in completions/_*; do
             zsh -n "$file" || complain "zsh does not read $file"
         done
     fi
-    if command -v fish > /dev/null; then
+    if has fish 3; then
         for file in encode decode extend; do
             offered=$(fish -c "source completions/inrc2pb.fish; complete -C 'inrc2pb $file --'" | cut -f 1 | sort | tr '\n' ' ')
             is "fish's completion of $file" "$offered" "$(complete_words inrc2pb $file --)"
@@ -134,12 +154,15 @@ names_the_same_of() {
 
 # is_manual PAGE: mandoc and man read it.
 is_manual() {
-    begins_case "the manual page $1"
-    if command -v mandoc > /dev/null; then
+    if has mandoc; then
+        begins_case "the manual page $1 in mandoc"
         # What it says of other pages depends on the machine.
         mandoc -Tlint "$1" 2> /dev/null | grep -v ' STYLE: referenced manual not found' && complain 'mandoc complains'
     fi
-    if command -v man > /dev/null && man --version 2> /dev/null | grep -q man-db; then
+    if ! man --version 2> /dev/null | grep -q man-db; then
+        skips 1 'needs man-db'
+    else
+        begins_case "the manual page $1 in man"
         [ -z "$(LC_ALL=C man --warnings -l -Tascii "$1" 2>&1 > /dev/null)" ] || complain 'man warns'
     fi
 }
@@ -148,6 +171,7 @@ names_the_same
 names_the_same_of inrc2pb-bound "$bound" _inrc2pb_bound
 names_the_same_of inrc2pb-period-bound "$period_bound" _inrc2pb_period_bound
 completes
+completes_helpers
 completions_are_written
 for page in man/*.1; do
     is_manual "$page"

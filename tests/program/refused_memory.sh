@@ -209,6 +209,8 @@ if [ -z "$ending" ]; then
     table week_read 7
     table prices_read 22500
     table cases_read 2
+    table certificate_read 3
+    table facts_read 2
     table solution_read 1
     table new_roster 0
     table rosters_held_in_turn 0

@@ -3,9 +3,9 @@
 
 usage: changed_tokens.py [--fix]
 
-The test replaces, precedes or cuts off each token of six files by each of its words, and counts the faults by their kind. This
+The test replaces, precedes or cuts off each token of eight files by each of its words, and counts the faults by their kind. This
 script makes the same texts from the constants of that file, and compares its own counts with the numbers there. With --fix it
-writes them. The files of prices and cases have no reader among the helpers, so this script has one of each.
+writes them. The files of prices, cases, certificates and facts have no reader among the helpers, so this script has one of each.
 """
 
 import re
@@ -18,6 +18,7 @@ from inrc2pb.week.slots import Slots
 SOURCE = f"{ROOT}/crates/run_tests/src/changed_tokens.rt"
 KINDS = ["end of file", "another word expected", "number expected", "out of limits", "unknown name", "repeated", "text after the end"]
 MAX_PRICE = 999999999
+WEEKS = 2
 
 
 def rows_of_prices(slots: Slots, ward: records.Scenario) -> None:
@@ -58,6 +59,79 @@ def read_cases(path: str, ward: records.Scenario, text: str) -> None:
     slots.end("row")
 
 
+def keyword(slots: Slots, *wanted: str) -> str:
+    """One of these words."""
+    token = slots.next("a word")
+    if token.text not in wanted:
+        slots.fault(token, "another word expected", f"'{token.text}' where one of {wanted} should be")
+    return token.text
+
+
+def read_fact(slots: Slots, ward: files.Scenario) -> None:
+    """Reads a fact about a plan."""
+    word = keyword(slots, "CHOICE", "PLACE", "CHARGES", "EVEN")
+    if word in ("CHOICE", "PLACE"):
+        slots.number("a week", 1, WEEKS)
+    if word == "CHOICE":
+        slots.known_name("nurse", ward.nurses, "NURSES")
+        slots.known_name("day", files.DAYS, "the week")
+        slots.known_name("shift type", ward.shift_types, "SHIFT_TYPES", ("None",))
+    if word == "PLACE":
+        slots.known_name("day", files.DAYS, "the week")
+        slots.known_name("shift type", ward.shift_types, "SHIFT_TYPES")
+        slots.known_name("skill", ward.skills, "SKILLS")
+    if word == "CHARGES":
+        keyword(slots, "SHIFT_RUNS", "WORK_DAYS", "SHIFTS", "WEEKENDS")
+        if keyword(slots, "ALL", "NURSE") == "NURSE":
+            slots.known_name("nurse", ward.nurses, "NURSES")
+    if word in ("PLACE", "CHARGES"):
+        slots.number("the maximum")
+
+
+def read_tree(slots: Slots, ward: files.Scenario, leaves: int, prices: int) -> None:
+    """Reads a tree with this number of leaves: how many leaves each open subtree needs is not known before, only their sum."""
+    subtrees = 1
+    while subtrees:
+        words = ["SPLIT"] * (leaves > subtrees) + ["LEAF"] * (subtrees > 1 or leaves == 1)
+        if keyword(slots, *words) == "SPLIT":
+            read_fact(slots, ward)
+            subtrees += 1
+        else:
+            slots.number("the number of the prices", 0, prices - 1)
+            slots.words("SURCHARGES", "=")
+            for _ in range(slots.number("the number of surcharges")):
+                slots.number("a surcharge", 0, MAX_PRICE)
+            subtrees, leaves = subtrees - 1, leaves - 1
+
+
+def read_certificate(path: str, ward: files.Scenario, text: str) -> None:
+    """Reads the certificate's file of a scenario."""
+    slots = Slots(path, text)
+    slots.words("CERTIFICATE")
+    slots.any_word("the scenario's name")
+    slots.words("WEEKS", "=")
+    slots.number("the number of weeks", WEEKS, WEEKS)
+    slots.words("PRICES", "=")
+    prices = slots.number("the number of prices", 1)
+    for _ in range(prices * WEEKS):
+        rows_of_prices(slots, ward)
+    slots.words("LEAVES", "=")
+    read_tree(slots, ward, slots.number("the number of leaves", 1), prices)
+    slots.end("leaf")
+
+
+def read_facts(path: str, ward: files.Scenario, text: str) -> None:
+    """Reads the facts' file of a scenario."""
+    slots = Slots(path, text)
+    slots.words("FACTS")
+    slots.any_word("the scenario's name")
+    slots.words("ROWS", "=")
+    for _ in range(slots.number("the number of facts")):
+        keyword(slots, "HOLDS", "NOT")
+        read_fact(slots, ward)
+    slots.end("fact")
+
+
 def texts(text: str, words: List[str]) -> List[str]:
     """The changed texts of a file."""
     tokens = re.findall(r"[^ \n]+[ \n]", text)
@@ -95,6 +169,8 @@ def main() -> int:
         "SOLUTION": lambda text: files.read_solution("solution", ward, text),
         "PRICES": lambda text: read_prices("prices", ward, text),
         "CASES": lambda text: read_cases("cases", ward, text),
+        "CERTIFICATE": lambda text: read_certificate("certificate", ward, text),
+        "FACTS": lambda text: read_facts("facts", ward, text),
     }
     made = code
     for name, read in readers.items():

@@ -24,12 +24,12 @@ def week_of(draft):
         shift: records.ShiftType(shift, limits(*pair), tuple(after for after in draft.shifts if (shift, after) in draft.forbidden))
         for shift, pair in draft.shifts.items()}
     contracts = {
-        name: records.Contract(name, limits(*of.total), limits(*of.work), limits(*of.off), of.weekends, bool(of.complete))
-        for name, of in draft.contracts.items()}
-    nurses = {name: records.Nurse(name, of.contract, tuple(of.skills)) for name, of in draft.nurses.items()}
+        name: records.Contract(name, limits(*one.total), limits(*one.work), limits(*one.off), one.weekends, bool(one.complete))
+        for name, one in draft.contracts.items()}
+    nurses = {name: records.Nurse(name, one.contract, tuple(one.skills)) for name, one in draft.nurses.items()}
     history = {
-        name: records.NurseHistory(name, of.assignments, of.weekends, None if of.last == "None" else of.last, of.same, of.work, of.off)
-        for name, of in draft.history.items()}
+        name: records.NurseHistory(name, one.assignments, one.weekends, None if one.last == "None" else one.last, one.same, one.work, one.off)
+        for name, one in draft.history.items()}
     required = {records.Place(*place): records.Requirement(*pair) for place, pair in draft.required.items()}
     requests = tuple(records.Request(nurse, None if shift == "Any" else shift, day) for nurse, shift, day in draft.requests)
     return records.Week(
@@ -43,21 +43,21 @@ def draft_of(week):
     ward, data = week.scenario, week.data
     return SimpleNamespace(
         name=ward.name, weeks=ward.weeks, number=week.history.week, skills=list(ward.skills),
-        shifts={name: tuple(of.consecutive) for name, of in ward.shift_types.items()},
-        forbidden={(name, after) for name, of in ward.shift_types.items() for after in of.forbidden_next},
+        shifts={name: tuple(one.consecutive) for name, one in ward.shift_types.items()},
+        forbidden={(name, after) for name, one in ward.shift_types.items() for after in one.forbidden_next},
         contracts={
             name: SimpleNamespace(
-                total=tuple(of.assignments), work=tuple(of.working_days), off=tuple(of.days_off), weekends=of.max_weekends,
-                complete=int(of.complete_weekends))
-            for name, of in ward.contracts.items()},
-        nurses={name: SimpleNamespace(contract=of.contract, skills=list(of.skills)) for name, of in ward.nurses.items()},
+                total=tuple(one.assignments), work=tuple(one.working_days), off=tuple(one.days_off), weekends=one.max_weekends,
+                complete=int(one.complete_weekends))
+            for name, one in ward.contracts.items()},
+        nurses={name: SimpleNamespace(contract=one.contract, skills=list(one.skills)) for name, one in ward.nurses.items()},
         history={
             name: SimpleNamespace(
-                assignments=of.assignments, weekends=of.weekends, last=of.last_shift or "None", same=of.consecutive_shifts,
-                work=of.working_days, off=of.days_off)
-            for name, of in week.history.nurses.items()},
-        required={tuple(place): (of.minimum, of.optimal) for place, of in data.requirements.items()},
-        requests=[(of.nurse, of.shift or "Any", of.day) for of in data.requests])
+                assignments=one.assignments, weekends=one.weekends, last=one.last_shift or "None", same=one.consecutive_shifts,
+                work=one.working_days, off=one.days_off)
+            for name, one in week.history.nurses.items()},
+        required={tuple(place): (one.minimum, one.optimal) for place, one in data.requirements.items()},
+        requests=[(one.nurse, one.shift or "Any", one.day) for one in data.requests])
 
 
 def read_week(scenario, history, week):

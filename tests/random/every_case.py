@@ -44,8 +44,8 @@ def case_bound(week, weeks, prices, off, worked, point):
         return 0 if day_of in off else prices.get(cell[1:], 0) + (bonus if day_of in worked else 0)
 
     total = sum(place_least(week.required.get(place, (0, 0)), prices.get(place, 0), point) for place in places)
-    for of in weeks.values():
-        total += min(point * cost - sum(map(pay, cells)) for cells, cost in of)
+    for choices in weeks.values():
+        total += min(point * cost - sum(map(pay, cells)) for cells, cost in choices)
     return total + bonus * len(worked)
 
 

@@ -21,7 +21,7 @@ from trials import run_trials
 
 from inrc2pb.search.bounds import prices_text
 from inrc2pb.judging.next_history import next_history
-from inrc2pb.rows.plan import WEEK_DAYS, Plan
+from inrc2pb.rows.plan import FREE, WEEK_DAYS, Plan
 from inrc2pb.rows.pricing import MAX_PRICE, Crews, Pricing, plain_bound
 
 ROSTERS = 40
@@ -51,10 +51,10 @@ def random_prices(chance, places):
 def run(program, folder, files, early):
     """The status, standard output and standard error of a run on these texts: the scenario, the history, and each week with its prices."""
     words = ["--early"] * early
-    for at, (name, text) in enumerate(files):
-        with open(f"{folder}/{at}.txt", "w", encoding="latin-1") as file:
+    for index, (name, text) in enumerate(files):
+        with open(f"{folder}/{index}.txt", "w", encoding="latin-1") as file:
             file.write(text)
-        words += [f"--{name}", f"{at}.txt"]
+        words += [f"--{name}", f"{index}.txt"]
     ended = subprocess.run([program, *words], cwd=folder, capture_output=True, text=True, timeout=60)
     return ended.returncode, ended.stdout, ended.stderr
 
@@ -65,8 +65,8 @@ def cost_of_rosters(chance, values, drafts, early):
     for value, draft in zip(values, drafts):
         draft = copy.copy(draft)
         draft.history = {name: copy.copy(draft.history[name]) for name in draft.history}
-        for name, of in history.nurses.items():
-            draft.history[name].last = of.last_shift or "None"
+        for name, past in history.nurses.items():
+            draft.history[name].last = past.last_shift or "None"
         value = replace(value, history=history)
         cells = rows(legal_roster(chance, draft))
         if rules.first_broken(value, cells, ()):
@@ -81,7 +81,7 @@ def try_period(program, folder, chance):
     """Whether there are several weeks, whether the bound is above 0, and the number of rosters that were tried."""
     drafts, early = random_period(chance), chance.random() < 0.4
     values = [week_of(draft) for draft in drafts]
-    plan = Plan.of(values[0].scenario, values[0].history, [value.data for value in values], early, keeps=False)
+    plan = Plan.of(values[0].scenario, values[0].history, [value.data for value in values], early, keeping=FREE)
     crews = Crews(plan)
     prices = random_prices(chance, crews.places)
     texts = [files_of(draft) for draft in drafts]

@@ -55,7 +55,7 @@ class Model:
         return terms, degree
 
     def row(self, terms, degree, cells):
-        plus, minus = (sum(1 << variable - 1 for sign, variable in terms if sign == of and variable <= cells) for of in (1, -1))
+        plus, minus = (sum(1 << variable - 1 for sign, variable in terms if sign == wanted and variable <= cells) for wanted in (1, -1))
         slacks = {variable: sign for sign, variable in terms if variable > cells}
         prices = sorted(self.price.get(variable, 0) for variable in slacks)
         if -1 in slacks.values() or self.slacks & set(slacks) or prices and prices[0] < 0:
@@ -117,7 +117,7 @@ def check_answer(runs, model, week, case, true):
     if unmet:
         wanted = (6, "", f"inrc2pb: constraint {unmet} is not satisfied\n", None)
     else:
-        roster = [cell for at, cell in enumerate(cells_of(week)) if at + 1 in true]
+        roster = [cell for index, cell in enumerate(cells_of(week)) if index + 1 in true]
         objective = sum(model.price.get(variable, 0) for variable in true)
         wanted = (0, report_text(objective, costs(week, roster, "early" in case)), "", solution_text(week, roster))
     if ended != wanted:
@@ -130,14 +130,14 @@ def random_answer(chance, model, cells, kept):
     bits = chance.choice(kept) if kept and chance.random() < 0.8 else chance.randrange(1 << len(cells))
     likely = chance.choice([1, 1, 0.9, 0.5])
     slacks = {slack for slack in sorted(model.slacks) if chance.random() < likely}
-    return slacks | {at + 1 for at in range(len(cells)) if bits >> at & 1}
+    return slacks | {index + 1 for index in range(len(cells)) if bits >> index & 1}
 
 
 def penalties(model, week, held, early):
     """The penalty of each set of cells that keeps the hard rules, as it is compared with the least objective of all sets."""
     cells, value, held_rows, found = rows(cells_of(week)), week_of(week), rows(held), {}
     for bits in range(1 << len(cells)):
-        roster = [cell for at, cell in enumerate(cells) if bits >> at & 1]
+        roster = [cell for index, cell in enumerate(cells) if bits >> index & 1]
         broken = rules.first_broken(value, roster, held_rows)
         penalty = None if broken else sum(rules.costs(value, roster, early).values())
         if model.least(bits) != penalty:

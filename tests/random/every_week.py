@@ -134,7 +134,7 @@ def bound_of(week, prices, held, early, point):
     weeks = {nurse: list(weeks_of(week, value, nurse, held, early)) for nurse in week.nurses}
     if not all(weeks.values()):
         return None, weeks
-    return total + sum(min(point * cost - paid(cells, prices) for cells, cost in of) for of in weeks.values()), weeks
+    return total + sum(min(point * cost - paid(cells, prices) for cells, cost in choices) for choices in weeks.values()), weeks
 
 
 def row_of(week, nurse, weeks, prices, point):
@@ -145,9 +145,9 @@ def row_of(week, nurse, weeks, prices, point):
         on = {cell[1]: cell[2:] for cell in cells}
         return [on.get(day) for day in range(7)]
 
-    def rank(of):
-        order = [(0,) if duty is None else (1, shifts.index(duty[0]), skills.index(duty[1])) for duty in duties(of[0])]
-        return point * of[1] - paid(of[0], prices), order
+    def rank(choice):
+        order = [(0,) if duty is None else (1, shifts.index(duty[0]), skills.index(duty[1])) for duty in duties(choice[0])]
+        return point * choice[1] - paid(choice[0], prices), order
 
     if not weeks:
         return f"{nurse} none\n"
@@ -157,7 +157,7 @@ def row_of(week, nurse, weeks, prices, point):
 
 
 def rows_text(week, weeks, prices, point):
-    return "".join(row_of(week, nurse, of, prices, point) for nurse, of in weeks.items())
+    return "".join(row_of(week, nurse, choices, prices, point) for nurse, choices in weeks.items())
 
 
 # ---- one week
@@ -198,8 +198,8 @@ def claim(sum_, minimums):
 def check_rosters(week, weeks, held, runs, bound):
     """Tries rosters of the nurses' weeks: penalties, `optimal`, and broken rules. Returns the least penalty, if all were tried."""
     value, number = week_of(week), 1
-    for of in weeks.values():
-        number *= len(of)
+    for choices in weeks.values():
+        number *= len(choices)
     rosters = itertools.product(*weeks.values())
     least, tried = None, 0
     for parts in itertools.islice(rosters, MOST_ROSTERS):

@@ -59,17 +59,17 @@ def example_weeks():
 
 
 def change_bytes(chance, text):
-    at = chance.randrange(len(text) + 1)
-    end = min(len(text), at + chance.choice([1, 1, 2, 5, 40, 400]))
-    piece = text[at:end]
+    begin = chance.randrange(len(text) + 1)
+    end = min(len(text), begin + chance.choice([1, 1, 2, 5, 40, 400]))
+    piece = text[begin:end]
     other = chance.randrange(len(text) + 1)
     return chance.choice([
-        lambda: text[:at],
-        lambda: text[:at] + text[end:],
+        lambda: text[:begin],
+        lambda: text[:begin] + text[end:],
         lambda: text[:end] + piece + text[end:],
-        lambda: text[:at] + piece[::-1] + text[end:],
-        lambda: text[:at] + chr(chance.randrange(256)) + text[at + 1 :],
-        lambda: text[:at] + chance.choice([" ", "\n", "\r\n", "\t", "(", ",", "=", "-", "x", "\0", "\xff"]) + text[at:],
+        lambda: text[:begin] + piece[::-1] + text[end:],
+        lambda: text[:begin] + chr(chance.randrange(256)) + text[begin + 1 :],
+        lambda: text[:begin] + chance.choice([" ", "\n", "\r\n", "\t", "(", ",", "=", "-", "x", "\0", "\xff"]) + text[begin:],
         lambda: text[:other] + piece + text[other:],
     ])()
 

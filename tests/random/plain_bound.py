@@ -9,7 +9,7 @@ import argparse
 import drafts  # noqa: F401  The path of the helpers.
 
 from inrc2pb.week.files import read_history, read_scenario, read_week
-from inrc2pb.rows.plan import WEEK_DAYS, Plan
+from inrc2pb.rows.plan import FREE, WEEK_DAYS, Plan
 from inrc2pb.rows.pricing import Crews, Pricing, plain_bound
 
 
@@ -33,7 +33,7 @@ def main():
     given = reader.parse_args()
     scenario = read_scenario(given.sce)
     history = read_history(given.his, scenario)
-    plan = Plan.of(scenario, history, [read_week(path, scenario) for path in given.week], given.early, keeps=False)
+    plan = Plan.of(scenario, history, [read_week(path, scenario) for path in given.week], given.early, keeping=FREE)
     prices, crews = [read_prices(path) for path in given.prices], Crews(plan)
     of_places = [prices[place.day // WEEK_DAYS].get((place.day % WEEK_DAYS, place.shift, place.skill), 0) for place in crews.places]
     print(plain_bound(Pricing(plan, crews, lambda: None), of_places))

@@ -100,17 +100,17 @@ def counted_classes(week, roster, early):
 
 def met_classes(week, roster):
     """What is met in some weeks only."""
-    contracts = [week.contracts[of.contract] for of in week.nurses.values()]
+    contracts = [week.contracts[one.contract] for one in week.nurses.values()]
     limits = {
         "S1 numbers": week.required.values(), "S2 shift limits": week.shifts.values(),
-        "S2 work limits": [of.work for of in contracts], "S3 limits": [of.off for of in contracts],
-        "S6 limits": [of.total for of in contracts]}
+        "S2 work limits": [one.work for one in contracts], "S3 limits": [one.off for one in contracts],
+        "S6 limits": [one.total for one in contracts]}
     for what, pairs in limits.items():
         if any(least > most for least, most in pairs):
             yield f"{what} with the minimum above"
     if any(week.requests.count(row) > 1 for row in week.requests for n, d, s, _ in roster if row in ((n, s, d), (n, "Any", d))):
         yield "S4 a row that stands twice"
-    before = {nurse: week.history[nurse].assignments - week.contracts[of.contract].total[1] for nurse, of in week.nurses.items()}
+    before = {nurse: week.history[nurse].assignments - week.contracts[one.contract].total[1] for nurse, one in week.nurses.items()}
     if any(before[nurse] > 0 for nurse, _, _, _ in roster):
         yield "S6 above already in the history"
 

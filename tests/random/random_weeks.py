@@ -25,7 +25,7 @@ def read(path):
 def example_files(name):
     """The files of a folder of examples/ with one week."""
     files = (("sce", "ward"), ("his", "history-*"), ("week", "week-*"))
-    return {of: read(*glob.glob(f"{ROOT}/examples/{name}/{file}.txt")) for of, file in files}
+    return {kind: read(*glob.glob(f"{ROOT}/examples/{name}/{file}.txt")) for kind, file in files}
 
 
 def example_week(name, answer):
@@ -33,7 +33,7 @@ def example_week(name, answer):
     files = example_files(name)
     week = read_week(files["sce"], files["his"], files["week"])
     true = {int(variable) for variable in re.findall(r" x(\d+)", read(f"{ROOT}/{answer}"))}
-    return week, [cell for at, cell in enumerate(cells_of(week)) if at + 1 in true]
+    return week, [cell for index, cell in enumerate(cells_of(week)) if index + 1 in true]
 
 
 def cells_of(week):
@@ -122,14 +122,14 @@ def changed_roster(chance, week, roster):
     kind = chance.randrange(5)
     if kind == 0 or not roster:
         return roster + [any_cell(chance, week)]
-    at = chance.randrange(len(roster))
-    nurse, day, shift, skill = roster[at]
+    index = chance.randrange(len(roster))
+    nurse, day, shift, skill = roster[index]
     if kind == 1:
-        return roster[:at] + roster[at + 1 :]
+        return roster[:index] + roster[index + 1 :]
     if kind == 2:
-        return roster[:at] + roster[at + 1 :] + [(nurse, day, chance.choice(list(week.shifts)), skill)]
+        return roster[:index] + roster[index + 1 :] + [(nurse, day, chance.choice(list(week.shifts)), skill)]
     if kind == 3:
-        return roster[:at] + roster[at + 1 :] + [(nurse, day, shift, chance.choice(week.skills))]
+        return roster[:index] + roster[index + 1 :] + [(nurse, day, shift, chance.choice(week.skills))]
     return [cell for cell in roster if cell[0] != nurse] + list(legal_days(chance, week, nurse))
 
 

@@ -21,7 +21,7 @@ class Wrong(Exception):
 def report_text(objective, cost, last=None):
     """The report of `decode`: the costs of the soft rules in their order, and the answer's last `o` value."""
     lines = ["status SATISFIABLE", f"objective {objective}", f"penalty {sum(cost)}"]
-    lines += [f"{rule} {of}" for rule, of in zip(SOFT_RULES, cost)] + ([] if last is None else [f"last o {last}"])
+    lines += [f"{rule} {number}" for rule, number in zip(SOFT_RULES, cost)] + ([] if last is None else [f"last o {last}"])
     return "".join(f"{line}\n" for line in lines)
 
 

@@ -10,12 +10,12 @@ NUMBER = re.compile(r"\b\d+\b")
 
 def consistent(week, rosters):
     """The week and rosters without what speaks of names that are gone."""
-    week.history = {nurse: of for nurse, of in week.history.items() if nurse in week.nurses}
-    for of in week.history.values():
-        of.last = of.last if of.last in week.shifts else "None"
-    for of in week.nurses.values():
-        of.contract = of.contract if of.contract in week.contracts else next(iter(week.contracts), of.contract)
-        of.skills = [skill for skill in of.skills if skill in week.skills]
+    week.history = {nurse: one for nurse, one in week.history.items() if nurse in week.nurses}
+    for one in week.history.values():
+        one.last = one.last if one.last in week.shifts else "None"
+    for one in week.nurses.values():
+        one.contract = one.contract if one.contract in week.contracts else next(iter(week.contracts), one.contract)
+        one.skills = [skill for skill in one.skills if skill in week.skills]
     week.forbidden = {pair for pair in week.forbidden if set(pair) <= set(week.shifts)}
     week.required = {(d, s, k): pair for (d, s, k), pair in week.required.items() if s in week.shifts and k in week.skills}
     week.requests = [(n, s, d) for n, s, d in week.requests if n in week.nurses and (s == "Any" or s in week.shifts)]
@@ -40,13 +40,13 @@ class Shrinking:
         """Drops items as long as the case of the others fails: all, then pieces of half the length, down to one."""
         size = len(items)
         while size:
-            at = 0
-            while at < len(items):
-                fewer = items[:at] + items[at + size :]
+            begin = 0
+            while begin < len(items):
+                fewer = items[:begin] + items[begin + size :]
                 if self.accepts(case_of(fewer)):
                     items = fewer
                 else:
-                    at += size
+                    begin += size
             size //= 2
 
     def drop_files(self):
@@ -78,10 +78,10 @@ class Shrinking:
         if name in rosters:
             rosters[name] = kept
         else:
-            of = getattr(week, name)
-            setattr(week, name, {key: of[key] for key in kept} if isinstance(of, dict) else type(of)(kept))
+            table = getattr(week, name)
+            setattr(week, name, {key: table[key] for key in kept} if isinstance(table, dict) else type(table)(kept))
         week, rosters = consistent(week, rosters)
-        return {**self.case, **files_of(week), **{name: solution_text(week, of) for name, of in rosters.items()}}
+        return {**self.case, **files_of(week), **{name: solution_text(week, table) for name, table in rosters.items()}}
 
     def lower_numbers(self):
         for name in self.case:

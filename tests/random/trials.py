@@ -22,7 +22,7 @@ def run_trials(about, try_number, kinds, cases="weeks", default=90):
         found = list(pool.map(functools.partial(try_number, given.program, given.seed), range(given.cases)))
     failed = [wrong for wrong in found if isinstance(wrong, str)]
     tried = [counts for counts in found if not isinstance(counts, str)]
-    sums = [sum(counts[at] for counts in tried) for at in range(len(kinds))]
+    sums = [sum(counts[index] for counts in tried) for index in range(len(kinds))]
     if not all(sums):
         failed.append("nothing of one kind was tried")
     print("".join(f"FAILED: {line}\n" for line in failed), end="")

@@ -11,9 +11,13 @@ mod case_files;
 #[cfg(test)]
 mod cells;
 #[cfg(test)]
+mod certificate_files;
+#[cfg(test)]
 mod events;
 #[cfg(test)]
 mod examples;
+#[cfg(test)]
+mod fact_files;
 #[cfg(test)]
 mod memory_ports;
 #[cfg(test)]

@@ -3,7 +3,10 @@
 use crate::answers::of_pieces;
 use crate::week_files::{instance_of, one_nurse_one_shift};
 use rota_core::{Bits, FileFault, Instance, Prices, Roster, Scenario};
-use rota_read::{read_cases, read_history, read_prices, read_scenario, read_solution, read_week};
+use rota_read::{
+    read_cases, read_certificate, read_facts, read_history, read_prices, read_scenario,
+    read_solution, read_week,
+};
 use solver_text::Answer;
 use std::alloc::Global;
 use std::fmt::Debug;
@@ -25,6 +28,8 @@ enum Table {
     Week,
     Prices,
     Cases,
+    Certificate,
+    Facts,
 }
 
 // The numbers of weeks and nurses.
@@ -75,6 +80,27 @@ fn count_of_cases(alloc: Global, scenario: &Scenario) -> Result<usize, FileFault
     }
 }
 
+const CERTIFICATE: &[u8] =
+    b"CERTIFICATE s1 WEEKS = 1 PRICES = 1 ROWS = 0 LEAVES = 2 SPLIT EVEN LEAF 0 SURCHARGES = 1 5 LEAF 0 SURCHARGES = 0";
+
+// The number of nodes.
+fn count_of_nodes(alloc: Global, scenario: &Scenario) -> Result<usize, FileFault> {
+    match read_certificate(alloc, scenario, 1, CERTIFICATE) {
+        Ok(certificate) => Ok(certificate.nodes.len()),
+        Err(fault) => Err(fault),
+    }
+}
+
+const FACTS: &[u8] = b"FACTS s1 ROWS = 2 HOLDS EVEN NOT CHOICE 1 Ann Mon None";
+
+// The number of facts.
+fn count_of_facts(alloc: Global, scenario: &Scenario) -> Result<usize, FileFault> {
+    match read_facts(alloc, scenario, 1, FACTS) {
+        Ok(facts) => Ok(facts.len()),
+        Err(fault) => Err(fault),
+    }
+}
+
 // Prints the size of the table.
 fn print_table(
     rt: &impl Print,
@@ -88,6 +114,8 @@ fn print_table(
         Table::Week => print(rt, &demands_of_week(alloc, scenario)),
         Table::Prices => print(rt, &last_price(alloc, scenario)),
         Table::Cases => print(rt, &count_of_cases(alloc, scenario)),
+        Table::Certificate => print(rt, &count_of_nodes(alloc, scenario)),
+        Table::Facts => print(rt, &count_of_facts(alloc, scenario)),
     }
 }
 
@@ -121,6 +149,16 @@ fn prices_read(rt: HostRuntime) -> io::Result<()> {
 #[test]
 fn cases_read(rt: HostRuntime) -> io::Result<()> {
     read_and_print(&rt, rt.alloc(), Table::Cases)
+}
+
+#[test]
+fn certificate_read(rt: HostRuntime) -> io::Result<()> {
+    read_and_print(&rt, rt.alloc(), Table::Certificate)
+}
+
+#[test]
+fn facts_read(rt: HostRuntime) -> io::Result<()> {
+    read_and_print(&rt, rt.alloc(), Table::Facts)
 }
 
 // The origin of a roster.

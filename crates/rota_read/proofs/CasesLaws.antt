@@ -1,30 +1,24 @@
 -- The cases that a text spells are for the weeks of the scenario.
-use Rattle.std.proofs.Common.{◌≡◌, ℕ, zero, suc, List, [], Ok, refl, subst, sym}
+use Rattle.std.proofs.Common.{◌≡◌, ℕ, zero, suc, List, [], Ok, subst, sym}
 use Rattle.std.specs.List.{AllByRecursion}
 use Rattle.rota_core.specs.CaseTables.{IsCaseFor}
 use Rattle.rota_core.specs.InstanceTables.{InstanceTables, problem_of}
-use Rattle.rota_core.specs.PriceTables.{IsForWeek, PriceTables}
+use Rattle.rota_core.specs.PriceTables.{IsForWeek}
 use Rattle.rota_core.specs.ScenarioTables.{ScenarioTables}
 use Rattle.rota_core.specs.declared.cases.Cases.{Cases}
 use Rattle.rota_core.specs.declared.cases.OffCase.{OffCase}
 use Rattle.rota_read.specs.CasesLayout.{AreCasesOf, case_row, cases, CaseTables, case_tables_of, SpellsCases}
 use Rattle.rota_read.specs.Files.{Fills, Spells}
 use Rattle.rota_read.specs.Layout.{day_names, none_taken, repeat}
-use Rattle.rota_read.specs.PricesLayout.{price_table}
 use Rattle.rota_read.specs.Reading.{read_text}
 use Rattle.rota_read.specs.Tokens.{Token}
 use Rattle.rota_read.proofs.FileLaws.{spells-read, fault_in-read}
+use Rattle.rota_read.proofs.PricesLaws.{table-for_week}
 use Rattle.rota_read.proofs.SlotLaws.{all_push, known_name-below}
 
 module _ (week : InstanceTables) where
   abbrev IsCase : OffCase → Type 0
   IsCase case = IsCaseFor (problem_of week) case
-
-  -- a table that is spelled is for the week
-  table-for_week : (front : List Token) (table : PriceTables) → Fills (price_table week.scenario) front table →
-      IsForWeek (problem_of week) table
-  unfolding Fills price_table
-  table-for_week front table h = rw h.5.5.1 (record { shifts = refl; skills = refl })
 
   case_row-keeps : (off : List OffCase) (front : List Token) (next : List OffCase) → Fills (case_row week.scenario off) front next →
       AllByRecursion IsCase off → AllByRecursion IsCase next
@@ -36,7 +30,7 @@ module _ (week : InstanceTables) where
       rw prices.5.1 (all_push IsCase off _ k (record {
         nurse = known_name-below week.scenario.nurses none_taken h.1 h.0 h.4;
         day = known_name-below day_names none_taken day.1 day.0 day.4;
-        prices = table-for_week prices.1 prices.0 prices.4;
+        prices = table-for_week week prices.1 prices.0 prices.4;
       }))
 
   case_rows-keep : (n : ℕ) (off : List OffCase) (front : List Token) (last : List OffCase) →
@@ -52,7 +46,7 @@ module _ (week : InstanceTables) where
       -- the word, any word, the number of cases, the cases, the word, the rest
       let off = h.filled.5.5.5 in
       let rest = off.5.5 in
-      rw rest.5.1 (case_rows-keep _ [] off.1 off.0 off.4 tt, table-for_week rest.1 rest.0 rest.4)
+      rw rest.5.1 (case_rows-keep _ [] off.1 off.0 off.4 tt, table-for_week week rest.1 rest.0 rest.4)
 
 -- cases that are read are for each week of the scenario
 pub cases-read : (t : ScenarioTables) (text : List ℕ) (found : Cases) → read_text (cases t) text ≡ Ok (case_tables_of found) → AreCasesOf t found

@@ -1,7 +1,8 @@
 -- The prices that a text spells are within the limits.
-use Rattle.std.proofs.Common.{◌≡◌, ℕ, zero, suc, ◌*◌, ◌≤◌, List, length, Ok, arith}
+use Rattle.std.proofs.Common.{◌≡◌, ℕ, zero, suc, ◌*◌, ◌≤◌, List, length, Ok, refl, arith}
+use Rattle.rota_core.specs.InstanceTables.{InstanceTables, problem_of}
 use Rattle.rota_core.specs.Limits.{max_price}
-use Rattle.rota_core.specs.PriceTables.{PriceTables, IsPriceTables}
+use Rattle.rota_core.specs.PriceTables.{IsForWeek, PriceTables, IsPriceTables}
 use Rattle.rota_core.specs.ScenarioTables.{ScenarioTables}
 use Rattle.rota_read.specs.Tokens.{Token}
 use Rattle.rota_read.specs.Layout.{number, repeat}
@@ -43,3 +44,9 @@ read-is_prices t last all table after h =
     (no_rows-all IsPrice (length t.shifts * length t.skills)) in
     let are = day_table-all IsPrice 0 (omega arith) (length t.shifts) (length t.skills) rows.0 kept in
     rw rows.5.1 (record { prices = are.0; within = are.1 })
+
+-- a table that is spelled is for each week of the scenario
+pub table-for_week : (week : InstanceTables) (front : List Token) (table : PriceTables) → Fills (price_table week.scenario) front table →
+    IsForWeek (problem_of week) table
+unfolding Fills price_table
+table-for_week week front table h = rw h.5.5.1 (record { shifts = refl; skills = refl })

@@ -38,7 +38,7 @@ pair-limits front span h =
     let d = c.5 in
     rw d.5.1 ((number-within 0 max_number a.1 a.0 a.4).1, (number-within 0 max_number c.1 c.0 c.4).1)
 
-setting-within : (name : List ℕ) (low high : ℕ) (front : List Token) (n : ℕ) → Fills (setting name low high) front n →
+pub setting-within : (name : List ℕ) (low high : ℕ) (front : List Token) (n : ℕ) → Fills (setting name low high) front n →
     (low ≤ n) × (n ≤ high)
 unfolding Fills setting
 setting-within name low high front n h = number-within low high h.5.2 n h.5.5

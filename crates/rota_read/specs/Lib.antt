@@ -1,6 +1,9 @@
 pub mod CasesLayout
+pub mod CertificateLayout
+pub mod CertificateRows
 pub mod DayPairs
 pub mod DayRows
+pub mod FactsLayout
 pub mod FileAnswers
 pub mod FileFaults
 pub mod Files

@@ -1,6 +1,9 @@
 //! The laws of the files. Each law holds for all texts, and does nothing when it runs.
 ghost use Rattle.rota_core.specs.ScenarioTables.{ScenarioTables};
+ghost use Rattle.std.specs.Prelude.{ℕ};
 ghost use Rattle.rota_read.specs.CasesLayout.{cases};
+ghost use Rattle.rota_read.specs.CertificateLayout.{certificate};
+ghost use Rattle.rota_read.specs.FactsLayout.{facts};
 ghost use Rattle.rota_read.specs.HistoryLayout.{history};
 ghost use Rattle.rota_read.specs.HistoryRows.{GivesEachPast};
 ghost use Rattle.rota_read.specs.OneMeaning.{OneMeaning};
@@ -54,6 +57,18 @@ pub fn each_text_means_one_table_of_prices()
 #[tactic(auto, using(crate::proofs::FileLaws::one_meaning))]
 pub fn each_text_means_one_list_of_cases()
     ensures { (tables : ScenarioTables) → OneMeaning (cases tables) }
+{}
+
+/// For each scenario and number of weeks, every text spells one certificate or has one fault, and never both.
+#[tactic(auto, using(crate::proofs::FileLaws::one_meaning))]
+pub fn each_text_means_one_certificate()
+    ensures { (tables : ScenarioTables) (weeks : ℕ) → OneMeaning (certificate tables weeks) }
+{}
+
+/// For each scenario and number of weeks, every text spells one list of facts or has one fault, and never both.
+#[tactic(auto, using(crate::proofs::FileLaws::one_meaning))]
+pub fn each_text_means_one_list_of_facts()
+    ensures { (tables : ScenarioTables) (weeks : ℕ) → OneMeaning (facts tables weeks) }
 {}
 
 /// For each scenario, every text spells the assignments of one solution or has one fault, and never

@@ -14,10 +14,12 @@
 #![tactic(auto)]
 
 mod cases;
+mod certificate;
 mod contracts;
 mod cursor;
 mod day_rows;
 mod days;
+mod facts;
 mod fault;
 mod history;
 pub mod laws;
@@ -34,7 +36,9 @@ mod week;
 mod week_tables;
 
 pub use cases::read_cases;
+pub use certificate::read_certificate;
 pub use days::day_name;
+pub use facts::read_facts;
 pub use history::read_history;
 pub use prices::read_prices;
 pub use scenario::read_scenario;

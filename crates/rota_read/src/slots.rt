@@ -89,6 +89,7 @@ impl<'a> Cursor<'a> {
     /// A number between the limits.
     pub fn number(&mut self, low: u16, high: u16) -> Result<u16, Stop>
         ensures read { Reads (λ n. n) result self.new (read_layout (number low high) self.old) }
+        ensures above { IfOk result (λ n. low ≤ n) }
         ensures within { IfOk result (λ n. n ≤ high) }
     {
         Ok(self.long_number(u32::from(low), u32::from(high))? as u16)
@@ -99,6 +100,7 @@ impl<'a> Cursor<'a> {
     pub fn long_number(&mut self, low: u32, high: u32) -> Result<u32, Stop>
         requires { high ≤ MAX_PRICE }
         ensures read { Reads (λ n. n) result self.new (read_layout (number low high) self.old) }
+        ensures above { IfOk result (λ n. low ≤ n) }
         ensures within { IfOk result (λ n. n ≤ high) }
     {
         let token = self.token()?;

@@ -5,7 +5,8 @@ use crate::file_faults::read_tables;
 use crate::jobs::Kind as JobKind;
 use rota_core::{FileFault, FileName, Instance, Kind};
 use rota_read::{
-    read_cases, read_fixed, read_history, read_prices, read_scenario, read_solution, read_week,
+    read_cases, read_certificate, read_facts, read_fixed, read_history, read_prices, read_scenario,
+    read_solution, read_week,
 };
 use std::alloc::{AllocError, Global};
 use std::process::Abort;
@@ -72,6 +73,35 @@ Late Head 0 0 0 0 0 0 0
 Early Head 1 2 3 4 5 6 7
 ";
 
+const CERTIFICATE: &[u8] = b"CERTIFICATE
+s1
+WEEKS = 2
+PRICES = 2
+ROWS = 0
+ROWS = 1
+Late Head 0 0 0 22500 0 0 999999999
+ROWS = 0
+ROWS = 0
+LEAVES = 3
+SPLIT CHOICE 1 Ann Mon None
+SPLIT PLACE 2 Sun Late Head 9
+LEAF 0 SURCHARGES = 2
+0 999999999
+LEAF 1 SURCHARGES = 0
+LEAF 1 SURCHARGES = 1
+7
+";
+
+const FACTS: &[u8] = b"FACTS
+s1
+ROWS = 5
+HOLDS CHOICE 2 Bob Sun Early
+NOT PLACE 1 Mon Early Nurse 0
+HOLDS CHARGES WORK_DAYS NURSE Ann 0
+NOT CHARGES SHIFT_RUNS ALL 3
+HOLDS EVEN
+";
+
 const BASE: Base = Base {
     kind: JobKind::Extend,
     early: false,
@@ -80,7 +110,7 @@ const BASE: Base = Base {
 
 const WORDS: &str =
     "( ) , = 0 1 2 9 10 16 17 52 64 1000 9999 10000 999999999 1000000000 4294967296 007 -1 +1 1.5 \
-    none None Any SCENARIO SHIFT_OFF_REQUESTS ROWS s1 Early Late Nurse Head Full Ann Bob Mon Sun";
+    none None Any SCENARIO SHIFT_OFF_REQUESTS ROWS LEAF EVEN s1 Early Late Nurse Head Full Ann Bob Mon Sun";
 
 fn is_blank(byte: &u8) -> bool {
     *byte == b' ' || *byte == b'\n'
@@ -117,6 +147,8 @@ fn fault_of(alloc: Global, instance: &Instance, file: FileName, text: &[u8]) -> 
         FileName::Fixed => read_fixed(alloc, instance, text).err(),
         FileName::Prices => read_prices(alloc, scenario, text).err(),
         FileName::Cases => read_cases(alloc, scenario, text).err(),
+        FileName::Certificate => read_certificate(alloc, scenario, 2, text).err(),
+        FileName::Facts => read_facts(alloc, scenario, 2, text).err(),
     }
 }
 
@@ -128,32 +160,45 @@ const ENDS: [Ends; 6] = [
     (
         FileName::Scenario,
         SCENARIO,
-        [388, 627, 4932, 2029, 603, 1090, 37, 122, 97156],
+        [394, 645, 5168, 2203, 603, 1154, 37, 128, 102294],
     ),
     (
         FileName::History,
         HISTORY,
-        [187, 164, 341, 768, 132, 474, 4, 153, 8280],
+        [189, 166, 355, 834, 132, 498, 4, 159, 8738],
     ),
     (
         FileName::Week,
         WEEK,
-        [439, 459, 5676, 2030, 348, 1103, 2, 122, 46155],
+        [441, 461, 5948, 2204, 348, 1169, 2, 128, 48617],
     ),
     (
         FileName::Solution,
         SOLUTION,
-        [66, 82, 503, 139, 24, 817, 2, 122, 6387],
+        [68, 84, 523, 151, 24, 865, 2, 128, 6719],
     ),
     (
         FileName::Prices,
         PRICES,
-        [255, 247, 441, 1040, 96, 509, 2, 218, 10533],
+        [257, 249, 461, 1130, 96, 533, 2, 224, 11123],
     ),
     (
         FileName::Cases,
         CASES,
-        [373, 398, 1327, 1735, 174, 1272, 2, 218, 32389],
+        [375, 400, 1389, 1885, 174, 1332, 2, 224, 34173],
+    ),
+];
+
+const CERTIFICATE_ENDS: [Ends; 2] = [
+    (
+        FileName::Certificate,
+        CERTIFICATE,
+        [259, 347, 3739, 2008, 441, 938, 0, 140, 75765],
+    ),
+    (
+        FileName::Facts,
+        FACTS,
+        [97, 118, 2262, 455, 132, 744, 0, 128, 20177],
     ),
 ];
 
@@ -215,17 +260,27 @@ fn ends_of(
     Ok(ends)
 }
 
-#[test]
-fn each_token_changed(rt: HostRuntime) -> Result<(), Fail> {
-    let texts = texts_of(rt.alloc(), &BASE, &[])?;
-    match read_tables(rt.alloc(), &texts, false) {
+// Changes each token of these files.
+fn change_each(rt: &impl Abort, alloc: Global, files: &[Ends]) -> Result<(), Fail> {
+    let texts = texts_of(alloc, &BASE, &[])?;
+    match read_tables(alloc, &texts, false) {
         Ok(instance) => {
-            for (file, text, wanted) in ENDS {
-                let ends = ends_of(&rt, rt.alloc(), &instance, file, text)?;
-                assert_eq!(rt; ends, wanted, "{file}");
+            for (file, text, wanted) in files {
+                let ends = ends_of(rt, alloc, &instance, *file, text)?;
+                assert_eq!(rt; ends, *wanted, "{file}");
             }
             Ok(())
         }
         Err(fault) => panic!(rt; "{fault}"),
     }
+}
+
+#[test]
+fn each_token_changed(rt: HostRuntime) -> Result<(), Fail> {
+    change_each(&rt, rt.alloc(), &ENDS)
+}
+
+#[test]
+fn each_token_of_certificates_changed(rt: HostRuntime) -> Result<(), Fail> {
+    change_each(&rt, rt.alloc(), &CERTIFICATE_ENDS)
 }

@@ -8,7 +8,7 @@ import sys
 from typing import Any, NoReturn, Optional, Sequence
 
 from ..programs.program import run_program
-from ..week.slots import closest
+from ..week.slots import did_you_mean
 
 
 class _Once(argparse.Action):
@@ -78,9 +78,9 @@ class Parser(argparse.ArgumentParser):
         unknown = next((name for name in named if name not in options and name != "--help"), "")
         if not unknown:
             return ""
-        meant = closest(unknown[2:], [option[2:] for option in options])
-        if meant:
-            return f": {unknown}: did you mean --{meant}?"
+        advice = did_you_mean(unknown[2:], [option[2:] for option in options], "", "--{}".format)
+        if advice:
+            return f": {unknown}: {advice}"
         return f": give the files without options, in this order: {self.order}" if self.order else ""
 
 
@@ -95,6 +95,8 @@ def _about_words(unknown: str, given: Sequence[str]) -> str:
 
 def parser(description: str, epilog: Optional[str] = None, order: str = "") -> Parser:
     """A parser whose help keeps the lines of its description. An option has to be written out, as for `inrc2pb`."""
-    options = Parser(description=description, epilog=epilog, order=order, formatter_class=argparse.RawDescriptionHelpFormatter, allow_abbrev=False)
+    options = Parser(
+        description=description, epilog=epilog, order=order, formatter_class=argparse.RawDescriptionHelpFormatter, allow_abbrev=False
+    )
     options.add_version()
     return options

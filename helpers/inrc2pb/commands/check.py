@@ -7,10 +7,12 @@ from pathlib import Path
 from typing import Callable, Iterator, List, Optional, Tuple, TypeVar
 
 from ..judging.absences import absences_of, readable, working_while_away
-from .command import add_week_options, parser, week_files
+from .command import add_given_option, add_week_options, parser, week_files
 from ..judging.constraint import block_of, blocks, named_row, row_of
 from ..judging.demand import demand_warnings
-from ..week.faults import FileFault, Misuse, ProgramFault, fault_line
+from ..judging.given import read_given, with_given
+from ..judging.limits import exceeded, limits_in_words
+from ..week.faults import FileFault, Misuse, ProgramFault, fault_line, printable
 from ..week.records import DAYS, Cell, History, Scenario, Week, WeekData
 from ..week.files import check_week_number, read_history, read_scenario, read_solution, read_week
 from ..judging.misfits import explained, other_week, read_held, read_roster
@@ -43,7 +45,7 @@ class Check:
     def mistake(self, line: str) -> None:
         """Prints and counts a mistake."""
         self.mistakes += 1
-        print(line)
+        print(printable(line))
 
     def warns(self, path: Path, warnings: Iterator[str]) -> None:
         """Prints the warnings about a file without a mistake."""
@@ -78,13 +80,16 @@ class Check:
         history = self.reads(read)
         if history:
             self.warns(path, self.name(history.scenario, scenario))
-            self.warns(path, history_warnings(history))
+            self.warns(path, history_warnings(history, scenario))
         return history
 
     def week_data(self, scenario: Scenario, history: Optional[History]) -> Optional[WeekData]:
         """Checks the week data."""
-        path = self.given.week
+        path, facts = self.given.week, self.given.facts
         data = self.reads(lambda: read_week(path, scenario))
+        claims = self.reads(lambda: read_given(facts, scenario)) if facts else ()
+        if data and history:
+            data = with_given(scenario, data, claims or (), history.week)
         if data:
             self.warns(path, self.name(data.name, scenario))
             self.warns(path, week_warnings(scenario, data))
@@ -145,9 +150,12 @@ class Check:
             self.away(roster, week)
 
     def away(self, roster: Path, week: Week) -> None:
-        """A roster may not break an absence of its week."""
-        for row in working_while_away(absences_of(week.data), read_solution(roster, week.scenario).cells):
+        """A roster may not break an absence of its week, nor exceed a limit that holds."""
+        cells = read_solution(roster, week.scenario).cells
+        for row in working_while_away(absences_of(week.data), cells):
             self.mistake(f"{roster}: {row.nurse} works {row.shift} on {DAYS[row.day]}, and is away")
+        for charge in exceeded(week, week.data.limits, cells):
+            self.mistake(f"{roster}: {limits_in_words([charge], cells)}, and this limit holds")
 
 
 def _said(fault: ProgramFault) -> str:
@@ -186,7 +194,10 @@ def main() -> Optional[int]:
         "--sce is required. Ends with status 1 if a file has a mistake; a warning is not a mistake.",
     )
     add_week_options(options, required=False)
-    options.add_argument("--roster", metavar="FILE", type=Path, action="append", default=[], help="a roster of the week, as a solution file")
+    add_given_option(options)
+    options.add_argument(
+        "--roster", metavar="FILE", type=Path, action="append", default=[], help="a roster of the week, as a solution file"
+    )
     options.add_argument("--constraint", metavar="N", type=int, help="print the constraint N of the week's model, and its rule")
     options.add_argument("--tell", action="store_true", help="print the files in sentences")
     options.add_argument("--why-none", action="store_true", help="if no roster exists: the minimum numbers to lower, and who has the skill")
@@ -197,7 +208,9 @@ def main() -> Optional[int]:
         raise Misuse("--constraint needs the whole week: give --sce, --his and --week")
     if given.why_none and not (given.his and given.week):
         raise Misuse("--why-none needs the whole week: give --sce, --his and --week")
-    check_no_pipes((given.sce, given.his, given.week, given.fix, *given.roster))
+    if given.facts and not (given.his and given.week):
+        raise Misuse("--given needs the whole week: give --sce, --his and --week")
+    check_no_pipes((given.sce, given.his, given.week, given.fix, given.facts, *given.roster))
     check = Check(given)
     week, held = check.all_files()
     if not check.mistakes and week and given.constraint is not None:

@@ -12,9 +12,13 @@ from typing import Callable, Dict, Optional, Sequence, TextIO
 
 from .arguments import parser
 from ..week.faults import FileFault, FileFaults, Misuse, ProgramFault, fault_line
+from ..programs.own_folder import own_folder
 from ..programs.program import FAULT, OUT_OF_MEMORY, READ_OR_WRITE, WeekFiles
 
-__all__ = ["add_solver_option", "add_week_options", "check_seconds", "number_of_seconds", "parser", "run", "week_files"]
+__all__ = [
+    "add_given_option", "add_seed_option", "add_solver_option", "add_week_options", "check_seconds", "number_of_seconds", "parser", "run",
+    "week_files",
+]  # fmt: skip
 
 # The exit statuses with which a shell reports that the signals PIPE and INT ended a command; that of another signal is its number more
 # than the base.
@@ -54,6 +58,19 @@ def add_week_options(options: argparse.ArgumentParser, required: bool = True) ->
     options.add_argument("--early", action="store_true", help="charge excess assignments and weekends as soon as they occur")
 
 
+def add_given_option(options: argparse.ArgumentParser) -> None:
+    """The option that names the facts that plans keep."""
+    asks = "facts about the period to keep: absences, and limits that hold"
+    options.add_argument("--given", dest="facts", metavar="FILE", type=Path, help=asks)
+
+
+def add_seed_option(options: argparse.ArgumentParser) -> None:
+    """The option that begins the random choices of a search."""
+    options.add_argument(
+        "--seed", metavar="N", type=int, default=1, help="the beginning of the search's random choices: with one processor the same search"
+    )
+
+
 def add_solver_option(options: argparse.ArgumentParser) -> None:
     """The option that names a solver for whole weeks."""
     solver = (
@@ -71,7 +88,7 @@ def check_seconds(seconds: float, option: str) -> None:
 
 def week_files(given: argparse.Namespace) -> WeekFiles:
     """The files that the options of `add_week_options` name."""
-    return WeekFiles(given.sce, given.his, given.week, given.fix, given.early)
+    return WeekFiles(given.sce, given.his, given.week, given.fix, given.early, given.facts)
 
 
 class _Remarks(io.TextIOWrapper):
@@ -114,7 +131,8 @@ def run(main: Callable[[], Optional[int]]) -> None:
     sys.stderr = _standard_error(sys.stderr)
     try:
         _catch_signals()
-        status = main() or 0
+        with own_folder():
+            status = main() or 0
         sys.stdout.flush()
         _ignore_signals()
     except BrokenPipeError:

@@ -5,7 +5,8 @@ import sys
 from pathlib import Path
 from typing import List, Optional
 
-from .command import add_solver_option, add_week_options, check_seconds, number_of_seconds, parser, week_files
+from .command import add_given_option, add_seed_option, add_solver_option, add_week_options, check_seconds, number_of_seconds, parser
+from .command import week_files
 from ..programs.interrupts import interrupts
 from ..programs.progress import Progress
 from ..search.improving import SECONDS, search
@@ -18,10 +19,21 @@ def _options() -> argparse.ArgumentParser:
         "search and keeps the best roster. Improvements are printed on standard error, the report on standard output."
     )
     add_week_options(options)
-    options.add_argument("--sol", metavar="FILE", type=Path, required=True, help="the roster to write; one of this week that is there is the first, so it never gets a worse one")
-    options.add_argument("--from", dest="start", metavar="FILE", type=Path, help="the roster to begin with (default: that of --sol, if it is of this week)")
-    options.add_argument("--time", metavar="SECONDS", type=number_of_seconds, default=SECONDS, help="the most seconds to search (default: %(default).0f)")
-    options.add_argument("--prices", metavar="FILE", type=Path, help="the file for the prices, or the cases, that prove the lower bound, for inrc2pb-bound")
+    add_given_option(options)
+    options.add_argument(
+        "--sol", metavar="FILE", type=Path, required=True,
+        help="the roster to write; one of this week that is there is the first, so it never gets a worse one",
+    )
+    options.add_argument(
+        "--from", dest="start", metavar="FILE", type=Path, help="the roster to begin with (default: that of --sol, if it is of this week)"
+    )
+    options.add_argument(
+        "--time", metavar="SECONDS", type=number_of_seconds, default=SECONDS, help="the most seconds to search (default: %(default).0f)"
+    )
+    options.add_argument(
+        "--prices", metavar="FILE", type=Path, help="the file for the prices, or the cases, that prove the lower bound, for inrc2pb-bound"
+    )
+    add_seed_option(options)
     add_solver_option(options)
     return options
 
@@ -31,7 +43,8 @@ def main(words: Optional[List[str]] = None) -> None:
     given = _options().parse_args(words)
     check_seconds(given.time, "--time")
     with interrupts():
-        outcome = search(week_files(given), given.sol, given.start, given.time, given.solver, given.prices, Progress(sys.stderr))
+        progress = Progress(sys.stderr)
+        outcome = search(week_files(given), given.sol, given.start, given.time, given.solver, given.prices, progress, given.seed)
         print(outcome.report.text, end="")
         print("\n".join(outcome.lines()), flush=True)
         if outcome.fault:

@@ -4,14 +4,14 @@ import argparse
 from pathlib import Path
 from typing import Collection, Iterable, Iterator, List, Optional, Sequence
 
-from ..judging.absences import Absence, TooMany, with_absences
+from ..judging.absences import TooMany, with_requests
 from .command import parser
 from ..week.faults import Misuse
-from ..week.records import DAYS, Cell, Scenario, Solution
+from ..week.records import DAYS, Absence, Cell, Scenario, Solution
 from ..week.files import read_scenario, read_solution, read_week, solution_text, week_text
 from ..week.writing import write_text
 from ..week.hints import quoted
-from ..week.slots import closest
+from ..week.slots import did_you_mean
 from ..week.targets import check_inputs_stay
 
 
@@ -32,8 +32,7 @@ def days_off(nurses: Iterable[str], days: Iterable[int], cells: Iterable[Cell]) 
 def _days(text: str) -> Iterator[int]:
     for word in text.split(","):
         if word not in DAYS:
-            meant = closest(word, DAYS)
-            raise Misuse(f"--keep {text}: '{word}' is no day: " + (f"did you mean {meant}?" if meant else f"give some of {','.join(DAYS)}"))
+            raise Misuse(f"--keep {text}: '{word}' is no day: {did_you_mean(word, DAYS, 'give some of ' + ','.join(DAYS))}")
         yield DAYS.index(word)
 
 
@@ -41,8 +40,8 @@ def _nurses(text: str, known: Iterable[str], source: str) -> List[str]:
     names, nurses = list(known), list(dict.fromkeys(text.split(",")))
     for nurse in nurses:
         if nurse not in names:
-            meant = closest(nurse, names)
-            raise Misuse(f"--nurses {text}: '{nurse}' is no nurse of {source}: " + (f"did you mean {meant}?" if meant else f"it has {quoted(names)}"))
+            advice = did_you_mean(nurse, names, f"it has {quoted(names)}")
+            raise Misuse(f"--nurses {text}: '{nurse}' is no nurse of {source}: {advice}")
     return nurses
 
 
@@ -67,7 +66,9 @@ def _options() -> argparse.ArgumentParser:
 def _week_text(week: Path, scenario: Scenario, nurses: Sequence[str], days: Sequence[int], cells: Sequence[Cell]) -> str:
     """The text of the week's file with absences for days off."""
     try:
-        written = with_absences(scenario, read_week(week, scenario), days_off(nurses or list(scenario.nurses), days or range(len(DAYS)), cells))
+        written = with_requests(
+            scenario, read_week(week, scenario), days_off(nurses or list(scenario.nurses), days or range(len(DAYS)), cells)
+        )
     except TooMany as fault:
         raise Misuse(f"{week}: {fault}: give fewer days or nurses") from fault
     return week_text(written.data)

@@ -15,6 +15,7 @@ MODULES = {
     "inrc2pb-lp": "lp",
     "inrc2pb-next": "next",
     "inrc2pb-period": "period",
+    "inrc2pb-plan": "plan",
     "inrc2pb-simulate": "simulate",
     "inrc2pb-table": "table",
     "inrc2pb-ward": "ward",

@@ -9,7 +9,7 @@ from typing import List, Optional
 
 from .command import parser
 from ..week.writing import replacing
-from ..solvers.mip_solution import STATUSES, read_answer
+from ..solvers.mip_solution import STATUSES, check_size, read_answer
 from ..week.targets import check_inputs_stay
 from ..solvers.linear_program import ModelFault, write_linear_program
 
@@ -27,12 +27,9 @@ def _options() -> argparse.ArgumentParser:
     model.add_argument("opb", metavar="MODEL", nargs="?", type=Path, help="the model that `inrc2pb encode` wrote (default: standard input)")
     model.add_argument("--lp", metavar="FILE", type=Path, help="the LP file to write (default: standard output)")
     answer = commands.add_parser("answer", allow_abbrev=False, help="convert the solver's result file to an answer, for `inrc2pb decode`")
-    answer.add_argument("solution", metavar="RESULT", type=Path, help="the result file of cbc, glpsol (-o), HiGHS, SCIP, Gurobi or toulbar2 (-w)")
-    answer.add_argument(
-        "--status",
-        choices=sorted(STATUSES),
-        help="how the solver ended, if its file does not say (Gurobi, toulbar2; default: stopped); with infeasible the file may be missing",
-    )
+    answer.add_argument("solution", metavar="RESULT", type=Path, help="the result file of cbc, glpsol (-o), HiGHS or Gurobi")
+    says = "how the solver ended, if its file does not say (Gurobi; default: stopped); with infeasible the file may be missing"
+    answer.add_argument("--status", choices=sorted(STATUSES), help=says)
     return options
 
 
@@ -40,8 +37,9 @@ def main(words: Optional[List[str]] = None) -> None:
     """The command `inrc2pb-lp`."""
     given = _options().parse_args(words)
     if given.command == "answer":
-        # toulbar2 writes no file if its propagation finds that there is no solution.
+        # Gurobi writes no file if there is no solution.
         missing = given.status == "infeasible" and not given.solution.exists()
+        check_size(given.solution)
         with open(os.devnull if missing else given.solution, encoding="utf-8", errors="replace") as solution:
             read_answer(solution, given.status).write(sys.stdout)
         return

@@ -9,7 +9,8 @@ from pathlib import Path
 from typing import Dict, Iterable, List, Optional, Sequence
 
 from ..programs.clock import Clock
-from .command import add_solver_option, check_seconds, fixes_by_week, number_of_seconds, parser
+from ..rows.plan import WEEK_DAYS
+from .command import add_given_option, add_seed_option, add_solver_option, check_seconds, fixes_by_week, number_of_seconds, parser
 from ..week.faults import FileFault, Misuse, ProgramFault, fault_line
 from ..week.files import read_solution, write_history
 from ..week.records import Cell
@@ -25,11 +26,11 @@ from ..week.targets import check_inputs_stay, check_no_pipes
 
 
 class Period:
-    """A period that is planned: its reports by week, in order, and the lines about its lower bound. `prices` is the folder for the prices of
-    the bound, if any."""
+    """A period that is planned: its reports by week, in order, and the lines about its lower bound. `prices` is the folder for the prices
+    of the bound, if any; the `seed` begins the random choices of the search."""
 
-    def __init__(self, files: PeriodFiles, folder: Path, prices: Optional[Path] = None) -> None:
-        self.folder, self.prices, self.progress = folder, prices, Progress(sys.stderr)
+    def __init__(self, files: PeriodFiles, folder: Path, prices: Optional[Path] = None, seed: int = 1) -> None:
+        self.folder, self.prices, self.progress, self._seed = folder, prices, Progress(sys.stderr), seed
         check_no_pipes(files.all())
         self.weeks = PlannedWeeks(files)
         self.numbers = self.weeks.numbers
@@ -62,16 +63,31 @@ class Period:
         _say(f"{weeks}, at most {seconds:g} s")
         for hint in self.weeks.hints:
             self.progress.warn(hint)
-        running = PeriodSearch(self.weeks, self._keep, Clock(seconds), self.progress, self.prices)
+        running = PeriodSearch(self.weeks, self._keep, Clock(seconds), self.progress, self.prices, self._earlier(), self._seed)
         with interrupts() as signals:
             try:
                 with signals.calling(running.interrupt):
                     running.run()
+                for warning in running.not_kept():
+                    self.progress.warn(warning)
             finally:
                 for number, week in zip(self.numbers, self._written):
                     self._report(number, week)
                 self.bound_lines = [running.line()]
             self._end(signals)
+
+    def _earlier(self) -> Optional[List[Cell]]:
+        """The plan that the folder has, with days from the first week on; None if it has none of these weeks, or others come after them."""
+        cells: List[Cell] = []
+        for number in () if self.weeks.later() else self.numbers:
+            try:
+                found = read_solution(self.folder / roster_name(number), self.weeks.scenario)
+            except (FileFault, OSError):
+                return None
+            if (found.week, found.scenario) != (number, self.weeks.scenario.name):
+                return None
+            cells += [cell._replace(day=cell.day + WEEK_DAYS * (number - self.numbers[0])) for cell in found.cells]
+        return cells or None
 
     def _keep(self, cells: Sequence[Cell]) -> None:
         """Writes a better plan to the folder."""
@@ -87,7 +103,7 @@ class Period:
                 prices = self.prices / prices_name(number) if self.prices else None
                 _say(f"week {number}, {week.files.week}")
                 try:
-                    outcome = search(week.files, week.roster, None, seconds, solver, prices, Progress(sys.stderr))
+                    outcome = search(week.files, week.roster, None, seconds, solver, prices, Progress(sys.stderr), self._seed)
                 except (FileFault, Misuse, ProgramFault) as fault:
                     raise Misuse(f"week {number}: {fault_line(fault)}") from fault
                 self._report(number, week)
@@ -168,14 +184,24 @@ def _options() -> argparse.ArgumentParser:
     )
     options.add_argument("--sce", metavar="FILE", type=Path, required=True, help="the scenario")
     options.add_argument("--his", metavar="FILE", type=Path, required=True, help="the history with which the first of these weeks begins")
-    options.add_argument("--week", metavar="FILE", type=Path, action="append", required=True, help="a week's file; give one for each week, in order")
+    options.add_argument(
+        "--week", metavar="FILE", type=Path, action="append", required=True, help="a week's file; give one for each week, in order"
+    )
     options.add_argument("--out", metavar="FOLDER", type=Path, required=True, help="the folder for rosters and histories")
-    options.add_argument("--fix", metavar="N=FILE", action="append", default=[], help="the assignments to keep in week N, numbered from 0 as in its history")
+    options.add_argument(
+        "--fix", metavar="N=FILE", action="append", default=[], help="the assignments to keep in week N, numbered from 0 as in its history"
+    )
+    add_given_option(options)
     totals = options.add_mutually_exclusive_group()
     totals.add_argument("--early", action="store_true", help="charge excess assignments and weekends as soon as they occur")
-    totals.add_argument("--ahead", action="store_true", help="plan for the later weeks too: they are not known, and count with the numbers of these weeks")
+    totals.add_argument(
+        "--ahead", action="store_true", help="plan for the later weeks too: they are not known, and count with the numbers of these weeks"
+    )
     options.add_argument("--time", metavar="SECONDS", type=number_of_seconds, default=60, help="seconds for each week (default: 60)")
-    options.add_argument("--prices", metavar="FOLDER", type=Path, help="the folder for the prices that prove the lower bound, for inrc2pb-period-bound")
+    options.add_argument(
+        "--prices", metavar="FOLDER", type=Path, help="the folder for the prices that prove the lower bound, for inrc2pb-period-bound"
+    )
+    add_seed_option(options)
     add_solver_option(options)
     return options
 
@@ -190,7 +216,8 @@ def main() -> Optional[int]:
             raise Misuse("--ahead is a plan of all weeks, and --solver plans one: leave one of them out")
     if given.prices and (given.solver or given.ahead):
         raise Misuse(f"with {'--solver' if given.solver else '--ahead'} there are no prices: leave out --prices")
-    period = Period(PeriodFiles(given.sce, given.his, given.week, fixes_by_week(given.fix), given.early, given.ahead), given.out, given.prices)
+    files = PeriodFiles(given.sce, given.his, given.week, fixes_by_week(given.fix), given.early, given.ahead, given.facts)
+    period = Period(files, given.out, given.prices, given.seed)
     period.name_replaced()
     with interrupts() as signals:
         try:

@@ -8,9 +8,9 @@ import sys
 from pathlib import Path
 from typing import Iterable, Mapping, Optional, Sequence
 
-from ..shown.calendars import write_calendars
+from ..shown.calendars import issue_now, shift_dates, write_calendars
 from ..shown.changes import changed_lines, swapped
-from .command import fixes_by_week, parser
+from .command import add_given_option, fixes_by_week, parser
 from ..week.dates import read_monday, read_times
 from ..week.faults import Misuse
 from ..shown.page import page_text
@@ -36,9 +36,12 @@ def _options() -> argparse.ArgumentParser:
     options.add_argument("--sce", metavar="FILE", type=Path, help="the scenario: nurses and colors have its order")
     options.add_argument("--his", metavar="FILE", type=Path, action="append", default=[], help="the history; needs --sce and --week")
     options.add_argument("--week", metavar="FILE", type=Path, action="append", default=[],
-                       help=f"the week's requirements and requests: a cell that should be free has a {REFUSED}, of a nurse who is away a {AWAY}")  # fmt: skip
+                       help=f"the week's requirements and requests: a cell that should be free has a {REFUSED}, "
+                        f"of a nurse who is away a {AWAY}")  # fmt: skip
     options.add_argument("--fix", metavar="FILE", action="append", default=[],
                        help=f"assignments that are held: their cells have a {HELD}; for several weeks N=FILE for week N")  # fmt: skip
+    add_given_option(options)
+    options.add_argument("--reasons", metavar="FILE", type=Path, help="why nurses are away, as inrc2pb-ward writes it")
     options.add_argument("--early", action="store_true", help="count costs as inrc2pb does with --early")
     options.add_argument("--old", metavar="ROSTER", type=Path, action="append", default=[],
                        help="an older roster, once for each week: what has changed; with --why, what that saves and costs")  # fmt: skip
@@ -93,7 +96,8 @@ def _check_options(given: argparse.Namespace) -> None:
     for name, value in (("--monday", given.monday), ("--times", given.times)):
         if value and not (given.html or given.ics):
             raise Misuse(f"{name} is for --html and --ics: give one of them")
-    inputs = [*given.roster, given.sce, *given.his, *given.week, *given.old, *_fixes(given.fix, len(given.roster)).values()]
+    inputs = [*given.roster, given.sce, *given.his, *given.week, given.facts, given.reasons, *given.old]
+    inputs += [*_fixes(given.fix, len(given.roster)).values()]
     if given.out:
         check_inputs_stay(inputs, given.out, "the table")
     if given.ics and given.ics.is_dir():
@@ -122,7 +126,8 @@ def main() -> Optional[int]:
     given = _options().parse_args()
     _check_options(given)
     monday = read_monday(given.monday, len(given.roster)) if given.monday else None
-    files = RosterFiles(given.roster, given.sce, given.his, given.week, _fixes(given.fix, len(given.roster)), given.early)
+    fixes = _fixes(given.fix, len(given.roster))
+    files = RosterFiles(given.roster, given.sce, given.his, given.week, fixes, given.early, given.facts, given.reasons)
     view = read_view(files)
     old = read_old(files, given.old) if given.old else None
     content = Content(view, old, monday, read_times(given.times, view.shifts), given.only_table)
@@ -137,7 +142,8 @@ def main() -> Optional[int]:
     else:
         text = table_text(view, given, content)
     if monday and given.ics:
-        write_calendars(view, given.ics, monday, content.times)
+        issue = issue_now(shift_dates(content.old, monday)) if content.old else None
+        write_calendars(view, given.ics, monday, content.times, issue)
     if given.out:
         write_text(given.out, text)
     else:

@@ -6,21 +6,25 @@ import re
 from pathlib import Path
 from typing import Dict, Iterator, List, NamedTuple, Optional, Sequence, TextIO, Tuple
 
-from ..judging.absences import NO_SKILL, TooMany, joined, readable, with_absences
+from ..judging.absences import NO_SKILL, TooMany, joined, readable, with_requests
 from .command import parser
-from ..judging.demand import demand_warnings
+from ..judging.demand import demand_warnings, supply_warnings
+from ..judging.given import with_given
+from ..week.facts import Claim, facts_text
 from ..week.faults import FileFault, Misuse
 from ..week.files import history_text, scenario_text, solution_text, week_text
-from ..week.records import History, Scenario, Solution, Week, WeekData
+from ..week.reasons import reasons_text
+from ..week.records import Scenario, Solution, WeekData
 from ..week.writing import replacing
-from ..rows.first_roster import first_cost
 from ..week.hints import quoted
 from ..judging.odd_values import history_warnings, scenario_warnings, week_warnings
-from ..sheets.plan_sheets import AWAY, Days, WeekSheet, check_held, days_away, read_days, read_weeks
+from ..sheets.plan_sheets import AWAY, LEAVE, Days, WeekSheet, check_held, days_away, plan_warnings, read_days, read_weeks
+from ..sheets.sheet_facts import absence_reasons, claims_of
 from ..sheets.sheet_files import Book, read_book
 from ..sheets.sheet_rows import tidy
+from ..week.slots import MAX_NUMBER
 from ..week.targets import check_target
-from ..sheets.ward_sheets import read_ward, skill_warnings
+from ..sheets.ward_sheets import book_warnings, read_ward, skill_warnings, ward_warnings
 from ..sheets.ward_template import write_template
 from ..judging.leave import credit_line, credited, shifts_of_leave
 
@@ -29,19 +33,26 @@ def _options() -> argparse.ArgumentParser:
     options = parser(
         "Writes the files of a ward from a spreadsheet: an .ods or .xlsx file, or a folder of .csv files.",
         "The sheets are shifts, contracts, nurses, needs and plan: --template writes an example with all columns.\n"
-        "The folder gets ward.txt, history-0.txt, and for each week N week-N.txt and fix-N.txt, the shifts that are held.\n"
+        "The folder gets ward.txt, history-0.txt, facts.txt with the absences and the limits that hold (option --given of the other\n"
+        "commands), reasons.txt with the reasons of absences, and for each week N week-N.txt and fix-N.txt, the shifts that are held.\n"
         "Files of these names are replaced. Blanks in names become _.\n"
         "Example: inrc2pb-ward ward.ods --out my_ward --credit leave,training",
     )
     options.add_argument("tables", nargs="?", metavar="FILE", type=Path, help="the spreadsheet, or the folder of .csv files")
     options.add_argument("--out", metavar="FOLDER", type=Path, help="the folder for the files; it is made if there is none")
     options.add_argument("--weeks", metavar="N", type=int, help="the weeks of the period (default: the weeks of the sheet plan)")
-    options.add_argument("--credit", metavar="WORDS", default="", help=f"absences that count as work in history-0.txt, some of {','.join(AWAY)}")
+    options.add_argument(
+        "--credit", metavar="WORDS", default=LEAVE,
+        help=f"absences that count as work in history-0.txt, some of {','.join(AWAY)}, or none (default: %(default)s)",
+    )
+    options.add_argument(
+        "--requests", action="store_true", help="write absences into the weeks' files too, as many equal requests, for other solvers"
+    )
     options.add_argument("--template", metavar="FILE", type=Path, help="write an example spreadsheet to this .ods file")
     return options
 
 
-def _ward_name(path: Path) -> str:
+def ward_name(path: Path) -> str:
     """A name for the ward, from that of the file."""
     return re.sub("[(),= ]", "_", tidy(path.resolve().stem)) or "ward"
 
@@ -55,10 +66,10 @@ def _period(days: Days, weeks: int) -> int:
 
 def _reasons(text: str) -> List[str]:
     """The reasons of absences that count as work."""
-    reasons = text.split(",") if text else []
+    reasons = text.split(",") if text not in ("", "none") else []
     for word in reasons:
         if word not in AWAY:
-            raise Misuse(f"--credit {text}: '{word}' is no reason to be away: give some of {','.join(AWAY)}")
+            raise Misuse(f"--credit {text}: '{word}' is no reason to be away: give some of {','.join(AWAY)}, or none")
     return reasons
 
 
@@ -70,7 +81,7 @@ class WardFiles(NamedTuple):
     credit: Dict[str, Tuple[int, int]]
 
 
-def ward_files(book: Book, name: str, days: Days, weeks: int, reasons: Sequence[str]) -> WardFiles:
+def ward_files(book: Book, name: str, days: Days, weeks: int, reasons: Sequence[str], requests: bool = False) -> WardFiles:
     """The files of a ward with this name and number of weeks. Absences for these reasons count as work."""
     ward = read_ward(book, name, weeks)
     sheets = read_weeks(book, ward, days)
@@ -78,28 +89,36 @@ def ward_files(book: Book, name: str, days: Days, weeks: int, reasons: Sequence[
     credit = dict(days_away(sheets, reasons))
     shifts = shifts_of_leave(ward.scenario, credit)
     history = credited(ward.history, shifts)
-    found = {"ward.txt": scenario_text(ward.scenario), "history-0.txt": history_text(history)}
+    claims = claims_of(ward, history, sheets)
+    if len(claims) > MAX_NUMBER:
+        most = f"and a file {MAX_NUMBER} facts at most: {NO_SKILL}"
+        raise FileFault(book.path, 0, f"sheets nurses and plan: they have {len(claims)} days away, {most}")
+    found = {"ward.txt": scenario_text(ward.scenario), "history-0.txt": history_text(history), "facts.txt": facts_text(name, claims)}
+    found["reasons.txt"] = reasons_text(name, absence_reasons(sheets))
     warnings = [f"sheet shifts, contracts or nurses: {line}" for line in scenario_warnings(ward.scenario)]
     warnings += [f"sheet nurses: {line}" for line in history_warnings(ward.history)]
-    warnings += [f"sheet nurses: {line}" for line in skill_warnings(ward, {place.skill for sheet in sheets for place in sheet.requirements})]
-    for number, sheet in enumerate(sheets):
-        data = _week(book, ward.scenario, sheet, number, None if number else history)
-        found[f"week-{number}.txt"] = week_text(data)
+    asked = {place.skill for sheet in sheets for place in sheet.requirements}
+    warnings += [f"sheet nurses: {line}" for line in skill_warnings(ward, asked)]
+    warnings += [*book_warnings(book), *ward_warnings(ward), *(f"sheet plan: {line}" for line in plan_warnings(days, ward.scenario))]
+    datas = [_week(ward.scenario, sheet, claims, number) for number, sheet in enumerate(sheets)]
+    for number, (sheet, data) in enumerate(zip(sheets, datas)):
+        found[f"week-{number}.txt"] = week_text(_with_requests(book, ward.scenario, data, number) if requests else data)
         found[f"fix-{number}.txt"] = solution_text(Solution(number, name, tuple(held.row for held in sheet.held)))
         odd = (*week_warnings(ward.scenario, data), *demand_warnings(ward.scenario, None if number else history, data))
         warnings += [f"sheet needs, week {number}: {line}" for line in odd]
+    warnings += [f"sheet needs: {line}" for line in supply_warnings(ward.scenario, history, datas)]
     return WardFiles(found, warnings, {nurse: (days, shifts[nurse]) for nurse, days in credit.items()})
 
 
-def _week(book: Book, scenario: Scenario, sheet: WeekSheet, number: int, history: Optional[History]) -> WeekData:
-    """The data of a week with its absences. If its history is known, fewer requests are certain."""
-    data = WeekData(scenario.name, sheet.requirements, tuple(sheet.wishes))
-    known = None
+def _week(scenario: Scenario, sheet: WeekSheet, claims: Sequence[Claim], number: int) -> WeekData:
+    """The data of a week, with its absences and limits."""
+    return with_given(scenario, WeekData(scenario.name, sheet.requirements, tuple(sheet.wishes)), claims, number)
+
+
+def _with_requests(book: Book, scenario: Scenario, data: WeekData, number: int) -> WeekData:
+    """The data of a week with its absences as requests."""
     try:
-        if history and sheet.absences:
-            week = Week(scenario, history, with_absences(scenario, data, sheet.absences, 0).data)
-            known = first_cost(week, [held.row for held in sheet.held])
-        return with_absences(scenario, data, sheet.absences, known).data
+        return with_requests(scenario, data, ()).data
     except TooMany as fault:
         raise FileFault(book.path, 0, f"sheet plan, week {number}: {fault}: {NO_SKILL}") from fault
 
@@ -115,7 +134,8 @@ def _old_histories(folder: Path, first: str, weeks: int) -> Iterator[str]:
     changed = [nurse for nurse, row in _nurse_rows(first).items() if before.get(nurse, row) != row]
     if changed:
         them = "it" if len(later) == 1 else "them"
-        yield f"history-0.txt has new numbers of {quoted(changed)}, and {joined(later)} the old ones: make {them} again with inrc2pb-next or inrc2pb-period"
+        advice = f"make {them} again with inrc2pb-next or inrc2pb-period"
+        yield f"history-0.txt has new numbers of {quoted(changed)}, and {joined(later)} the old ones: {advice}"
 
 
 def _nurse_rows(history: str) -> Dict[str, List[str]]:
@@ -148,7 +168,7 @@ def main() -> int:
     book = read_book(given.tables)
     days = read_days(book)
     weeks = _period(days, days.weeks if given.weeks is None else given.weeks)
-    files = ward_files(book, _ward_name(given.tables), days, weeks, reasons)
+    files = ward_files(book, ward_name(given.tables), days, weeks, reasons, given.requests)
     old = list(_old_histories(given.out, files.texts["history-0.txt"], weeks))
     _write(given.out, files.texts)
     for line in files.warnings:

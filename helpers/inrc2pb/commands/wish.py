@@ -5,14 +5,13 @@ from dataclasses import replace
 from pathlib import Path
 from typing import Dict, Iterable, List, Optional, Sequence
 
-from ..judging.absences import NO_SKILL, Absence, TooMany, Written, absences_of, with_absences, working_while_away
+from ..judging.absences import NO_SKILL, TooMany, Written, absences_of, with_requests, working_while_away
 from .command import parser
 from ..week.faults import Misuse
 from ..judging.leave import credit_line, credited, shifts_of_leave
 from ..week.files import check_week_number, check_weeks_left, history_text, read_history, read_scenario, read_week, week_text
-from ..week.records import DAYS, Cell, Request, Scenario, Week, WeekData
+from ..week.records import DAYS, Absence, Cell, Request, Scenario, WeekData
 from ..week.writing import write_text
-from ..rows.first_roster import first_cost
 from ..week.hints import plural
 from ..judging.misfits import read_held
 from ..judging.rules import REQUEST
@@ -24,42 +23,47 @@ from .wishes import Dated, Wording, of_week
 def _options() -> argparse.ArgumentParser:
     options = parser(
         "Writes absences and wishes into a copy of a week's file.",
-        "An absence is kept like a hard rule by inrc2pb-improve and inrc2pb-period. It is written as so many requests that a roster that\n"
-        "breaks one costs more than any other. With --his, and --fix if shifts are held, fewer requests suffice.\n"
+        "An absence is kept like a hard rule by inrc2pb-improve and inrc2pb-period. It is written as many equal requests, so that other\n"
+        "solvers keep it too.\n"
         "DAYS are Mon,Tue or dates such as 2026-12-04 or 2026-12-04..2026-12-10, which need --monday. Without days all are meant.\n"
         "Example: inrc2pb-wish --sce ward.txt --week week-0.txt --away Chen=Fri,Sat,Sun --never Ewa=Night --out week-0-ill.txt\n"
         "With several weeks --out is a folder, and the files keep their names.",
     )
     options.add_argument("--sce", metavar="FILE", type=Path, required=True, help="the scenario")
     options.add_argument("--his", metavar="FILE", type=Path, help="the history with which the first of these weeks begins")
-    options.add_argument("--week", metavar="FILE", type=Path, action="append", required=True, help="a week's file; give one for each week, in order")
+    options.add_argument(
+        "--week", metavar="FILE", type=Path, action="append", required=True, help="a week's file; give one for each week, in order"
+    )
     options.add_argument("--away", metavar="NURSE[=DAYS]", action="append", default=[], help="she is away on these days")
     options.add_argument("--never", metavar="NURSE=SHIFT", action="append", default=[], help="she never works this shift type")
-    options.add_argument("--wish", metavar="NURSE=DAYS[:SHIFT]", action="append", default=[], help="she would rather not work then; adds one request")
+    options.add_argument(
+        "--wish", metavar="NURSE=DAYS[:SHIFT]", action="append", default=[], help="she would rather not work then; adds one request"
+    )
     options.add_argument("--monday", metavar="DATE", help="the date of the first week's Monday")
-    options.add_argument("--credit", metavar="FILE", type=Path, help="count the days of --away as work: write the history of --his to this file, with these shifts")
+    options.add_argument(
+        "--credit", metavar="FILE", type=Path,
+        help="count the days of --away as work: write the history of --his to this file, with these shifts",
+    )
     options.add_argument("--fix", metavar="FILE", type=Path, help="the assignments that are held in the first of these weeks; needs --his")
     options.add_argument("--out", metavar="FILE", type=Path, required=True, help="the file to write; a folder if several weeks are given")
     return options
 
 
-def _known_cost(week: Week, added: Sequence[Absence], held: Sequence[Cell]) -> Optional[int]:
-    """The cost of a roster that keeps these absences, those of the week, and the held rows; None if none is found."""
-    for row in working_while_away({*absences_of(week.data), *added}, held):
+def _check_held(scenario: Scenario, away: Iterable[Absence], data: WeekData, held: Sequence[Cell]) -> None:
+    """No held row may break these absences, nor those of the week."""
+    for row in working_while_away({*absences_of(data), *away}, held):
         without = f"inrc2pb-keep --nurses {row.nurse} --keep {DAYS[row.day]} --others FILE"
-        raise Misuse(f"{row.nurse} is away on {DAYS[row.day]}, and --fix holds {row.shift}: leave out one of the two; {without} leaves out the shift")
-    return first_cost(replace(week, data=with_absences(week.scenario, week.data, added, 0).data), held)
+        raise Misuse(
+            f"{row.nurse} is away on {DAYS[row.day]}, and --fix holds {row.shift}: leave out one of the two; {without} leaves out the shift"
+        )
 
 
-def _written(
-    scenario: Scenario, path: Path, data: WeekData, away: Sequence[Absence], week: Optional[Week], held: Sequence[Cell]
-) -> Written:
-    """The data of a week's file with these absences; the whole week makes fewer requests certain."""
+def _written(scenario: Scenario, path: Path, data: WeekData, away: Sequence[Absence]) -> Written:
+    """The data of a week's file with these absences."""
     if len(data.requests) > MAX_NUMBER:
         raise Misuse(f"{path} would have {len(data.requests)} requests, more than {MAX_NUMBER}: give fewer wishes")
     try:
-        known = _known_cost(week, away, held) if week and (away or absences_of(data)) else None
-        return with_absences(scenario, data, away, known)
+        return with_requests(scenario, data, away)
     except TooMany as fault:
         raise Misuse(f"{path}: {fault}: {NO_SKILL}") from fault
 
@@ -118,11 +122,11 @@ def main() -> Optional[int]:
     shifts = shifts_of_leave(scenario, days)
     history = credited(history, shifts) if history else None
     held = read_held(given.fix, scenario, history, lambda hint: print(f"{given.fix}: warning: {hint}")).cells if given.fix else ()
+    _check_held(scenario, of_week([*away, *never], 0), data[0], held)
     results = []
     for number, (path, one) in enumerate(zip(given.week, data)):
         requests = (*one.requests, *(Request(dated.nurse, dated.shift, dated.day) for dated in of_week(wishes, number)))
-        week = Week(scenario, history, replace(one, requests=requests)) if history and not number else None
-        results.append(_written(scenario, path, replace(one, requests=requests), of_week([*away, *never], number), week, held))
+        results.append(_written(scenario, path, replace(one, requests=requests), of_week([*away, *never], number)))
     for target, result in zip(_targets(given), results):
         write_text(target, week_text(result.data))
         print(f"{target}: {_summary(result)}")
@@ -138,5 +142,4 @@ def _summary(result: Written) -> str:
     count = len(absences_of(result.data))
     if not count:
         return "no absences"
-    said = f"{plural(count, 'absence')} with {result.requests} requests each: to break one costs {REQUEST * result.requests} points"
-    return f"{said}, more than that can save" if result.requests >= result.certain else said
+    return f"{plural(count, 'absence')} with {result.requests} requests each: to break one costs {REQUEST * result.requests} points"

@@ -4,12 +4,11 @@ import datetime
 import re
 from typing import Collection, Iterator, List, NamedTuple, NoReturn, Optional, Sequence, Tuple
 
-from ..judging.absences import Absence
 from ..week.dates import read_monday
 from ..week.faults import Misuse
 from ..week.hints import quoted
-from ..week.records import DAYS, Scenario
-from ..week.slots import closest
+from ..week.records import DAYS, Absence, Scenario
+from ..week.slots import did_you_mean
 
 _DATE = re.compile(r"[0-9]{4}-[0-9]{2}-[0-9]{2}")
 
@@ -22,8 +21,8 @@ class Dated(NamedTuple):
 
 
 class Wording:
-    """The names of a ward, the number of weeks, and the date of the first Monday, if it is given. `warnings` tells of dates that are in none
-    of these weeks."""
+    """The names of a ward, the number of weeks, and the date of the first Monday, if it is given. `warnings` tells of dates that are in
+    none of these weeks."""
 
     def __init__(self, scenario: Scenario, weeks: int, monday: Optional[str]) -> None:
         self.scenario = scenario
@@ -51,7 +50,9 @@ class Wording:
         nurse, rest = self._nurse("--wish", text)
         days, _, shift = rest.partition(":")
         if not days:
-            raise Misuse(f"--wish {text}: give the nurse and the days, such as {nurse}=Sat or {nurse}=Sat:{next(iter(self.scenario.shift_types))}")
+            raise Misuse(
+                f"--wish {text}: give the nurse and the days, such as {nurse}=Sat or {nurse}=Sat:{next(iter(self.scenario.shift_types))}"
+            )
         known = self._shift("--wish", text, shift) if shift else None
         for week, day in self._days("--wish", text, days):
             yield Dated(week, Absence(nurse, day, known))
@@ -94,7 +95,8 @@ class Wording:
         asked = (end - begin).days + 1
         if len(days) < asked:
             outside = asked - len(days)
-            self.warnings.append(f"{where}: {outside} of these {asked} days {'is' if outside == 1 else 'are'} {weeks}: write them into the files of other weeks too")
+            are = "is" if outside == 1 else "are"
+            self.warnings.append(f"{where}: {outside} of these {asked} days {are} {weeks}: write them into the files of other weeks too")
         yield from (divmod(day, len(DAYS)) for day in days)
 
 
@@ -106,8 +108,7 @@ def _date(where: str, text: str) -> datetime.date:
 
 
 def _unknown(where: str, word: str, kind: str, names: Collection[str]) -> NoReturn:
-    meant = closest(word, names)
-    raise Misuse(f"{where}: '{word}' is no {kind}: " + (f"did you mean {meant}?" if meant else f"give some of {quoted(names)}"))
+    raise Misuse(f"{where}: '{word}' is no {kind}: {did_you_mean(word, names, f'give some of {quoted(names)}')}")
 
 
 def of_week(found: Sequence[Dated], week: int) -> List[Absence]:

@@ -1,36 +1,26 @@
 """Absences: nurses who are away on a day, or never work a shift type on it.
 
-A week's file has no section for them, so they are written as many equal requests: one that is there `MARK` times or more is an
-absence, and each helper keeps it as if it were a hard rule. `with_absences` writes more of them: so many that a roster in which one is
-broken costs more than any roster that keeps them all. `savings` has the reason.
+They are facts that plans keep. For solvers that know only a week's file they are also written as many equal requests: one that is there
+`MARK` times or more is an absence too, and each helper keeps it.
 """
 
 import collections
 from dataclasses import replace
-from typing import Collection, Dict, FrozenSet, Iterable, List, NamedTuple, Optional, Tuple
+from typing import Collection, Dict, FrozenSet, Iterable, List, NamedTuple, Tuple
 
 from ..week.hints import plural
-from ..week.records import DAYS, Cell, Request, Scenario, WeekData
-from .rules import REQUEST
-from .savings import largest_saving
+from ..week.records import DAYS, Absence, Cell, Request, Scenario, WeekData
 from ..week.slots import MAX_NUMBER
 
-# Nobody wishes a day off thirty times. The rows of a file that absences leave are for wishes.
-MARK, ROWS = 30, 9000
-
-
-class Absence(NamedTuple):
-    """A day on which a nurse may not work this shift type; None: any."""
-
-    nurse: str
-    day: int
-    shift: Optional[str]
+# Nobody wishes a day off thirty times. A broken absence with the most requests costs more than most rosters. The rows of a file that
+# absences leave are for wishes.
+MARK, MOST_REQUESTS, ROWS = 30, 200, 9000
 
 
 def absences_of(data: WeekData) -> FrozenSet[Absence]:
-    """The absences of a week's file."""
+    """The absences of a week: those of the facts, and those that its file has as requests."""
     number = collections.Counter(map(_asked, data.requests))
-    return frozenset(absence for absence, times in number.items() if times >= MARK)
+    return data.absences | frozenset(absence for absence, times in number.items() if times >= MARK)
 
 
 def wishes_of(data: WeekData) -> Tuple[Request, ...]:
@@ -58,7 +48,9 @@ def in_words(cells: Iterable[Cell]) -> str:
     days: Dict[Tuple[str, str], List[int]] = {}
     for cell in cells:
         days.setdefault((cell.nurse, cell.shift), []).append(cell.day)
-    return ", ".join(f"{readable(nurse)} works {readable(shift)} on {joined(DAYS[day] for day in sorted(on))}" for (nurse, shift), on in days.items())
+    return ", ".join(
+        f"{readable(nurse)} works {readable(shift)} on {joined(DAYS[day] for day in sorted(on))}" for (nurse, shift), on in days.items()
+    )
 
 
 def way_out(scenario: Scenario, held: Iterable[Cell], broken: Collection[Cell]) -> str:
@@ -85,15 +77,14 @@ def joined(words: Iterable[str]) -> str:
     return f"{', '.join(first)} and {last}" if first else last
 
 
-# ---- writing
+# ---- requests for other solvers
 
 
 class Written(NamedTuple):
-    """A week's data with absences, the requests that each of them has, and the requests with which none can be worth breaking."""
+    """A week's data with absences as requests, and the requests that each of them has."""
 
     data: WeekData
     requests: int
-    certain: int
 
 
 class TooMany(Exception):
@@ -104,26 +95,15 @@ class TooMany(Exception):
 NO_SKILL = "give someone who is away for the whole week no skill, in a copy of the ward"
 
 
-def with_absences(scenario: Scenario, data: WeekData, added: Iterable[Absence], known_cost: Optional[int] = None) -> Written:
-    """The week with these absences too: all of them have the same number of requests.
-
-    `known_cost` is the cost of a roster that keeps them all, if one is known: then fewer requests may be certain.
-    """
+def with_requests(scenario: Scenario, data: WeekData, added: Iterable[Absence]) -> Written:
+    """The week with these absences as requests too: all of them have the same number of requests."""
     away = sorted({*absences_of(data), *added}, key=lambda one: (list(scenario.nurses).index(one.nurse), one.day, one.shift or ""))
     wishes = [request for request in wishes_of(data) if _asked(request) not in away]
-    certain = max(MARK, number_of_requests(scenario, replace(data, requests=tuple(wishes)), known_cost))
-    room = min(ROWS, MAX_NUMBER - len(wishes)) // max(1, len(away))
-    if room < MARK:
+    times = min(MOST_REQUESTS, min(ROWS, MAX_NUMBER - len(wishes)) // max(1, len(away)))
+    if times < MARK:
         raise TooMany(
             f"{plural(len(away), 'absence')} with {MARK} requests each and {plural(len(wishes), 'other request')} need more than the "
             f"{MAX_NUMBER} requests of a week's file"
         )
-    times = min(certain, room)
     rows = [Request(one.nurse, one.shift, one.day) for one in away for _ in range(times)]
-    return Written(replace(data, requests=(*wishes, *rows)), times, certain)
-
-
-def number_of_requests(scenario: Scenario, data: WeekData, known_cost: Optional[int]) -> int:
-    """The requests whose cost is above that of the costliest change, and above this cost, whichever is less."""
-    saving = largest_saving(scenario, data)
-    return (saving if known_cost is None else min(saving, known_cost)) // REQUEST + 1
+    return Written(replace(data, requests=(*wishes, *rows)), times)

@@ -2,9 +2,11 @@
 
 from typing import Collection, Dict, Iterator, List, Optional, Sequence, Tuple
 
-from .absences import Absence, absences_of, joined
+from .absences import absences_of, joined
 from .odd_values import IMPOSSIBLE
-from ..week.records import DAYS, Cell, History, Place, Scenario, WeekData
+from ..week.facts import SHIFTS
+from .rules import ASSIGNMENT_TOTAL, MISSING_NURSE
+from ..week.records import DAYS, Absence, Cell, History, Place, Scenario, WeekData
 
 _KEEPING = "no roster can meet it and keep every absence"
 
@@ -20,7 +22,8 @@ def demand_warnings(scenario: Scenario, history: Optional[History], data: WeekDa
         yield f"{joined(days)}: {text}"
     asked, supplied = asked_shifts(data), supplied_shifts(scenario, history)
     if asked[0] > supplied[1]:
-        yield f"it asks for at least {asked[0]} shifts, and the contracts supply at most {supplied[1]} a week: if all weeks ask for so many, each shift above costs points"
+        supply = f"it asks for at least {asked[0]} shifts, and the contracts supply at most {supplied[1]} a week"
+        yield f"{supply}: if all weeks ask for so many, each shift above costs points"
 
 
 def asked_shifts(data: WeekData) -> Tuple[int, int]:
@@ -40,6 +43,26 @@ def supplied_shifts(scenario: Scenario, history: Optional[History]) -> Tuple[int
     return minimum // left, -(-most // left)
 
 
+def supply_warnings(scenario: Scenario, history: History, weeks: Sequence[WeekData]) -> Iterator[str]:
+    """A warning if the best numbers of the weeks to the end of the period ask for more shifts than contracts supply beside absences."""
+    if history.week + len(weeks) != scenario.weeks:
+        return
+    whole_days = [(number, absence) for number, data in enumerate(weeks) for absence in absences_of(data) if absence.shift is None]
+    supplied, days = 0, len(DAYS) * len(weeks)
+    for nurse in scenario.nurses:
+        there = days - len({(number, absence.day) for number, absence in whole_days if absence.nurse == nurse})
+        supplied += max(0, min(scenario.contract_of(nurse).assignments.maximum - history.nurses[nurse].assignments, there))
+    least, best = (sum(numbers) for numbers in zip(*map(asked_shifts, weeks)))
+    if best > supplied:
+        hold = {limit.nurse for data in weeks for limit in data.limits if limit.kind == SHIFTS}
+        costs = f"each shift above costs {ASSIGNMENT_TOTAL} points, and a nurse below a best number {MISSING_NURSE}: lower best numbers"
+        if hold.issuperset(scenario.nurses):
+            costs = f"{best - supplied} will be missing, for {MISSING_NURSE} points each: lower best numbers"
+            costs = f"{least - supplied} too many to keep the limits that hold: lower minimum numbers" if least > supplied else costs
+        supply = f"and the contracts supply at most {supplied} beside absences"
+        yield f"the best numbers ask for {best} shifts, the minimum numbers for {least}, {supply}: {costs}"
+
+
 def can_work(scenario: Scenario, history: Optional[History], away: Collection[Absence], nurse: str, place: Place) -> bool:
     """Whether the nurse has the skill, is not away, and may have the shift on Monday after her last one."""
     last = history.nurses[nurse].last_shift if history and place.day == 0 else None
@@ -50,7 +73,9 @@ def can_work(scenario: Scenario, history: Optional[History], away: Collection[Ab
 
 def _shortage(scenario: Scenario, history: Optional[History], data: WeekData, day: int, away: Collection[Absence]) -> str:
     """The places of a day that need more nurses at once than could fill them, if there are any."""
-    places = [place for place, asked in data.requirements.items() if place.day == day for _ in range(min(asked.minimum, len(scenario.nurses) + 1))]
+    places = [
+        place for place, asked in data.requirements.items() if place.day == day for _ in range(min(asked.minimum, len(scenario.nurses) + 1))
+    ]
     could = {place: [nurse for nurse in scenario.nurses if can_work(scenario, history, away, nurse, place)] for place in set(places)}
     filled: Dict[str, int] = {}
     for slot in range(len(places)):

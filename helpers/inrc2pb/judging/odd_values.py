@@ -1,6 +1,6 @@
 """Warnings of values that are allowed in the files of a week, but are probably mistakes."""
 
-from typing import Dict, Iterator, List, Tuple
+from typing import Dict, Iterator, List, Optional, Tuple
 
 from ..week.records import DAYS, Contract, History, Limits, NurseHistory, Requirement, Scenario, WeekData
 from ..week.hints import plural
@@ -18,7 +18,9 @@ def scenario_warnings(scenario: Scenario) -> Iterator[str]:
     for shift in scenario.shift_types.values():
         yield from _reversed_limits(f"shift type {shift.name}", shift.consecutive)
     for contract in scenario.contracts.values():
-        for what, limits in (("assignments", contract.assignments), ("working days", contract.working_days), ("days off", contract.days_off)):
+        for what, limits in (
+            ("assignments", contract.assignments), ("working days", contract.working_days), ("days off", contract.days_off),
+        ):
             yield from _reversed_limits(f"contract {contract.name}, {what}", limits)
         yield from _too_many_assignments(contract, scenario.weeks)
     for nurse in scenario.nurses.values():
@@ -44,11 +46,11 @@ def _too_many_assignments(contract: Contract, weeks: int) -> Iterator[str]:
         yield f"contract {contract.name}: at least {minimum} assignments are asked for, and {days} days have {most} {in_a_row}"
 
 
-def history_warnings(history: History) -> Iterator[str]:
-    """Warnings of a history."""
+def history_warnings(history: History, scenario: Optional[Scenario] = None) -> Iterator[str]:
+    """Warnings of a history. With the scenario a nurse may have her contract's minimum of assignments as leave."""
     for past in history.nurses.values():
         yield from _last_days(past)
-        yield from _totals(past, history.week)
+        yield from _totals(past, history.week, scenario.contract_of(past.nurse).assignments.minimum if scenario else 0)
 
 
 def _last_days(past: NurseHistory) -> Iterator[str]:
@@ -63,13 +65,14 @@ def _last_days(past: NurseHistory) -> Iterator[str]:
     if past.consecutive_shifts == 0:
         yield f"{worked}, but has 0 days in a row on this shift type"
     elif past.consecutive_shifts > past.working_days:
-        yield f"{past.nurse} has {plural(past.consecutive_shifts, 'day')} in a row on {past.last_shift}, and only {past.working_days} with work"
+        on_shift = f"{plural(past.consecutive_shifts, 'day')} in a row on {past.last_shift}"
+        yield f"{past.nurse} has {on_shift}, and only {past.working_days} with work"
 
 
-def _totals(past: NurseHistory, week: int) -> Iterator[str]:
-    """Warnings of totals that the weeks before this one cannot have, or that contradict the days in a row."""
+def _totals(past: NurseHistory, week: int, leave: int) -> Iterator[str]:
+    """Warnings of totals that the weeks before this one and so many shifts of leave cannot have, or that contradict the days in a row."""
     over = f"{plural(week, 'week')} of the period {'is' if week == 1 else 'are'} over"
-    if past.assignments > 7 * week:
+    if past.assignments > 7 * week + leave:
         yield f"{past.nurse} has {plural(past.assignments, 'assignment')}, and {over} (leave with credit?)"
     if past.weekends > week:
         yield f"{past.nurse} has {plural(past.weekends, 'weekend')}, and {over}"

@@ -38,10 +38,16 @@ def ended(run: int, limits: Limits, weight: int) -> int:
 
 
 class Runs:
-    """What a day adds to the runs of nurses with one contract. Without `charging` only the shift types that may not follow count."""
+    """What a day adds to the runs of nurses with one contract. Without `charging` only the shift types that may not follow count.
 
-    def __init__(self, types: Sequence[ShiftType], contract: Contract, days: int, charging: bool = True) -> None:
-        self.days, self.charging, self.contract = days, charging, contract
+    `shift_run` is the weight of a charge of a run of a shift type, and `above` what a day of work above the maximum in a row costs more, in
+    points; NEVER forbids it.
+    """
+
+    def __init__(
+        self, types: Sequence[ShiftType], contract: Contract, days: int, charging: bool = True, shift_run: int = SHIFT_RUN, above: int = 0
+    ) -> None:
+        self.days, self.charging, self.contract, self._shift_run, self._above = days, charging, contract, shift_run, above
         self._known: Dict[Tuple[int, RunState], List[Step]] = {}
         self.shifts = [Limits(0, 0), *(kind.consecutive for kind in types)]
         self.numbers = {kind.name: number for number, kind in enumerate(types, 1)}
@@ -76,15 +82,17 @@ class Runs:
     def _steps(self, day: int, now: RunState) -> List[Step]:
         work, off, left = self.contract.working_days, self.contract.days_off, self.days - day - 1
         half = HALF_WEEKEND * (day % len(DAYS) == SUNDAY and self.contract.complete_weekends)
-        closed = ended(now.shift_run, self.shifts[now.choice], SHIFT_RUN)
+        closed = ended(now.shift_run, self.shifts[now.choice], self._shift_run)
         rest = closed + ended(now.work_run, work, WORK_RUN) + DAYS_OFF_RUN * (now.off_run + 1 > off.maximum) + half * (now.choice > 0)
         found = [(rest, self.state(0, 0, 0, now.off_run + 1, left))]
-        works = ended(now.off_run, off, DAYS_OFF_RUN) + WORK_RUN * (now.work_run + 1 > work.maximum) + half * (now.choice == 0)
+        above = now.work_run + 1 > work.maximum
+        works = ended(now.off_run, off, DAYS_OFF_RUN) + (WORK_RUN + self._above) * above + half * (now.choice == 0)
         run, forbidden = shortened(now.work_run + 1, work, left), self.forbidden[now.choice]
         for choice, limits in enumerate(self.shifts[1:], 1):
-            if choice in forbidden:
+            if choice in forbidden or works >= NEVER:
                 found.append((NEVER, now))
             else:
                 length, cost = (now.shift_run + 1, works) if choice == now.choice else (1, works + closed)
-                found.append((cost + SHIFT_RUN * (length > limits.maximum), RunState(choice, shortened(length, limits, left), run, 0)))
+                cost += self._shift_run * (length > limits.maximum)
+                found.append((cost, RunState(choice, shortened(length, limits, left), run, 0)))
         return found

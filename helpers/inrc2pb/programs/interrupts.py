@@ -26,11 +26,15 @@ class Interrupts:
         finally:
             self._action = before
 
+    def ask(self) -> None:
+        """Asks what runs now to end, as a signal does."""
+        if self._action:
+            threading.Thread(target=self._action, daemon=True).start()
+
     def take(self, number: int, _frame: object = None) -> None:
         """A signal has come. The action may need a lock that the interrupted thread holds, so it runs in another."""
         self.caught.append(number)
-        if self._action:
-            threading.Thread(target=self._action, daemon=True).start()
+        self.ask()
 
 
 _installed: List[Interrupts] = []

@@ -22,7 +22,9 @@ LAST_BYTES = 200
 PIECE = 1 << 16
 # Seconds that a process has to end after its output did, and between two looks whether it has.
 EXIT_SECONDS, EXIT_PAUSE = 0.5, 0.005
-# The most seconds of one wait for output: the system limits them.
+# The seconds of one wait for output. What a process printed before it ended is there after one more.
+PAUSE = 0.1
+# The most seconds of one wait: the system limits them.
 MAX_WAIT = 3600.0
 # The statuses with which `setpriv` reports that a command does not run.
 NOT_RUN = (126, 127)
@@ -84,7 +86,8 @@ class Processes:
             if self._stopped:
                 return Ended(-signal.SIGKILL, "", True)
             process = subprocess.Popen(
-                list(words), cwd=str(folder), stdin=subprocess.DEVNULL, stdout=subprocess.PIPE, stderr=subprocess.PIPE, start_new_session=True
+                list(words), cwd=str(folder), stdin=subprocess.DEVNULL, stdout=subprocess.PIPE, stderr=subprocess.PIPE,
+                start_new_session=True,
             )
             self._running[process] = ending
         try:
@@ -106,7 +109,8 @@ class Processes:
         when this process does."""
         with self._lock:
             process = subprocess.Popen(
-                list(words), cwd=str(folder), stdin=subprocess.PIPE, stdout=subprocess.PIPE, stderr=subprocess.DEVNULL, start_new_session=True
+                list(words), cwd=str(folder), stdin=subprocess.PIPE, stdout=subprocess.PIPE, stderr=subprocess.DEVNULL,
+                start_new_session=True,
             )
             self._running[process] = signal.SIGKILL
             if self._stopped:
@@ -166,7 +170,9 @@ def _ending_with_this() -> Tuple[str, ...]:
     """The words before a command that is to be killed when this process is; none if the system has no such `setpriv`."""
     words = ("setpriv", "--pdeathsig", "KILL")
     try:
-        subprocess.run([*words, "true"], stdin=subprocess.DEVNULL, stdout=subprocess.DEVNULL, stderr=subprocess.DEVNULL, check=True, timeout=MAX_WAIT)
+        subprocess.run(
+            [*words, "true"], stdin=subprocess.DEVNULL, stdout=subprocess.DEVNULL, stderr=subprocess.DEVNULL, check=True, timeout=MAX_WAIT
+        )
     except (OSError, subprocess.SubprocessError):
         return ()
     return words
@@ -175,8 +181,12 @@ def _ending_with_this() -> Tuple[str, ...]:
 def _wait_without_reaping(process: "subprocess.Popen[bytes]", seconds: float) -> None:
     """Waits until the process has ended, for at most these seconds. Its number stays its own, so its group can be ended."""
     limit = time.monotonic() + seconds
-    while os.waitid(os.P_PID, process.pid, os.WEXITED | os.WNOHANG | os.WNOWAIT) is None and time.monotonic() < limit:
+    while not _has_ended(process) and time.monotonic() < limit:
         time.sleep(EXIT_PAUSE)
+
+
+def _has_ended(process: "subprocess.Popen[bytes]") -> bool:
+    return os.waitid(os.P_PID, process.pid, os.WEXITED | os.WNOHANG | os.WNOWAIT) is not None
 
 
 def _signal_group(process: "subprocess.Popen[bytes]", number: int) -> None:
@@ -200,7 +210,7 @@ class _Output(NamedTuple):
 
 def _output_of(process: "subprocess.Popen[bytes]", seconds: float, ending: int, hear: Optional[Callable[[bytes], None]]) -> _Output:
     """The output until its end, with the last bytes of standard error; at the limit the process is asked to end, and after the
-    grace it is killed."""
+    grace it is killed. A child that the process has left behind, and that keeps its output open, is not waited for."""
     assert process.stdout is not None and process.stderr is not None
     parts: List[bytes] = []
     size, errors, timed_out = 0, b"", False
@@ -209,7 +219,10 @@ def _output_of(process: "subprocess.Popen[bytes]", seconds: float, ending: int, 
         streams.register(process.stdout, selectors.EVENT_READ)
         streams.register(process.stderr, selectors.EVENT_READ)
         while True:
-            ready = [key.fileobj for key, _ in streams.select(min(MAX_WAIT, max(0.0, limit - time.monotonic())))]
+            is_over = _has_ended(process)
+            ready = [key.fileobj for key, _ in streams.select(min(PAUSE, max(0.0, limit - time.monotonic())))]
+            if is_over and not ready:
+                return _Output(b"".join(parts), errors, timed_out)
             if process.stderr in ready:
                 data = os.read(process.stderr.fileno(), PIECE)
                 errors = (errors + data)[-LAST_BYTES:]

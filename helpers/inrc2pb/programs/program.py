@@ -27,13 +27,14 @@ class NotInTime(ProgramFault):
 
 @dataclass(frozen=True)
 class WeekFiles:
-    """The files of a week, and the options that each command needs alike."""
+    """The files of a week, and the options that each command needs alike. `given` has the facts that the search keeps."""
 
     scenario: Path
     history: Path
     week: Path
     fix: Optional[Path] = None
     early: bool = False
+    given: Optional[Path] = None
 
     def options(self) -> List[str]:
         """The files as options of `inrc2pb`."""
@@ -80,7 +81,9 @@ def find_program() -> Path:
 def _is_inrc2pb(program: str) -> bool:
     """Whether the program prints the version of `inrc2pb`. One that does not run, or that a signal ends, is judged when it is used."""
     try:
-        ran = subprocess.run([program, "--version"], stdin=subprocess.DEVNULL, stdout=subprocess.PIPE, stderr=subprocess.DEVNULL, timeout=LONGEST_RUN)
+        ran = subprocess.run(
+            [program, "--version"], stdin=subprocess.DEVNULL, stdout=subprocess.PIPE, stderr=subprocess.DEVNULL, timeout=LONGEST_RUN
+        )
     except (OSError, subprocess.TimeoutExpired):
         return True
     return ran.returncode < 0 or ran.stdout.startswith(b"inrc2pb ")

@@ -103,14 +103,13 @@ class CaseSearch(RowGeneration):
         super().__init__(pricing_of(case, begin.pricing), solver, lambda: None)
         self.case, self._target = case, target
         self.prices = begin.prices
-        self.program = begin.program.varied(self.pricing.crews, [case.off[0]] if case.off else [])
         works: Dict[int, List[int]] = {}
         for nurse, day in case.works:
             works.setdefault(nurse, []).append(day)
         for number in cheap_columns(begin):
-            column = self.program.columns[number]
+            column = begin.program.columns[number]
             if all(column.row[day] for day in works.get(column.nurse, ())):
-                self._used[number] = None
+                self._add(column.nurse, column.row, column.cost, self.prices)
 
     @property
     def is_closed(self) -> bool:
@@ -136,7 +135,9 @@ class CaseSearch(RowGeneration):
 def cheap_columns(search: RowGeneration) -> List[int]:
     """The columns that a solution of the search has or might have at prices that are a little different."""
     now = search.solved
-    return [] if now is None else [*now.shares, *(column for column, rise in now.rises.items() if rise <= CHEAP and column not in now.shares)]
+    if now is None:
+        return []
+    return [*now.shares, *(column for column, rise in enumerate(now.rises) if rise <= CHEAP and column not in now.shares)]
 
 
 def open_days(search: RowGeneration) -> List[NurseDay]:

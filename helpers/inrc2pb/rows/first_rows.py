@@ -37,7 +37,9 @@ class _Matching:
         left = {entry: self._crews.minimum[entry] for entry, place in enumerate(self._crews.places) if place.day == day}
         for entry in left if held else ():
             asks = self._crews.places[entry]
-            left[entry] -= sum(choice == self._numbers[asks.shift] and self._skill(nurse, day) == asks.skill for nurse, choice in held.items() if choice)
+            left[entry] -= sum(
+                choice == self._numbers[asks.shift] and self._skill(nurse, day) == asks.skill for nurse, choice in held.items() if choice
+            )
         asked = {entry: self._crews.places[entry] for entry, number in left.items() if number > 0}
         order = {shift: self._order(shift, day, held) for shift in dict.fromkeys(place.shift for place in asked.values())}
         wants = {entry: [nurse for nurse in order[place.shift] if nurse in self._skilled[place.skill]] for entry, place in asked.items()}

@@ -4,10 +4,10 @@ Days count from 0 through all weeks. A choice is 0 for a day off, and one more t
 """
 
 from dataclasses import dataclass, replace
-from typing import Dict, FrozenSet, Iterable, List, Optional, Sequence, Tuple
+from typing import Dict, FrozenSet, Iterable, Iterator, List, NamedTuple, Optional, Sequence, Tuple
 
-from ..judging.absences import Absence, absences_of
-from ..week.records import Cell, History, Place, Request, Requirement, Scenario, WeekData
+from ..judging.absences import MARK, absences_of
+from ..week.records import Absence, Cell, History, KeptLimit, Place, Request, Requirement, Scenario, WeekData
 from ..judging.rules import MISSING_NURSE, REQUEST
 from ..judging.runs import NEVER
 
@@ -20,13 +20,25 @@ STEP = 5
 Held = Dict[Tuple[str, int], List[Cell]]
 
 
+class Keeping(NamedTuple):
+    """What each broken absence, and each charge above a limit that is kept, costs more, in points. NEVER: rows may not have it."""
+
+    absence: int
+    limit: int
+
+
+STRICT, FREE = Keeping(NEVER, NEVER), Keeping(0, 0)
+# If no roster keeps all: absences come first.
+ABSENCES_KEPT, FEW_BROKEN = Keeping(NEVER, 600), Keeping(3000, 600)
+
+
 @dataclass(frozen=True)
 class Plan:
     """What is asked for on these days, and by whom it can be done.
 
     `demand` has the places that ask for nurses, with the day of the plan; its optimal numbers are not below its minimums.
-    `nurses` are those whose rows are searched, and `away` has the absences that their rows keep, with the day of the plan. Without `charging` only the hard rules count: nothing costs anything, and
-    each nurse below a minimum costs one point.
+    `nurses` are those whose rows are searched, and `keeping` says how their rows keep the absences of `away`, with the day of the plan,
+    and the limits. Without `charging` only the hard rules count: nothing costs anything, and each nurse below a minimum costs one point.
     """
 
     scenario: Scenario
@@ -38,12 +50,15 @@ class Plan:
     demand: Dict[Place, Requirement]
     charging: bool = True
     away: FrozenSet[Absence] = frozenset()
+    limits: FrozenSet[KeptLimit] = frozenset()
+    keeping: Keeping = STRICT
 
     @staticmethod
     def of(
-        scenario: Scenario, history: History, weeks: Sequence[WeekData], early: bool = False, held: Iterable[Cell] = (), keeps: bool = True
+        scenario: Scenario, history: History, weeks: Sequence[WeekData], early: bool = False, held: Iterable[Cell] = (),
+        keeping: Keeping = STRICT,
     ) -> "Plan":
-        """The plan of these weeks, which follow the history. The days of held rows are those of the plan. Its rows keep all absences, if `keeps`."""
+        """The plan of these weeks, which follow the history. The days of held rows are those of the plan."""
         rows: Held = {}
         for row in held:
             rows.setdefault((row.nurse, row.day), []).append(row)
@@ -53,9 +68,10 @@ class Plan:
                 if asked.minimum or asked.optimal:
                     day = WEEK_DAYS * number + place.day
                     demand[place._replace(day=day)] = Requirement(asked.minimum, max(asked.minimum, asked.optimal))
-        of_weeks = [(number, absence) for number, data in enumerate(weeks) for absence in absences_of(data)] if keeps else []
+        of_weeks = [(number, absence) for number, data in enumerate(weeks) for absence in absences_of(data)]
         away = frozenset(absence._replace(day=WEEK_DAYS * number + absence.day) for number, absence in of_weeks)
-        return Plan(scenario, history, tuple(weeks), early, rows, tuple(scenario.nurses), demand, away=away)
+        limits = frozenset(limit for data in weeks for limit in data.limits)
+        return Plan(scenario, history, tuple(weeks), early, rows, tuple(scenario.nurses), demand, away=away, limits=limits, keeping=keeping)
 
     @property
     def days(self) -> int:
@@ -72,9 +88,30 @@ class Plan:
         """What a nurse below an optimal number costs, in points."""
         return MISSING_NURSE if self.charging else 0
 
-    def without_absences(self) -> "Plan":
-        """The same plan, in which absences may be broken."""
-        return replace(self, away=frozenset())
+    @property
+    def asks(self) -> bool:
+        """Whether there are absences or limits to keep."""
+        return bool(self.away or self.limits)
+
+    @property
+    def adds(self) -> bool:
+        """Whether rows that do not keep them cost more than the rules say."""
+        return self.asks and any(0 < cost < NEVER for cost in self.keeping)
+
+    def kept(self, keeping: Keeping) -> "Plan":
+        """The same plan, with other costs of what is not kept."""
+        return replace(self, keeping=keeping)
+
+    def less_strict(self) -> Iterator["Plan"]:
+        """The same plan, if no rows keep all absences and limits: first with all absences kept."""
+        if self.limits:
+            yield self.kept(ABSENCES_KEPT)
+        if self.away:
+            yield self.kept(FEW_BROKEN)
+
+    def most_above(self, nurse: str, kind: str) -> Optional[int]:
+        """How often the nurse may exceed her contract's maximum of this kind; None if no limit of hers is kept."""
+        return min((limit.most for limit in self.limits if limit[:2] == (nurse, kind)), default=None)
 
     def is_away(self, nurse: str, day: int, shift: str) -> bool:
         """Whether an absence forbids the nurse this shift type."""
@@ -83,7 +120,8 @@ class Plan:
     def hard_only(self) -> "Plan":
         """The same plan without the soft rules."""
         demand = {place: Requirement(asked.minimum, asked.minimum) for place, asked in self.demand.items() if asked.minimum}
-        return replace(self, demand=demand, charging=False)
+        away = self.away if self.keeping.absence == NEVER else frozenset()
+        return replace(self, demand=demand, charging=False, away=away, limits=frozenset())
 
     def requests(self) -> Dict[str, List[Request]]:
         """The requests of each nurse, with the days of the plan."""
@@ -107,7 +145,10 @@ class Plan:
         for day in range(self.days):
             away = [number for shift, number in shifts.items() if self.is_away(nurse, day, shift)]
             for choice in away:
-                found.setdefault(day, [0] * (len(shifts) + 1))[choice] = NEVER
+                costs = found.setdefault(day, [0] * (len(shifts) + 1))
+                # An absence that is written as requests costs enough.
+                more = 0 if costs[choice] >= MARK * REQUEST * POINT else self.keeping.absence * POINT
+                costs[choice] = NEVER if self.keeping.absence == NEVER else costs[choice] + more
             rows = self.held.get((nurse, day))
             if rows:
                 costs = found.setdefault(day, [0] * (len(shifts) + 1))

@@ -1,11 +1,14 @@
 """Rows and bounds at prices: what nurses of places earn, each nurse's cheapest row, and what no roster can cost less than."""
 
 import copy
-from typing import Dict, List, NamedTuple, Optional, Sequence, Tuple, Union
+from typing import Any, Dict, List, NamedTuple, Optional, Sequence, Tuple, Union
 
-from .plan import POINT, STEP, Plan
+from .plan import FREE, POINT, STEP, Plan
 from ..judging.runs import NEVER, Runs, RunState
+from ..judging.rules import SHIFT_RUN
+from ..week.facts import WORK_DAYS
 from ..week.records import Place
+from .row_arrays import Member, blocks_of, numpy
 from .row_graph import Check, Graph, Totals
 
 # The highest price in a file of prices.
@@ -72,29 +75,38 @@ class Crews:
 class Pricing:
     """The nurses of a plan, with the graphs of their rows; nurses who differ in nothing else share a graph.
 
-    `check` is called while the graphs are built, and may raise an exception to end that.
+    `check` is called while the graphs are built, and may raise an exception to end that. `shift_run` is the weight of a charge of a run of
+    a shift type.
     """
 
-    def __init__(self, plan: Plan, crews: Crews, check: Check) -> None:
+    _free: "Optional[Pricing]" = None
+
+    def __init__(self, plan: Plan, crews: Crews, check: Check, shift_run: int = SHIFT_RUN) -> None:
         self.plan, self.crews = plan, crews
         scenario, pasts = plan.scenario, plan.history.nurses
         types = tuple(scenario.shift_types.values())
-        runs = {name: Runs(types, contract, plan.days, plan.charging) for name, contract in scenario.contracts.items()}
-        kinds: Dict[Tuple[str, Totals], List[int]] = {}
+        runs: Dict[Tuple[str, int], Runs] = {}
+        kinds: Dict[Tuple[Tuple[str, int], Totals], List[int]] = {}
         states: List[RunState] = []
         for index, nurse in enumerate(plan.nurses):
             contract = scenario.contract_of(nurse)
-            states.append(runs[contract.name].before(pasts[nurse]))
-            kinds.setdefault((contract.name, Totals.of(plan, contract, pasts[nurse])), []).append(index)
+            key = contract.name, 0 if plan.most_above(nurse, WORK_DAYS) is None else plan.keeping.limit
+            if key not in runs:
+                runs[key] = Runs(types, contract, plan.days, plan.charging, shift_run, key[1])
+            states.append(runs[key].before(pasts[nurse]))
+            kinds.setdefault((key, Totals.of(plan, contract, pasts[nurse])), []).append(index)
         self.graphs: List[Graph] = [None] * len(plan.nurses)  # type: ignore[list-item]
-        for (name, totals), members in kinds.items():
-            graph = Graph(runs[name], totals, [states[index] for index in members], check)
+        for (key, totals), members in kinds.items():
+            graph = Graph(runs[key], totals, [states[index] for index in members], check)
             for index in members:
                 self.graphs[index] = graph
         self.starts = [graph.starts[state] for graph, state in zip(self.graphs, states)]
         self.base = [POINT * Totals.base(plan, scenario.contract_of(nurse), pasts[nurse]) for nurse in plan.nurses]
         requests = plan.requests()
         self.wishes = [plan.wishes(nurse, requests.get(nurse, ())) for nurse in plan.nurses]
+        # The days on which rows may differ from these, if there are some.
+        self._days, self._rows = range(plan.days), [b""] * 0
+        self._batch: Optional[_Batch] = None
 
     def part(self, plan: Plan) -> "Pricing":
         """The same for some of the nurses, with another demand."""
@@ -104,12 +116,13 @@ class Pricing:
         part.plan, part.crews = plan, Crews(plan)
         part.graphs, part.starts = [self.graphs[number] for number in numbers], [self.starts[number] for number in numbers]
         part.base, part.wishes = [self.base[number] for number in numbers], [self.wishes[number] for number in numbers]
+        part._days, part._rows, part._batch = self._days, [b""] * 0, None
         return part
 
     def on_days(self, days: range, rows: Sequence[NurseWeek]) -> "Pricing":
         """The same for rows that are the given ones, except on these days."""
         part = copy.copy(self)
-        part.wishes = []
+        part.wishes, part._days, part._rows, part._batch = [], days, list(rows), None
         for crews, wishes, row in zip(self.crews.of, self.wishes, rows):
             kept = {}
             for day in range(self.plan.days):
@@ -119,13 +132,17 @@ class Pricing:
             part.wishes.append({**wishes, **kept})
         return part
 
-    def without_absences(self) -> "Pricing":
-        """The same for a plan in which absences may be broken."""
-        free = copy.copy(self)
-        free.plan = self.plan.without_absences()
-        requests = free.plan.requests()
-        free.wishes = [free.plan.wishes(nurse, requests.get(nurse, ())) for nurse in free.plan.nurses]
-        return free
+    def forbid(self, nurse: int, day: int, choice: int) -> None:
+        """Forbids a nurse a choice on a day, before any pricing."""
+        costs = list(self.wishes[nurse].get(day, [0] * len(self.crews.of[nurse][day])))
+        costs[choice] = NEVER
+        self.wishes[nurse] = {**self.wishes[nurse], day: costs}
+
+    def free(self) -> "Pricing":
+        """The same for a plan that has no absences and limits to keep."""
+        if self._free is None:
+            self._free = Pricing(self.plan.kept(FREE), self.crews, lambda: None)
+        return self._free
 
     def _pay(self, nurse: int, gains: Gains) -> _Pay:
         """What each choice costs the nurse beside the costs of her row: her wishes less what she earns."""
@@ -143,10 +160,18 @@ class Pricing:
         earned = sum(gains[crews[choice]] for crews, choice in zip(self.crews.of[nurse], row))
         return Priced(value, row, (value + earned) // POINT)
 
+    def cheapest_of(self, nurses: Sequence[int], gains: Sequence[int]) -> List[Optional[Priced]]:
+        """The cheapest row of each of these nurses."""
+        if any(self.graphs[nurse].arrays is None for nurse in nurses):
+            return [self.cheapest(nurse, gains) for nurse in nurses]
+        if self._batch is None:
+            self._batch = _Batch(self.graphs, self.starts, self._days, self._rows)
+        return self._batch.cheapest(nurses, gains, self)
+
     def cost(self, nurse: int, row: NurseWeek) -> Optional[int]:
         """What a row costs its nurse, in points; None if a hard rule forbids it."""
         wishes = sum(costs[row[day]] for day, costs in self.wishes[nurse].items())
-        cost = self.graphs[nurse].cost(self.starts[nurse], row) + wishes + self.base[nurse]
+        cost = self.graphs[nurse].walked(self.starts[nurse], row)[1] + wishes + self.base[nurse]
         return None if cost >= NEVER // 2 else cost // POINT
 
     def within(self, nurse: int, gains: Gains, gap: int, most: int) -> List[NurseWeek]:
@@ -161,10 +186,68 @@ class Pricing:
         return sum(minimum * price + (best - minimum) * min(most, price) for minimum, best, price in asked)
 
 
+class _Batch:
+    """The nurses of a pricing by NumPy: their graphs in blocks, on the days on which their rows may differ from those that they keep."""
+
+    def __init__(self, graphs: Sequence[Graph], starts: Sequence[int], days: range, rows: Sequence[NurseWeek]) -> None:
+        self._days, self._rows, members = days, rows, []
+        self._fixed = [0] * len(graphs)
+        for nurse, (graph, start) in enumerate(zip(graphs, starts)):
+            assert graph.arrays is not None
+            rest = None
+            if rows:
+                start, self._fixed[nurse] = graph.walked(start, rows[nurse][: days.start])
+                rest = graph.arrays.after(days.stop, rows[nurse]) if days.stop < len(graph.days) else None
+            members.append(Member(nurse, graph.arrays, start, rest))
+        self._blocks = blocks_of(members, days.stop, days.start)
+        # The wishes and the crews of each nurse, day and choice, and what they were made of.
+        self._wishes: Any = None
+        self._crews: Any = None
+        self._made_of: Tuple[object, object] = (None, None)
+
+    def _read(self, pricing: Pricing) -> None:
+        """Makes the arrays of the wishes and of the crews."""
+        if self._made_of == (pricing.wishes, pricing.crews) and self._made_of[0] is pricing.wishes:
+            return
+        self._made_of = pricing.wishes, pricing.crews
+        self._crews = numpy.array(pricing.crews.of)
+        self._wishes = numpy.zeros(self._crews.shape, dtype=numpy.int64)
+        for nurse, wishes in enumerate(pricing.wishes):
+            for day, costs in wishes.items():
+                self._wishes[nurse, day] = costs
+
+    def cheapest(self, nurses: Sequence[int], gains: Sequence[int], pricing: Pricing) -> List[Optional[Priced]]:
+        """The cheapest row of each of these nurses."""
+        self._read(pricing)
+        earned = numpy.array(gains, dtype=numpy.int64)[self._crews]
+        pay, wanted, found = self._wishes - earned, set(nurses), dict.fromkeys(nurses)
+        for block in self._blocks:
+            numbers = [number for number, nurse in enumerate(block.nurses) if nurse in wanted]
+            if numbers:
+                for number, value, row in zip(numbers, *block.cheapest(pay, numbers)):
+                    nurse = block.nurses[number]
+                    found[nurse] = self._priced(nurse, int(value), row.tobytes(), earned[nurse], pricing)
+        return [found[nurse] for nurse in nurses]
+
+    def _priced(self, nurse: int, value: int, row: NurseWeek, earned: Any, pricing: Pricing) -> Optional[Priced]:
+        """A row with the choices that it keeps."""
+        if value >= NEVER // 2:
+            return None
+        if self._rows:
+            kept, days = self._rows[nurse], self._days
+            row = kept[: days.start] + row + kept[days.stop :]
+            value += self._fixed[nurse]
+            others = (day for day in range(len(row)) if day not in days)
+            value += sum(int(self._wishes[nurse, day, row[day]] - earned[day, row[day]]) for day in others)
+        value += pricing.base[nurse]
+        income = int(earned[numpy.arange(len(row)), list(row)].sum())
+        return Priced(value, row, (value + income) // POINT)
+
+
 def plain_bound(pricing: Pricing, prices: Prices) -> int:
     """What no roster of the plan costs less than by these prices, in points: no program has proved it."""
     gains = pricing.crews.gains(prices)
-    found = (pricing.cheapest(nurse, gains) for nurse in range(len(pricing.plan.nurses)))
+    found = pricing.cheapest_of(range(len(pricing.plan.nurses)), gains)
     return max(0, in_steps(pricing.places_cost(prices) + sum(priced.value for priced in found if priced)))
 
 

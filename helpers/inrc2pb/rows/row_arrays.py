@@ -1,44 +1,190 @@
-"""The cheapest rows of a graph by NumPy: twice as fast as without it for four shift types, ten times for 16. NumPy is not needed."""
+"""The cheapest rows of many nurses at once by NumPy, which is not needed: without it they are priced one after another."""
 
+import copy
 import importlib
-from typing import Any, List, Optional, Sequence, Tuple
+from typing import Any, Callable, Dict, List, NamedTuple, Optional, Sequence, Tuple
+
+from ..judging.runs import NEVER
+
+INSTALL = "NumPy is not installed: with it the search is several times faster (Debian: apt-get install python3-numpy)"
+# Graphs with fewer arcs lie side by side, each with one nurse, in blocks of about so many arcs; larger ones have a column for each nurse.
+SMALL, BLOCK = 6_000, 60_000
+# From so many values on, the choices of a day are compared one after another.
+_MANY = 40_000
+# The multiplier of the numbers by which equal nodes are found.
+_MULTIPLIER = 6364136223846793005
 
 
 def _numpy() -> Any:
-    """The module, or None if it is not installed."""
+    """The module; None if it is not installed, or broken."""
     try:
-        return importlib.import_module("numpy")
-    except ImportError:
+        found = importlib.import_module("numpy")
+        found.array([1]).take([0], axis=0)
+        return found
+    except Exception:
         return None
 
 
 numpy = _numpy()
-INSTALL = "NumPy is not installed: with it the search is several times faster (Debian: apt-get install python3-numpy)"
 
 
 class Arrays:
-    """The days of a graph as arrays: by choice and node the costs and the nodes that are reached, and by node of the next day the
-    choice that reaches it."""
+    """The days of a graph as arrays: by choice and node the costs and the nodes that are reached, and by node of the next day the choice
+    that reaches it."""
 
-    def __init__(self, days: Sequence[Tuple[List[List[int]], List[List[int]], List[int]]]) -> None:
-        self._days = [(numpy.array(costs, dtype=numpy.int64), numpy.array(heads), numpy.array(entered)) for costs, heads, entered in days]
-
-    @staticmethod
-    def of(days: Sequence[Tuple[List[List[int]], List[List[int]], List[int]]]) -> "Optional[Arrays]":
-        """The arrays of these days, if NumPy is installed."""
-        return Arrays(days) if numpy is not None else None
+    def __init__(self, days: Sequence[Tuple[Any, Any, Any]]) -> None:
+        self.days = list(days)
+        self.size = sum(costs.size for costs, _, _ in self.days)
+        # The number of nodes before each day, and at the end.
+        self.nodes = [*(costs.shape[1] for costs, _, _ in self.days), len(self.days[-1][2])]
+        self._alone: Optional[Block] = None
 
     def cheapest(self, start: int, pay: Sequence[Sequence[int]]) -> Tuple[int, bytes]:
         """The minimum cost of a row from this node on, and the first row that has it, if a choice costs this pay beside its own costs."""
-        minimum: Any = numpy.zeros(len(self._days[-1][2]), dtype=numpy.int64)
-        paid = []
-        for (costs, heads, entered), today in zip(reversed(self._days), reversed(pay)):
-            reached = minimum + numpy.array(today, dtype=numpy.int64)[entered]
-            paid.append(reached)
-            minimum = (reached[heads] + costs).min(axis=0)
-        node, row = start, bytearray()
-        for (costs, heads, _), reached in zip(self._days, reversed(paid)):
-            choice = int((costs[:, node] + reached[heads[:, node]]).argmin())
-            row.append(choice)
-            node = heads[choice, node]
-        return int(minimum[start]), bytes(row)
+        self._alone = self._alone or Block([Member(0, self, start)], len(self.days))
+        values, rows = self._alone.cheapest(numpy.array([pay], dtype=numpy.int64), [0], [start])
+        return int(values[0]), rows[0].tobytes()
+
+    def after(self, last: int, row: Sequence[int]) -> Any:
+        """What the choices of a row from a day on cost after each node of that day."""
+        values = numpy.zeros(len(self.days[-1][2]), dtype=numpy.int64)
+        for (costs, heads, _), choice in zip(reversed(self.days[last:]), reversed(row[last:])):
+            values = costs[choice] + values[heads[choice]]
+        return numpy.minimum(values, NEVER)
+
+
+class Member(NamedTuple):
+    """A nurse of a block: her number, her graph, the node at which her days begin, and what each node costs in which they end, if any
+    does."""
+
+    nurse: int
+    arrays: Arrays
+    start: int
+    rest: Any = None
+
+
+class _Day(NamedTuple):
+    """A day of a block: by choice and node the costs and the nodes that are reached, and the pay by which a node of the next day is."""
+
+    costs: Any
+    heads: Any
+    paid: Any
+
+
+class Block:
+    """Nurses who are priced together on the days from `first` to `last`: all of one graph, with a column of values each, or each with a
+    graph of her own, which lie side by side."""
+
+    def __init__(self, members: Sequence[Member], last: int, first: int = 0) -> None:
+        self.nurses, self._first, self._last = [of.nurse for of in members], first, last
+        self._is_one = all(of.arrays is members[0].arrays for of in members)
+        graphs = [members[0].arrays] if self._is_one else [of.arrays for of in members]
+        offsets = [numpy.cumsum([0, *(of.nodes[day] for of in graphs)]) for day in range(first, last + 1)]
+        self._days = [self._day(graphs, day, offsets[day - first + 1]) for day in range(first, last)]
+        starts = numpy.array([of.start for of in members])
+        self._starts = starts if self._is_one else starts + offsets[0][:-1]
+        self._rest = numpy.zeros((offsets[-1][-1], 1), dtype=numpy.int64)
+        if members[0].rest is not None:
+            rests = [of.rest for of in members]
+            self._rest = numpy.stack(rests, axis=1) if self._is_one else numpy.concatenate(rests)[:, None]
+
+    @property
+    def costs(self) -> List[Any]:
+        """The costs of each day by choice and node."""
+        return [day.costs for day in self._days]
+
+    def with_costs(self, costs: Sequence[Any]) -> "Block":
+        """The same nurses, if their days have these costs."""
+        other = copy.copy(self)
+        other._days = [day._replace(costs=of_day) for day, of_day in zip(self._days, costs)]
+        return other
+
+    @staticmethod
+    def _day(graphs: Sequence[Arrays], day: int, offsets: Any) -> _Day:
+        if len(graphs) == 1:
+            return _Day(*graphs[0].days[day])
+        days = [of.days[day] for of in graphs]
+        choices = len(days[0][0])
+        heads = [of[1] + offset for of, offset in zip(days, offsets)]
+        paid = [of[2] + choices * owner for owner, of in enumerate(days)]
+        return _Day(numpy.concatenate([of[0] for of in days], axis=1), numpy.concatenate(heads, axis=1), numpy.concatenate(paid))
+
+    def cheapest(self, pay: Any, wanted: Sequence[int], starts: Optional[Sequence[int]] = None) -> Tuple[Any, Any]:
+        """The minimum cost of a row of each of these nurses, who are numbers in the block, and the first row that has it, on the days of
+        the block. `pay` has what a choice costs beside its own costs, by nurse, day and choice. `starts` has other nodes to begin at."""
+        pay = pay[:, self._first : self._last]
+        if self._is_one:
+            pay, columns = pay.take([self.nurses[number] for number in wanted], axis=0), numpy.arange(len(wanted))
+            rest = self._rest if self._rest.shape[1] == 1 else self._rest[:, wanted]
+        else:
+            pay, columns, rest = pay.take(self.nurses, axis=0), numpy.zeros(len(wanted), dtype=int), self._rest
+        minimum, paid = rest, []
+        for day, number in zip(reversed(self._days), reversed(range(len(self._days)))):
+            today = pay[:, number].T if self._is_one else pay[:, number].reshape(-1, 1)
+            paid.append(minimum + today.take(day.paid, axis=0))
+            minimum = _least(paid[-1], day)
+        nodes = first = self._starts[wanted] if starts is None else numpy.array(starts)
+        rows = numpy.empty((len(wanted), len(self._days)), dtype=numpy.uint8)
+        for number, (day, reached) in enumerate(zip(self._days, reversed(paid))):
+            heads = day.heads[:, nodes]
+            choices = (day.costs[:, nodes] + reached[heads, columns]).argmin(axis=0)
+            rows[:, number] = choices
+            nodes = heads[choices, numpy.arange(len(wanted))]
+        return minimum[first, columns], rows
+
+
+def _least(reached: Any, day: _Day) -> Any:
+    """The minimum over the choices of a day."""
+    if day.heads.size * reached.shape[1] <= _MANY:
+        return (reached.take(day.heads, axis=0) + day.costs[:, :, None]).min(axis=0)
+    minimum = reached.take(day.heads[0], axis=0)
+    minimum += day.costs[0][:, None]
+    for heads, costs in zip(day.heads[1:], day.costs[1:]):
+        other = reached.take(heads, axis=0)
+        other += costs[:, None]
+        numpy.minimum(minimum, other, out=minimum)
+    return minimum
+
+
+def blocks_of(members: Sequence[Member], last: int, first: int = 0) -> List[Block]:
+    """Nurses in blocks: the small graphs side by side, and each large one with its nurses."""
+    together: List[List[Member]] = [[]]
+    alone: Dict[int, List[Member]] = {}
+    size = 0
+    for of in members:
+        if of.arrays.size > SMALL:
+            alone.setdefault(id(of.arrays), []).append(of)
+            continue
+        if size > BLOCK:
+            together.append([])
+            size = 0
+        together[-1].append(of)
+        size += of.arrays.size
+    return [Block(found, last, first) for found in [*together, *alone.values()] if found]
+
+
+def merged(days: List[Tuple[Any, Any, Any]], check: Callable[[], None]) -> Any:
+    """Makes one node of all that have the same choices, costs and futures. Returns the class of each first node."""
+    classes, kept = _numbered(days[-1][2][None, :])
+    for day in reversed(range(len(days))):
+        check()
+        costs, heads, entered = days[day]
+        heads, entered = classes[heads], entered[kept]
+        before = days[day - 1][2] if day else numpy.arange(costs.shape[1])
+        classes, kept = _numbered(numpy.concatenate([before[None, :], costs, heads]))
+        days[day] = costs[:, kept], heads[:, kept], entered
+    return classes
+
+
+def _numbered(rows: Any) -> Tuple[Any, Any]:
+    """The number of each column of an array, by which equal columns have one number, and the first column of each number."""
+    hashes = numpy.zeros(rows.shape[1], dtype=numpy.uint64)
+    for number, row in enumerate(rows, 1):
+        hashes += row.astype(numpy.uint64) * numpy.uint64(pow(_MULTIPLIER, number, 1 << 64))
+    _, firsts, numbers = numpy.unique(hashes, return_index=True, return_inverse=True)
+    if (rows[:, firsts[numbers]] != rows).any():
+        _, firsts, numbers = numpy.unique(rows, axis=1, return_index=True, return_inverse=True)
+    order = numpy.argsort(firsts)
+    places = numpy.empty(len(order), dtype=int)
+    places[order] = numpy.arange(len(order))
+    return places[numbers], firsts[order]

@@ -8,6 +8,7 @@ from typing import Callable, Dict, Iterable, List, Optional, Sequence
 
 from ..programs.clock import Clock
 from ..solvers.linear_solvers import LinearSolver
+from ..solvers.resident_program import LinearProgram, no_solver
 from .plan import POINT, STEP
 from .pricing import Priced, Prices, Pricing, NurseWeek, in_steps
 from ..week.records import Place
@@ -38,10 +39,7 @@ class RowGeneration:
     def __init__(self, pricing: Pricing, solver: Optional[LinearSolver], heard: Callable[[], None]) -> None:
         self.pricing, self.plan = pricing, pricing.plan
         self._solver, self._heard = solver, heard
-        self.program = RowProgram(self.plan, pricing.crews)
-        # The columns in use, and whether the solver has a solution of this program.
-        self._used: Dict[int, None] = {}
-        self._goes_on = False
+        self.program = RowProgram(self.plan, pricing.crews, solver.program() if solver else LinearProgram(None, no_solver))
         self.prices: Prices = [0] * len(pricing.crews.places)
         # The lower bound in thousandths.
         self.bound: Optional[int] = None
@@ -62,7 +60,8 @@ class RowGeneration:
     def add_roster(self, rows: Sequence[NurseWeek]) -> None:
         """Adds the rows of a roster, with the places at which its nurses are."""
         crews = self.pricing.crews
-        numbers, names = {place: index for index, place in enumerate(crews.places)}, {nurse: index for index, nurse in enumerate(self.plan.nurses)}
+        numbers = {place: index for index, place in enumerate(crews.places)}
+        names = {nurse: index for index, nurse in enumerate(self.plan.nurses)}
         places: List[List[Optional[int]]] = [[None] * self.plan.days for _ in rows]
         for nurse, day, shift, skill in staffed(self.plan, crews, rows).cells:
             places[names[nurse]][day] = numbers.get(Place(day, shift, skill))
@@ -71,15 +70,10 @@ class RowGeneration:
             if cost is not None:
                 self._add(nurse_number, row, cost, self.prices, places[nurse_number])
 
-    def begin_with(self, whole: "RowGeneration", nurses: Sequence[int], rows: Sequence[NurseWeek], days: range) -> None:
-        """Begins with the prices for more nurses, and with the known rows of these nurses, who keep the given rows on all other days."""
+    def begin_at(self, whole: "RowGeneration") -> None:
+        """Begins with the prices for more nurses."""
         known = dict(zip(whole.pricing.crews.places, whole.prices))
         self.prices = [known.get(place, 0) for place in self.pricing.crews.places]
-        numbers = {nurse: number for number, nurse in enumerate(nurses)}
-        for column in list(whole.program.columns):
-            if column.nurse in numbers:
-                number = numbers[column.nurse]
-                self.add_row(number, rows[number][: days.start] + column.row[days.start : days.stop] + rows[number][days.stop :])
 
     def add_row(self, nurse: int, row: NurseWeek) -> None:
         """Adds a row to the program, if no hard rule forbids it."""
@@ -89,18 +83,15 @@ class RowGeneration:
 
     def _add(self, nurse: int, row: NurseWeek, cost: int, prices: Prices, places: Sequence[Optional[int]] = ()) -> bool:
         """Adds a row to those in use. Returns whether it was none of them."""
-        column, before = self.program.add(nurse, row, cost, prices, places), len(self._used)
-        self._used[column] = None
-        return len(self._used) > before
+        return self.program.add(nurse, row, cost, prices, places)[1]
 
     # ---- prices and new rows
 
     def _priced(self, prices: Prices, nurses: Sequence[int], clock: Clock) -> Dict[int, Priced]:
         """The cheapest row of each of these nurses at these prices."""
         gains, found = self.pricing.crews.gains(prices), {}
-        for nurse in nurses:
-            clock.check()
-            priced = self.pricing.cheapest(nurse, gains)
+        clock.check()
+        for nurse, priced in zip(nurses, self.pricing.cheapest_of(nurses, gains)):
             if priced is None:
                 raise NoRow(self.plan.nurses[nurse])
             found[nurse] = priced
@@ -111,12 +102,6 @@ class RowGeneration:
         if self.bound is None or bound > self.bound:
             self.bound, self.prices = bound, prices
             self._heard()
-
-    def _relax(self, use: Iterable[int], clock: Clock) -> Solved:
-        assert self._solver is not None
-        found = self._solver.relax(self.program.text(use), clock, self._goes_on)
-        self._goes_on = True
-        return self.program.solved(found)
 
     def _earned(self, prices: Prices, nurse: int, row: NurseWeek) -> int:
         crews = self.pricing.crews
@@ -131,7 +116,7 @@ class RowGeneration:
             self._add(nurse, priced.row, priced.cost, self.prices)
         share = 0.0
         while not self.complete:
-            now = self.solved = self._relax(self._used, clock)
+            now = self.solved = self.program.solve(clock)
             if self._is_settled(now):
                 break
             self._drop(now)
@@ -145,7 +130,7 @@ class RowGeneration:
             if self._meets(now.value) or not (new or share):
                 self.misses_minimums = now.missing > EXACT
                 if self.misses_minimums and self.plan.charging and self.program.below < MOST_BELOW:
-                    self.program.below = min(MOST_BELOW, 10 * self.program.below)
+                    self.program.raise_below(min(MOST_BELOW, 10 * self.program.below))
                 else:
                     self.complete = True
             share = SMOOTHING if new else 0.0
@@ -157,11 +142,11 @@ class RowGeneration:
 
     def _drop(self, now: Solved) -> None:
         """Drops the most expensive columns, if there are too many. Each nurse keeps one."""
-        nurses = len(self.plan.nurses)
+        nurses, used = len(self.plan.nurses), self.program.used
         keep = max(LEAST_USED, KEPT * nurses) - len(now.shares)
-        if len(self._used) > max(LEAST_USED, MOST_USED * nurses) and len({self.program.columns[number].nurse for number in now.shares}) == nurses:
-            cheap = sorted((number for number in self._used if number not in now.shares), key=lambda number: now.rises.get(number, 0.0))
-            self._used = dict.fromkeys([*now.shares, *cheap[: max(0, keep)]])
+        if len(used) > max(LEAST_USED, MOST_USED * nurses) and len({self.program.columns[column].nurse for column in now.shares}) == nurses:
+            cheap = sorted((column for column in used if column not in now.shares), key=lambda column: now.rises[column])
+            self.program.drop(cheap[max(0, keep) :])
 
     def _meets(self, value: float) -> bool:
         """Whether the bound is as good as this value of the program."""

@@ -5,14 +5,17 @@ are open, and what more assignments and weekends would cost. Nodes with the same
 """
 
 from operator import add, itemgetter
-from typing import Callable, Dict, Iterable, List, NamedTuple, Sequence, Tuple
+from typing import Any, Callable, Dict, Iterable, Iterator, List, NamedTuple, Optional, Sequence, Tuple
 
 from .plan import POINT, WEEK_DAYS, Plan
+from ..week.facts import SHIFTS, WEEKENDS
 from ..week.records import Contract, NurseHistory
-from .row_arrays import Arrays
+from .row_arrays import Arrays, merged, numpy
 from ..judging.rules import ASSIGNMENT_TOTAL, WEEKEND_TOTAL
 from ..judging.runs import NEVER, Runs, RunState
 
+# From here on a cost in points has NEVER in it, perhaps less what it saves.
+FORBIDDEN = NEVER // 2
 Gather = Callable[[Sequence[int]], Tuple[int, ...]]
 Check = Callable[[], None]
 
@@ -30,8 +33,10 @@ class Totals(NamedTuple):
         counts = plan.charging and (plan.ends or plan.early)
         totals = range(past.assignments, past.assignments + plan.days)
         works = [ASSIGNMENT_TOTAL * (counts * (total >= maximum) - (plan.charging and plan.ends and total < minimum)) for total in totals]
+        weekends = [WEEKEND_TOTAL * (counts and past.weekends + number >= most) for number in range(len(plan.weeks))]
         return Totals(
-            tuple(works), tuple(WEEKEND_TOTAL * (counts and past.weekends + number >= most) for number in range(len(plan.weeks)))
+            _kept(plan, works, plan.most_above(past.nurse, SHIFTS), maximum - past.assignments),
+            _kept(plan, weekends, plan.most_above(past.nurse, WEEKENDS), most - past.weekends),
         )
 
     @staticmethod
@@ -42,6 +47,13 @@ class Totals(NamedTuple):
         (minimum, maximum), most = contract.assignments, contract.max_weekends
         excess = ASSIGNMENT_TOTAL * max(0, past.assignments - maximum) + WEEKEND_TOTAL * max(0, past.weekends - most)
         return ASSIGNMENT_TOTAL * max(0, minimum - past.assignments) + (0 if plan.early else excess)
+
+
+def _kept(plan: Plan, costs: Sequence[int], most: Optional[int], left: int) -> Tuple[int, ...]:
+    """What each further one costs, if after those that are left, and `most` more, none is allowed, or each costs more."""
+    if most is None:
+        return tuple(costs)
+    return tuple(cost if number < left + most else min(NEVER, cost + plan.keeping.limit) for number, cost in enumerate(costs))
 
 
 def _first_with(futures: Sequence[Tuple[int, ...]]) -> List[int]:
@@ -80,13 +92,52 @@ class Graph:
     def __init__(self, runs: Runs, totals: Totals, states: Iterable[RunState], check: Check) -> None:
         self._runs, self._totals, self._check = runs, totals, check
         firsts = list(dict.fromkeys(states))
-        found = self._forward([(state, 0, 0) for state in firsts])
-        classes = self._merged(found)
-        self.starts = {state: classes[index] for index, state in enumerate(firsts)}
-        self.days = found
-        self.entered = [_gather(day.entered) for day in found]
-        self.arcs = [[(_gather(heads), costs) for heads, costs in zip(day.heads, day.costs)] for day in found]
-        self._arrays = Arrays.of(found)
+        self._arcs: List[Tuple[Gather, List[Tuple[Gather, List[int]]]]] = []
+        self.arrays: Optional[Arrays] = None
+        if numpy is None or runs.days == WEEK_DAYS:
+            self.days = self._forward([(state, 0, 0) for state in firsts])
+            classes = self._merged(self.days)
+            if numpy is not None:
+                self.arrays = Arrays([(numpy.array(day.costs), numpy.array(day.heads), numpy.array(day.entered)) for day in self.days])
+        else:
+            arrays = list(self._by_arrays(firsts))
+            classes = merged(arrays, self._check)
+            self.arrays = Arrays(arrays)
+            self.days = [_Day(*(array.tolist() for array in day)) for day in arrays]
+        self.starts = {state: int(classes[index]) for index, state in enumerate(firsts)}
+
+    def _same(self, day: int) -> Tuple[List[int], List[int]]:
+        """For each number of assignments, and of weekends, after a day the least one from which more cost as much."""
+        works, weekends = self._totals
+        left = self._runs.days - day - 1
+        weeks = -(-left // WEEK_DAYS)
+        same_works = _first_with([works[total : total + left] for total in range(day + 2)])
+        return same_works, _first_with([weekends[total : total + weeks] for total in range(day // WEEK_DAYS + 2)])
+
+    def _by_arrays(self, states: List[RunState]) -> Iterator[Tuple[Any, Any, Any]]:
+        """All nodes that are reached, day by day, by NumPy."""
+        runs, works_on = self._runs, (numpy.arange(len(self._runs.shifts)) > 0)[:, None]
+        works, weekends = (numpy.array(costs, dtype=numpy.int64) for costs in self._totals)
+        state, work, rest = numpy.arange(len(states)), numpy.zeros(len(states), dtype=int), numpy.zeros(len(states), dtype=int)
+        before = numpy.array([now.choice for now in states])
+        for day in range(runs.days):
+            self._check()
+            number: Dict[RunState, int] = {}
+            steps = [[(cost, number.setdefault(to, len(number))) for cost, to in runs.steps(day, now)] for now in states]
+            costs, reached = (numpy.array([[step[part] for step in row] for row in steps])[state].T for part in range(2))
+            weekend = (day % WEEK_DAYS == WEEK_DAYS - 1) & (works_on | (before > 0))
+            costs = costs + works_on * works[work] + weekend * weekends[rest]
+            never = costs >= FORBIDDEN
+            same_works, same_weekends = map(numpy.array, self._same(day))
+            shape = len(number), len(same_works), len(same_weekends)
+            keys = numpy.ravel_multi_index((reached, same_works[work + works_on], same_weekends[rest + weekend]), shape)
+            there = numpy.zeros(shape, dtype=bool).ravel()
+            there[keys[~never]] = True
+            heads = numpy.where(never, 0, (numpy.cumsum(there) - 1)[keys])
+            states = list(number)
+            state, work, rest = numpy.unravel_index(numpy.flatnonzero(there), shape)
+            before = numpy.array([now.choice for now in states])[state]
+            yield numpy.where(never, NEVER, POINT * costs), heads, before
 
     def _forward(self, nodes: List[Tuple[RunState, int, int]]) -> List[_Day]:
         """All nodes that are reached, day by day."""
@@ -95,20 +146,19 @@ class Graph:
         for day in range(runs.days):
             self._check()
             later: Dict[Tuple[RunState, int, int], int] = {}
-            left = runs.days - day - 1
-            same_works = _first_with([works[total : total + left] for total in range(day + 2)])
-            same_weekends = _first_with([weekends[total : total - (-left // WEEK_DAYS)] for total in range(day // WEEK_DAYS + 2)])
+            same_works, same_weekends = self._same(day)
             sunday = day % WEEK_DAYS == WEEK_DAYS - 1
             costs: List[List[int]] = [[] for _ in runs.shifts]
             heads: List[List[int]] = [[] for _ in runs.shifts]
             for state, work, rest in nodes:
                 for choice, (cost, reached) in enumerate(runs.steps(day, state)):
-                    if cost == NEVER:
+                    weekend = sunday and (choice > 0 or state.choice > 0)
+                    cost += (works[work] if choice else 0) + (weekends[rest] if weekend else 0)
+                    if cost >= FORBIDDEN:
                         costs[choice].append(NEVER)
                         heads[choice].append(0)
                         continue
-                    weekend = sunday and (choice > 0 or state.choice > 0)
-                    costs[choice].append(POINT * (cost + (works[work] if choice else 0) + (weekends[rest] if weekend else 0)))
+                    costs[choice].append(POINT * cost)
                     key = (reached, same_works[work + (choice > 0)], same_weekends[rest + weekend])
                     heads[choice].append(later.setdefault(key, len(later)))
             nodes = list(later)
@@ -131,8 +181,11 @@ class Graph:
     def values(self, pay: Sequence[Sequence[int]]) -> Tuple[List[int], List[List[int]]]:
         """The minimum cost from each first node on, and for each day that from each node that it reaches on, with the cost of
         reaching it, if a choice costs this pay beside its own costs."""
+        if not self._arcs:
+            for costs, heads, reached_by in self.days:
+                self._arcs.append((_gather(reached_by), [(_gather(nodes), cost) for nodes, cost in zip(heads, costs)]))
         minimum, paid = [0] * len(self.days[-1].entered), []
-        for entered, arcs, today in zip(reversed(self.entered), reversed(self.arcs), reversed(pay)):
+        for (entered, arcs), today in zip(reversed(self._arcs), reversed(pay)):
             reached = list(map(add, minimum, entered(today)))
             paid.append(reached)
             minimum = list(map(min, *[map(add, gather(reached), costs) for gather, costs in arcs]))
@@ -140,23 +193,26 @@ class Graph:
 
     def cheapest(self, start: int, pay: Sequence[Sequence[int]]) -> Tuple[int, bytes]:
         """The minimum cost of a row from this node on, and the first row that has it. NEVER or more: there is no row."""
-        if self._arrays:
-            return self._arrays.cheapest(start, pay)
+        if self.arrays:
+            return self.arrays.cheapest(start, pay)
         minimum, paid = self.values(pay)
         node, row = start, bytearray()
         for day, reached in zip(self.days, paid):
-            value, choice = min((costs[node] + reached[heads[node]], choice) for choice, (costs, heads) in enumerate(zip(day.costs, day.heads)))
+            value, choice = min(
+                (costs[node] + reached[heads[node]], choice) for choice, (costs, heads) in enumerate(zip(day.costs, day.heads))
+            )
             row.append(choice)
             node = day.heads[choice][node]
         return minimum[start], bytes(row)
 
-    def cost(self, start: int, row: Sequence[int]) -> int:
-        """What this row costs without any pay; NEVER or more if a hard rule forbids it."""
+    def walked(self, start: int, row: Sequence[int]) -> Tuple[int, int]:
+        """The node at which these first choices of a row end, and what they cost without any pay; NEVER or more if a hard rule forbids
+        them."""
         node, total = start, 0
         for day, choice in zip(self.days, row):
             total += day.costs[choice][node]
             node = day.heads[choice][node]
-        return total
+        return node, total
 
     def within(self, start: int, pay: Sequence[Sequence[int]], limit: int, most: int) -> List[bytes]:
         """All rows that cost at most the limit, but no more than `most` + 1 of them."""

@@ -5,51 +5,60 @@ import contextlib
 import math
 import random
 import threading
-import time
 from dataclasses import replace
 from typing import Callable, Dict, List, NamedTuple, Optional, Sequence, Set, Tuple
 
 from ..programs.clock import Clock, TimeIsOver
 from ..solvers.answers import SolverFault
 from ..solvers.linear_solvers import LinearSolver
-from .plan import POINT, WEEK_DAYS
+from .plan import POINT, STEP, WEEK_DAYS
 from .pricing import Pricing, NurseWeek
 from ..week.records import Place, Requirement
+from .row_generation import NoRow
 from .row_search import RowSearch
 from .skills import staffed
 
 # The nurses of the first neighborhood of one week, and the fewest of any.
 FIRST_SIZE, LEAST_SIZE = 20.0, 4
-# A neighborhood that takes less than the first of these seconds is followed by a larger one; the second is its limit.
-QUICK_SECONDS, MOST_SECONDS = 1.5, 6.0
+# A neighborhood with less work than the first of these, in steps of the simplex method, is followed by a larger one; the second is its
+# limit. Work is the same on a busy machine. The limits of its integer program, in nodes, and of its seconds.
+QUICK_WORK, MOST_WORK, MOST_NODES, MOST_SECONDS = 2500, 10_000, 50, 20.0
 GROWTH, SHRINKAGE = 1.15, 0.8
 # The shares of the days of a plan that neighborhoods have.
 DAYS_SHARES = (0.35, 0.5, 0.75, 1.0)
-# From this gap on, in thousandths, a neighborhood is worth a dive.
-DIVE_GAP = 50 * POINT
+# From the first of these gaps on, in thousandths, a neighborhood is worth a dive, and up to the second an integer program.
+DIVE_GAP, CHOOSE_GAP = STEP * POINT, 20 * POINT
+# The share of the neighborhoods in which one or two nurses must have another choice on a day, and the roster may cost as much as before.
+CHANGED_SHARE, MOST_CHANGED = 0.4, 2
+# The known rows of each nurse with which a neighborhood begins.
+MOST_KNOWN = 20
 # Up to this part of the bound a gap is small. The share of the time that is left for an integer program over the known rows of all
 # nurses then.
 SMALL_GAP, WHOLE_SHARE = 0.03, 0.3
 
 
 class Part(NamedTuple):
-    """A neighborhood: the nurses who may get new rows, and the days on which these may differ from their rows now."""
+    """A neighborhood: the nurses who may get new rows, the days on which these may differ from their rows now, and those of the nurses, by
+    their places in it, who must have another choice on a day. If it is not `limited`, only its time ends its search."""
 
     nurses: Tuple[int, ...]
     days: range
+    changed: Tuple[Tuple[int, int], ...] = ()
+    limited: bool = True
 
 
 class RowParts:
     """Improves the best roster of a search part by part, with each of the solvers at once. Each solver has files of its own."""
 
-    def __init__(self, search: RowSearch, solvers: Sequence[LinearSolver]) -> None:
+    def __init__(self, search: RowSearch, solvers: Sequence[LinearSolver], seed: int = 1) -> None:
         self._search, self._solvers = search, solvers
-        self._chance = random.Random(1)
+        self._chance = random.Random(seed)
+        self._known = search.cheapest_known(MOST_KNOWN)
         self._minimums = search.minimum_values()
         lengths = dict.fromkeys(math.ceil(share * search.plan.days) for share in DAYS_SHARES)
-        # For each number of days the number of nurses of the next neighborhood, and the seconds that all have taken.
+        # For each number of days the number of nurses of the next neighborhood, and the work of all until now.
         self._sizes = {length: min(len(search.plan.nurses), FIRST_SIZE * (WEEK_DAYS / length) ** 0.5) for length in lengths}
-        self._taken = dict.fromkeys(lengths, 0.0)
+        self._spent = dict.fromkeys(lengths, 0)
         # The days on which new choices of all nurses do not make the best roster better.
         self._closed: Set[range] = set()
         # Guards all that the threads share: the search, the chance and the lines above.
@@ -60,9 +69,16 @@ class RowParts:
         shared = clock.part(clock.left())
         with concurrent.futures.ThreadPoolExecutor(len(self._solvers)) as pool:
             workers = [pool.submit(self._work, solver, shared, number == 0) for number, solver in enumerate(self._solvers)]
+            left = len(workers)
             try:
                 for worker in concurrent.futures.as_completed(workers):
-                    worker.result()
+                    try:
+                        worker.result()
+                    except SolverFault as fault:
+                        left -= 1
+                        if not left:
+                            raise
+                        self._solvers[0].warn(f"{fault}: the search goes on with {left} of {len(workers)} threads")
             except (SolverFault, TimeIsOver):
                 # A thread that finds the proof stops the clock of all, and their solvers.
                 if not self._search.is_proved:
@@ -75,43 +91,44 @@ class RowParts:
         search = self._search
         if is_first and search.bound is not None and search.penalty is not None and search.gap() < SMALL_GAP * search.bound:
             with contextlib.suppress(TimeIsOver):
-                everything = Part(tuple(range(len(search.plan.nurses))), range(search.plan.days))
+                everything = Part(tuple(range(len(search.plan.nurses))), range(search.plan.days), limited=False)
                 self.improve(everything, solver, clock.part(clock.left() * WHOLE_SHARE))
         while not search.is_proved:
             clock.check()
-            part, began, penalty = self._next(), time.monotonic(), search.penalty
-            try:
-                ended = self.improve(part, solver, clock.part(MOST_SECONDS))
-            except TimeIsOver:
-                ended = False
-            self._learn(part, ended, time.monotonic() - began, search.penalty != penalty)
+            part, penalty = self._next(), search.penalty
+            ended, work = self.improve(part, solver, clock.part(MOST_SECONDS))
+            self._learn(part, ended, work, search.penalty != penalty)
         clock.stop()
         solver.end_all()
 
-    def _learn(self, part: Part, ended: bool, seconds: float, is_better: bool) -> None:
-        """Counts the time of a neighborhood, and changes the number of nurses of later ones of this length. `is_better` says whether the
+    def _learn(self, part: Part, ended: bool, work: int, is_better: bool) -> None:
+        """Counts the work of a neighborhood, and changes the number of nurses of later ones of this length. `is_better` says whether the
         best roster is another one now."""
         with self._lock:
             length = len(part.days)
-            self._taken[length] += seconds
-            factor = SHRINKAGE if not ended else GROWTH if seconds < QUICK_SECONDS else 1.0
+            self._spent[length] += work
+            factor = SHRINKAGE if not ended else GROWTH if work < QUICK_WORK else 1.0
             self._sizes[length] = min(len(self._search.plan.nurses), max(LEAST_SIZE, self._sizes[length] * factor))
             if is_better:
                 self._closed.clear()
-            elif ended and len(part.nurses) == len(self._search.plan.nurses):
+            elif ended and len(part.nurses) == len(self._search.plan.nurses) and not part.changed:
                 self._closed.add(part.days)
 
     def _next(self) -> Part:
-        """The next neighborhood. The lengths share the time, and days that are closed for all nurses come last."""
+        """The next neighborhood. The lengths share the work, and days that are closed for all nurses come last."""
         with self._lock:
             nurses, days = len(self._search.plan.nurses), self._search.plan.days
-            for length in sorted(self._taken, key=self._taken.__getitem__):
+            for length in sorted(self._spent, key=self._spent.__getitem__):
                 size = int(self._sizes[length])
                 stretches = [range(first, first + length) for first in range(days - length + 1)]
                 left = [stretch for stretch in stretches if size < nurses or stretch not in self._closed]
                 if left:
                     break
-            return Part(self._nurses(size), self._chance.choice(left or stretches))
+            part = Part(self._nurses(size), self._chance.choice(left or stretches))
+            if self._chance.random() >= CHANGED_SHARE:
+                return part
+            numbers = self._chance.sample(range(len(part.nurses)), min(len(part.nurses), self._chance.randint(1, MOST_CHANGED)))
+            return part._replace(changed=tuple((number, self._chance.choice(part.days)) for number in numbers))
 
     def _nurses(self, size: int) -> Tuple[int, ...]:
         """Nurses for a neighborhood: half of them have rows that cost more at the best prices than their cheapest ones. In every second
@@ -132,8 +149,8 @@ class RowParts:
         skills = [set(self._search.plan.scenario.nurses[name].skills) for name in self._search.plan.nurses]
         return lambda other: self._chance.random() - len(skills[other] & skills[nurse])
 
-    def improve(self, part: Part, solver: LinearSolver, clock: Clock) -> bool:
-        """Looks for better rows of a neighborhood. Returns whether there are some, or there are none."""
+    def improve(self, part: Part, solver: LinearSolver, clock: Clock) -> Tuple[bool, int]:
+        """Looks for better rows of a neighborhood. Returns whether there are some, or there are none, and the work."""
         whole, nurses = self._search, part.nurses
         with self._lock:
             assert whole.rows is not None
@@ -143,21 +160,50 @@ class RowParts:
             # Meanwhile another thread may have found better rows of other nurses, or on other days.
             with self._lock:
                 assert whole.rows is not None
+                if part.changed and whole.rows == rows and whole.swap(_with(rows, part, found)):
+                    return search.value_of(found)
                 kept = whole.keep(_with(whole.rows, part, found), finder) or whole.keep(_with(rows, part, found), finder)
             return search.value_of(found) if kept else None
 
         search = RowSearch(self._pricing(part, rows), solver, clock, offer, lambda: None)
+        search.program.most_iterations = MOST_WORK if part.limited else math.inf
         search.rows = [rows[nurse] for nurse in nurses]
-        search.penalty = search.value_of(search.rows)
-        search.add_roster(search.rows)
-        search.begin_with(whole, nurses, search.rows, part.days)
-        search.generate(clock)
-        name = f"{len(nurses)} nurses" + (f", {len(part.days)} days" if len(part.days) < whole.plan.days else "")
+        try:
+            return self._improve(search, part, clock), search.program.iterations
+        except TimeIsOver:
+            return False, search.program.iterations
+        finally:
+            search.program.close()
+
+    def _improve(self, search: RowSearch, part: Part, clock: Clock) -> bool:
+        """The same by a search over the rows of the neighborhood."""
+        whole, own = self._search, search.rows
+        assert own is not None
+        search.penalty = search.value_of(own)
+        for number, day in part.changed:
+            search.pricing.forbid(number, day, own[number][day])
+        if part.changed and search.penalty is not None:
+            search.penalty += STEP
+        search.add_roster(own)
+        search.begin_at(whole)
+        first, stop = part.days.start, part.days.stop
+        for number, nurse in enumerate(part.nurses):
+            for row in self._known[nurse]:
+                search.add_row(number, own[number][:first] + row[first:stop] + own[number][stop:])
+        try:
+            search.generate(clock)
+        except NoRow:
+            return True
+        name = f"{len(own)} nurses" + (f", {len(part.days)} days" if len(part.days) < whole.plan.days else "")
+        if search.is_proved:
+            return True
         if search.penalty is None or search.gap() > DIVE_GAP:
             found = search.dive(clock)
             if found and search.keep(found, f"{name}, fixing rows"):
                 return True
-        return search.is_proved or search.choose(search.known_within(), clock, name)
+        if part.limited and search.penalty is not None and search.gap() > CHOOSE_GAP:
+            return False
+        return search.choose(search.known_within(), clock, name, MOST_NODES if part.limited else 0)
 
     def _pricing(self, part: Part, rows: Sequence[NurseWeek]) -> Pricing:
         """The rows of a neighborhood, with the demand that the other nurses leave on its days."""

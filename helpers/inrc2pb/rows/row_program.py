@@ -1,131 +1,171 @@
-"""The program that chooses one known row for each nurse, as a linear or integer program in the MPS format."""
+"""The program that chooses one known row for each nurse: a linear program that stays in its solver, and the text of an integer one."""
 
-import copy
+import math
 from typing import Dict, Iterable, List, NamedTuple, Optional, Sequence, Tuple
 
-from ..solvers.answers import Relaxed, SolverFault
+from ..programs.clock import Clock, TimeIsOver
+from ..solvers.answers import SolverFault
+from ..solvers.resident_program import DUAL, OPTIMAL, PRIMAL, Column, LinearProgram
 from .plan import POINT, Plan
-from .pricing import MAX_PRICE, Crews, Prices, NurseWeek
+from .pricing import MAX_PRICE, Crews, NurseWeek, Prices
 
 # The cost of a nurse below a minimum at first, in points, and the maximum cost.
 BELOW_MINIMUM, MOST_BELOW = 3000, 900_000
 # With more crews of several places a column names the places of its row.
 MOST_LINKS = 6000
+# A share is none below this.
+_TINY = 1e-9
+_FREE, _OUT = (0.0, math.inf), (0.0, 0.0)
 
 
-class Column(NamedTuple):
-    """A row of a nurse with its cost in points, the crews for which it counts if it names no places, and its text."""
+class RowColumn(NamedTuple):
+    """A row of a nurse with its cost in points, and its number in the linear program."""
 
     nurse: int
     row: NurseWeek
     cost: int
-    crews: Tuple[int, ...]
-    text: str
+    number: int
 
 
 class Solved(NamedTuple):
     """A solution of the linear program: its value in points, whole prices of places and of nurses in thousandths, the share of each
-    column that it takes, how many nurses are missing below minimums, and by how much one of each other column would raise the value."""
+    column that it takes, how many nurses are missing below minimums, and by how much one of each column would raise the value."""
 
     value: float
     prices: Prices
     nurses: List[int]
     shares: Dict[int, float]
     missing: float
-    rises: Dict[int, float]
-
-
-def _entry(column: str, row: str, value: float) -> str:
-    return f"    {column:<8}  {row:<8}  {value:>12.10g}\n"
+    rises: Sequence[float]
 
 
 class RowProgram:
-    """The known rows of all nurses, numbered as columns, and the texts of programs over some of them."""
+    """The known rows of all nurses, numbered as columns of a linear program. A row of that program is a nurse, a place, or a crew of
+    several places; its first columns are the nurses who are missing at each place, above and below its minimum."""
 
-    def __init__(self, plan: Plan, crews: Crews) -> None:
-        self.columns: List[Column] = []
-        self._crews, self._nurses, self._missing = crews, len(plan.nurses), plan.missing_cost
+    def __init__(self, plan: Plan, crews: Crews, program: LinearProgram) -> None:
+        self.columns: List[RowColumn] = []
+        self._crews, self._nurses, self._program = crews, len(plan.nurses), program
         self.below = BELOW_MINIMUM if plan.charging else 1
         self._known: Dict[Tuple[int, NurseWeek, Tuple[int, ...]], int] = {}
-        # The number of each crew at each of its places: names are the same in all programs.
-        self._at: Dict[Tuple[int, int], int] = {}
+        # The columns of each nurse, those that are not in use, and those that are out because another row of the nurse is held.
+        self._of: List[List[int]] = [[] for _ in plan.nurses]
+        self._dropped: Dict[int, None] = {}
+        self._held: Dict[int, int] = {}
+        # The row of each crew that has several places.
+        self._links: Dict[int, int] = {}
+        # The steps of the simplex method until now, and at most.
+        self.iterations = 0
+        self.most_iterations = math.inf
         # Whether a column names the places of its row. Then the columns of a row have some of its places, and not all.
         self.names_places = sum(len(places) > 1 for places in crews.members) > MOST_LINKS
+        program.add_rows([(1.0, 1.0)] * self._nurses + [(float(optimal), math.inf) for optimal in crews.optimal])
+        asked = list(enumerate(zip(crews.minimum, crews.optimal)))
+        self._below = range(len(asked), 2 * len(asked))
+        missing = [Column(plan.missing_cost, 0.0, best - least, [(self._nurses + place, 1.0)]) for place, (least, best) in asked]
+        program.add_columns(missing + [Column(self.below, 0.0, least, [(self._nurses + place, 1.0)]) for place, (least, _) in asked])
 
-    def add(self, nurse: int, row: NurseWeek, cost: int, prices: Prices, chosen: Sequence[Optional[int]] = ()) -> int:
-        """Adds a row, if it is new. Returns its column. If columns name places, they are these on each day, or else those of the highest
-        prices."""
+    # ---- columns
+
+    def add(self, nurse: int, row: NurseWeek, cost: int, prices: Prices, chosen: Sequence[Optional[int]] = ()) -> Tuple[int, bool]:
+        """Adds a row. Returns its column, and whether it was none in use. If columns name places, they are these on each day, or else those
+        of the highest prices."""
         table = self._crews.of[nurse]
         crews = [table[day][choice] for day, choice in enumerate(row)]
         places = tuple(chosen or (self._crews.best_place(crew, prices) for crew in crews)) if self.names_places else ()
         key = (nurse, row, tuple(-1 if place is None else place for place in places))
-        if key not in self._known:
-            self._known[key] = len(self.columns)
-            self.columns.append(self._column_at(len(self.columns), nurse, row, cost, places))
-        return self._known[key]
+        known = self._known.get(key)
+        if known is not None:
+            was_out = self._dropped.pop(known, 0) is None
+            if was_out:
+                self._program.bound_columns({self.columns[known].number: _FREE})
+            return known, was_out
+        if self.names_places:
+            rows = [None if place is None else self._nurses + place for place in places]
+        else:
+            rows = [self._row_of(crew) for crew in crews]
+        entries = [(nurse, 1.0), *((row, 1.0) for row in rows if row is not None)]
+        number = self._program.add_columns([Column(cost, *_FREE, entries)])
+        self._known[key] = len(self.columns)
+        self._of[nurse].append(len(self.columns))
+        self.columns.append(RowColumn(nurse, row, cost, number))
+        return self._known[key], True
 
-    def _column_at(self, number: int, nurse: int, row: NurseWeek, cost: int, places: Sequence[Optional[int]]) -> Column:
-        """The column of this number. If columns name places, these are its own."""
-        table = self._crews.of[nurse]
-        crews = [table[day][choice] for day, choice in enumerate(row)]
-        named = [self._crews.members[crew] for crew in crews]
-        used = places if self.names_places else tuple(places[0] if len(places) == 1 else None for places in named)
-        links = () if self.names_places else tuple(crew for crew, places in zip(crews, named) if len(places) > 1)
-        name = f"v{number}"
-        rows = [f"n{nurse}", *(f"c{place}" for place in used if place is not None), *(f"k{crew}" for crew in links)]
-        text = (_entry(name, "obj", cost) if cost else "") + "".join(_entry(name, row, 1) for row in rows)
-        return Column(nurse, row, cost, links, text)
+    def _row_of(self, crew: int) -> Optional[int]:
+        """The row in which a crew counts: that of its place, or its own, by which it is at any of its places."""
+        places = self._crews.members[crew]
+        if len(places) < 2:
+            return self._nurses + places[0] if places else None
+        if crew not in self._links:
+            self._links[crew] = self._program.rows
+            self._program.add_rows([_FREE])
+            self._program.add_columns([Column(0.0, *_FREE, [(self._links[crew], -1.0), (self._nurses + place, 1.0)]) for place in places])
+        return self._links[crew]
 
-    def varied(self, crews: Crews, nurses: Iterable[int]) -> "RowProgram":
-        """The same program, if other crews count for the rows of these nurses. Its columns name no places."""
-        other, changed = copy.copy(self), set(nurses)
-        other._crews, other._known, other._at = crews, dict(self._known), dict(self._at)
-        other.columns = list(self.columns)
-        for number, (nurse, row, cost, *_) in enumerate(other.columns):
-            if nurse in changed:
-                other.columns[number] = other._column_at(number, nurse, row, cost, ())
-        return other
+    @property
+    def used(self) -> List[int]:
+        """The columns in use."""
+        return [column for column in range(len(self.columns)) if column not in self._dropped]
 
-    def text(self, use: Iterable[int], whole: bool = False) -> str:
-        """The program over these columns; `whole` makes them integers."""
-        columns = [self.columns[number] for number in use]
-        links = sorted({crew for column in columns for crew in column.crews})
-        places = range(len(self._crews.places))
-        lines = ["NAME          ROWS\nROWS\n N  obj\n"]
-        lines += [f" G  c{place}\n" for place in places] + [f" G  k{crew}\n" for crew in links]
-        lines += [f" E  n{nurse}\n" for nurse in range(self._nurses)]
-        lines.append("COLUMNS\n")
-        limits = []
-        for place, minimum, best in zip(places, self._crews.minimum, self._crews.optimal):
-            for name, most, cost in ((f"u{place}", best - minimum, self._missing), (f"b{place}", minimum, self.below)):
-                if most:
-                    lines.append((_entry(name, "obj", cost) if cost else "") + _entry(name, f"c{place}", 1))
-                    limits.append(f" UP BND       {name:<8}  {most:>12}\n")
-        for crew in links:
-            for place in self._crews.members[crew]:
-                name = f"f{self._at.setdefault((crew, place), len(self._at))}"
-                lines.append(_entry(name, f"c{place}", 1) + _entry(name, f"k{crew}", -1))
-                limits.append(f" PL BND       {name:<8}\n")
-        mark = "    MARKER                 'MARKER'                 'INT{}'\n"
-        lines += [mark.format("ORG")] * whole + [column.text for column in columns] + [mark.format("END")] * whole
-        limits += [f" BV BND       {column.text[4:12]}\n" for column in columns] * whole
-        lines.append("RHS\n")
-        lines += [_entry("RHS", f"c{place}", best) for place, best in zip(places, self._crews.optimal)]
-        lines += [_entry("RHS", f"n{nurse}", 1) for nurse in range(self._nurses)]
-        return "".join([*lines, "BOUNDS\n", *limits, "ENDATA\n"])
+    def drop(self, columns: Iterable[int]) -> None:
+        """Takes columns out of use."""
+        new = [column for column in columns if column not in self._dropped]
+        self._dropped.update(dict.fromkeys(new))
+        self._program.bound_columns({self.columns[column].number: _OUT for column in new})
 
-    def solved(self, found: Relaxed) -> Solved:
-        """A solver's answer in the terms of the plan. Prices that are no prices are cut."""
-        prices = [min(MAX_PRICE, max(0, round(found.prices.get(f"c{place}", 0) * POINT))) for place in range(len(self._crews.places))]
-        nurses = [round(found.prices.get(f"n{nurse}", 0) * POINT) for nurse in range(self._nurses)]
-        shares = {self._column(name): share for name, share in found.taken.items() if name[0] == "v"}
-        missing = sum(share for name, share in found.taken.items() if name[0] == "b")
-        rises = {self._column(name): rise for name, rise in found.rises.items()}
-        return Solved(found.value, prices, nurses, shares, missing, rises)
+    def hold(self, column: int) -> None:
+        """Lets a nurse have the row of this column only."""
+        nurse = self.columns[column].nurse
+        self._held[nurse] = column
+        self._program.bound_columns({self.columns[other].number: _OUT for other in self._of[nurse] if other != column})
+
+    def free(self) -> None:
+        """Lets all nurses have any row in use again."""
+        for nurse, column in self._held.items():
+            back = (other for other in self._of[nurse] if other != column and other not in self._dropped)
+            self._program.bound_columns({self.columns[other].number: _FREE for other in back})
+        self._held.clear()
+
+    def raise_below(self, below: int) -> None:
+        """Changes the cost of a nurse below a minimum."""
+        self.below = below
+        self._program.set_costs(dict.fromkeys(self._below, float(below)))
+
+    def close(self) -> None:
+        """Frees it in its solver."""
+        self._program.close()
+
+    # ---- solutions
+
+    def solve(self, clock: Clock, dual: bool = False) -> Solved:
+        """Solves the linear program from the basis of its last solution; after changes of bounds by the `dual` method. Prices that are no
+        prices are cut."""
+        if self.iterations > self.most_iterations:
+            raise TimeIsOver
+        found = self._program.solve(clock, DUAL if dual else PRIMAL)
+        self.iterations += found.iterations
+        if found.status != OPTIMAL:
+            raise SolverFault("the solver of linear programs found no solution")
+        of_places = found.prices[self._nurses : self._nurses + len(self._crews.places)]
+        prices = [min(MAX_PRICE, max(0, round(price * POINT))) for price in of_places]
+        nurses = [round(price * POINT) for price in found.prices[: self._nurses]]
+        values = found.columns
+        shares = {column: values[of.number] for column, of in enumerate(self.columns) if values[of.number] > _TINY}
+        missing = sum(values[number] for number in self._below)
+        return Solved(found.value, prices, nurses, shares, missing, [found.rises[of.number] for of in self.columns])
+
+    def text(self, use: Iterable[int]) -> str:
+        """The integer program over these columns: column N is vN."""
+        names = [f"x{number}" for number in range(self._program.columns)]
+        for of in self.columns:
+            names[of.number] = ""
+        for column in use:
+            names[self.columns[column].number] = f"v{column}"
+        return self._program.text(names, whole="v")
 
     def chosen(self, names: Iterable[str]) -> Optional[List[int]]:
         """The column of each nurse, by the names that an integer program took; None if a nurse has none or several."""
-        columns = {self.columns[number].nurse: number for number in map(self._column, (name for name in names if name[0] == "v"))}
+        columns = {self.columns[column].nurse: column for column in map(self._column, (name for name in names if name[0] == "v"))}
         return [columns[nurse] for nurse in range(self._nurses)] if len(columns) == self._nurses else None
 
     def _column(self, name: str) -> int:

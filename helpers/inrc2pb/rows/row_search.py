@@ -5,13 +5,15 @@ chooses among all rows that a better roster can have.
 """
 
 import math
+import threading
 from typing import Callable, Dict, List, Optional, Sequence, Tuple
 
-from ..programs.clock import Clock
+from ..programs.clock import Clock, TimeIsOver
+from ..week.faults import Misuse
 from .first_rows import Descent
 from ..solvers.linear_solvers import LinearSolver
 from .plan import POINT, STEP
-from .pricing import Pricing, NurseWeek
+from .pricing import NurseWeek, Priced, Prices, Pricing
 from .row_generation import EXACT, WORTH, RowGeneration
 from .row_program import Solved
 from .skills import staffed
@@ -30,6 +32,13 @@ GIVEN = "the given roster"
 Offer = Callable[[List[NurseWeek], str], Optional[int]]
 
 
+class WrongBound(Misuse):
+    """A bound above the penalty of a roster, so numbers of this computer are wrong."""
+
+    def __init__(self, bound: int, penalty: int) -> None:
+        super().__init__(f"the lower bound {bound} is above the penalty {penalty} of a roster: Python or NumPy computes wrong numbers here")
+
+
 class RowSearch(RowGeneration):
     """A search over the rows of a plan. `offer` gets each roster; `heard` is called if the bound rises, and when it is final."""
 
@@ -45,15 +54,27 @@ class RowSearch(RowGeneration):
         """Whether the best roster costs no more than the bound."""
         return self.penalty is not None and self.lower_bound is not None and self.penalty <= self.lower_bound
 
+    def _meets(self, value: float) -> bool:
+        return self.is_proved or super()._meets(value)
+
     def keep(self, rows: List[NurseWeek], finder: str) -> bool:
         """Offers rows that may be better than the best roster. Returns whether they are."""
         value = self.value_of(rows)
         if value is None or (self.penalty is not None and value >= self.penalty):
             return False
         penalty = self._offer(rows, finder)
+        if penalty is not None and self.plan.adds:
+            penalty = value
         if penalty is None or (self.penalty is not None and penalty >= self.penalty):
             return False
         self.rows, self.penalty = rows, penalty
+        return True
+
+    def swap(self, rows: List[NurseWeek]) -> bool:
+        """Takes other rows that cost as much as those of the best roster. Returns whether they do."""
+        if rows == self.rows or self.value_of(rows) != self.penalty:
+            return False
+        self.rows = rows
         return True
 
     def value_of(self, rows: Sequence[NurseWeek]) -> Optional[int]:
@@ -68,8 +89,9 @@ class RowSearch(RowGeneration):
 
     def begin(self, rows: List[NurseWeek], penalty: Optional[int]) -> None:
         """Begins with these rows, and the penalty of their roster if they are one. Makes them better without a solver, if that is easy."""
-        if penalty is not None:
-            self.rows, self.penalty = rows, penalty
+        value = None if penalty is None else self.value_of(rows)
+        if value is not None:
+            self.rows, self.penalty = rows, value if self.plan.asks else penalty
         descent = Descent(self.pricing, rows)
         try:
             for _ in range(MOST_SWEEPS):
@@ -82,44 +104,72 @@ class RowSearch(RowGeneration):
     # ---- fixed rows
 
     def dive(self, clock: Clock) -> Optional[List[NurseWeek]]:
-        """Fixes rows a few at a time, with new ones in between. Returns a row of each nurse, None if they cannot be better than the best."""
-        columns, chosen = self.program.columns, dict.fromkeys(range(0), 0)
-        share, last = FIRST_SHARE, -math.inf
+        """Fixes rows a few at a time, with new ones in between. Returns a row of each nurse, None if they cannot be better than the
+        best. At the end of the time the other rows are those of the greatest shares, made better one after another."""
+        chosen: Dict[int, int] = {}
+        try:
+            found = self._dive(clock, chosen)
+        except TimeIsOver:
+            self.clock.check()
+            self._round(chosen)
+            return None
+        finally:
+            self.program.free()
+        return [self.program.columns[chosen[nurse]].row for nurse in range(len(self.plan.nurses))] if found else None
+
+    def _round(self, chosen: Dict[int, int]) -> None:
+        """Takes the chosen rows, and the others of the greatest shares in the last solution of all, made better one after another."""
+        columns, shares = self.program.columns, self.solved.shares if self.solved else {}
+        by_nurse = {columns[number].nurse: number for number in sorted(shares, key=shares.__getitem__)}
+        by_nurse.update(chosen)
+        if len(by_nurse) < len(self.plan.nurses):
+            return
+        descent = Descent(self.pricing, [columns[by_nurse[nurse]].row for nurse in range(len(self.plan.nurses))])
+        try:
+            while descent.sweep(self.clock.check):
+                pass
+        finally:
+            self.keep(descent.rows, "fixing rows in a short time")
+
+    def _dive(self, clock: Clock, chosen: Dict[int, int]) -> bool:
+        """Chooses a column of each nurse, by number. Returns whether there is one."""
+        columns = self.program.columns
+        share, last, most_share = FIRST_SHARE, -math.inf, MOST_SHARE if len(self.plan.weeks) == 1 else FIRST_SHARE
         while len(chosen) < len(self.plan.nurses):
             before = clock.left()
-            now, use = self._relaxed_beside(chosen, clock)
+            now = self._relaxed_beside(chosen, clock)
             if self.penalty is not None and now.value > self.penalty - STEP + EXACT:
-                return None
-            share = min(MOST_SHARE, share * 1.5) if now.value <= last + EXACT else max(LEAST_SHARE, share * 0.7)
+                return False
+            share = min(most_share, share * 1.5) if now.value <= last + EXACT else max(LEAST_SHARE, share * 0.7)
             last = now.value
             free = len(self.plan.nurses) - len(chosen)
             # So many at once that the time is enough.
             hurry = HURRY * (before - clock.left()) / max(EXACT, clock.left())
             most = max(1, int(max(share, hurry) * free))
             fixed = 0
-            for number in sorted((number for number in now.shares if columns[number].nurse not in chosen), key=lambda number: -now.shares[number]):
+            for number in sorted(
+                (number for number in now.shares if columns[number].nurse not in chosen), key=lambda number: -now.shares[number]
+            ):
                 if columns[number].nurse not in chosen and (fixed < most or now.shares[number] > 0.999):
                     chosen[columns[number].nurse] = number
+                    self.program.hold(number)
                     fixed += 1
             if not fixed:
-                number = next(number for number in use if columns[number].nurse not in chosen)
-                chosen[columns[number].nurse] = number
-        return [columns[chosen[nurse]].row for nurse in range(len(self.plan.nurses))]
+                return False
+        return True
 
-    def _relaxed_beside(self, chosen: Dict[int, int], clock: Clock) -> Tuple[Solved, List[int]]:
+    def _relaxed_beside(self, chosen: Dict[int, int], clock: Clock) -> Solved:
         """The linear program with these columns fixed, and some new rows for the other nurses."""
         free = [nurse for nurse in range(len(self.plan.nurses)) if nurse not in chosen]
         rounds = DIVE_ROUNDS if chosen else 1
         for turn in range(rounds):
-            use = [number for number in self._used if chosen.get(self.program.columns[number].nurse, number) == number]
-            now = self._relax(use, clock)
-            new = 0
+            now, new = self.program.solve(clock, dual=turn == 0), 0
             for nurse, priced in self._priced(now.prices, free, clock).items() if turn < rounds - 1 else ():
                 if priced.value - now.nurses[nurse] < -WORTH:
                     new += self._add(nurse, priced.row, priced.cost, now.prices)
             if not new:
                 break
-        return now, use
+        return now
 
     # ---- the rows of a better roster
 
@@ -149,13 +199,20 @@ class RowSearch(RowGeneration):
         columns = enumerate(self.program.columns)
         return [number for number, (nurse, row, cost, *_) in columns if self._reduced(nurse, row, cost) <= found[nurse].value + gap]
 
-    def choose(self, use: Sequence[int], clock: Clock, finder: str) -> bool:
-        """Lets the integer program choose among these columns. Returns whether the solver claims that their rows have nothing better
-        than the best roster now."""
+    def cheapest_known(self, most: int) -> List[List[NurseWeek]]:
+        """So many of the known rows of each nurse, those of the best prices first."""
+        found: List[List[Tuple[int, NurseWeek]]] = [[] for _ in self.plan.nurses]
+        for nurse, row, cost, _ in self.program.columns:
+            found[nurse].append((self._reduced(nurse, row, cost), row))
+        return [[row for _, row in sorted(rows)[:most]] for rows in found]
+
+    def choose(self, use: Sequence[int], clock: Clock, finder: str, nodes: int = 0) -> bool:
+        """Lets the integer program choose among these columns, in at most so many nodes, if that is not 0. Returns whether the solver
+        claims that their rows have nothing better than the best roster now."""
         if self._solver is None or not self._solver.chooses:
             return False
         cutoff = None if self.penalty is None else self.penalty - STEP
-        found = self._solver.choose(self.program.text(use, whole=True), clock, cutoff, STEP)
+        found = self._solver.choose(self.program.text(use), clock, cutoff, STEP, nodes)
         columns = self.program.chosen(found.names or ())
         rows = [self.program.columns[number].row for number in columns or ()]
         if columns:
@@ -177,3 +234,31 @@ class RowSearch(RowGeneration):
             self.add_row(nurse, row)
         wanted = set(found)
         return [number for number, column in enumerate(self.program.columns) if (column.nurse, column.row) in wanted]
+
+
+class WholeSearch(RowSearch):
+    """The search over all rows of a plan, whose best roster several threads may improve. It refutes a bound above its penalty."""
+
+    def __init__(self, pricing: Pricing, solver: Optional[LinearSolver], clock: Clock, offer: Offer, heard: Callable[[], None]) -> None:
+        super().__init__(pricing, solver, clock, offer, heard)
+        self._lock = threading.RLock()
+
+    def keep(self, rows: List[NurseWeek], finder: str) -> bool:
+        """Offers rows that may be better than the best roster. Returns whether they are."""
+        with self._lock:
+            is_better = super().keep(rows, finder)
+            self._check_bound()
+            return is_better
+
+    def swap(self, rows: List[NurseWeek]) -> bool:
+        """Takes other rows that cost as much as those of the best roster. Returns whether they do."""
+        with self._lock:
+            return super().swap(rows)
+
+    def _raise_bound(self, prices: Prices, found: Dict[int, Priced]) -> None:
+        super()._raise_bound(prices, found)
+        self._check_bound()
+
+    def _check_bound(self) -> None:
+        if self.penalty is not None and self.lower_bound is not None and self.penalty < self.lower_bound:
+            raise WrongBound(self.lower_bound, self.penalty)

@@ -94,3 +94,12 @@ def _cells(plan: Plan, crews: Crews, key: Tuple[int, int], members: Dict[int, Li
             own = plan.nurses[nurse]
             skill = skills[index] if index < len(skills) else plan.held_skill(own, day) or plan.scenario.nurses[own].skills[0]
             yield Cell(own, day, name, skill)
+
+
+def rows_of(plan: Plan, cells: Iterable[Cell]) -> List[NurseWeek]:
+    """The rows of a roster, whose days are those of the plan."""
+    numbers = {shift: number for number, shift in enumerate(plan.scenario.shift_types, 1)}
+    rows = {nurse: bytearray(plan.days) for nurse in plan.nurses}
+    for cell in cells:
+        rows[cell.nurse][cell.day] = numbers[cell.shift]
+    return [bytes(row) for row in rows.values()]

@@ -5,10 +5,12 @@ from pathlib import Path
 from typing import Callable, List, Optional, Sequence, Tuple
 
 from ..judging.absences import absences_of, working_while_away
+from ..judging.limits import exceeded, excess
 from ..week.faults import FileFault, ProgramFault
 from ..week.files import read_solution, write_solution
 from ..week.records import Cell, Solution, Week
 from ..judging.misfits import explained, other_week, read_roster
+from ..judging.rules import Charge
 from ..programs.program import BROKEN_RULE, Report, WeekFiles, decode, extend
 
 # Gets the penalty of a better roster, and the name of what found it.
@@ -16,14 +18,14 @@ Announce = Callable[[int, str], None]
 
 
 class BestRoster:
-    """Keeps the best roster in the file `solution`, which always has a whole roster: it breaks the fewest absences, and costs the least
-    of those. `proved` says whether no roster costs less."""
+    """Keeps the best roster in the file `solution`, which always has a whole roster: it breaks the fewest absences, exceeds limits the
+    least of those, and then costs the least. `proved` says whether no roster costs less."""
 
     def __init__(self, files: WeekFiles, week: Week, solution: Path, announce: Announce) -> None:
         self._files, self._week, self._solution, self._announce = files, week, solution, announce
         self._absences = absences_of(week.data)
         self._report: Optional[Report] = None
-        self._cells: Sequence[Cell] = ()
+        self.cells: Sequence[Cell] = ()
         self._answer = ""
         self.proved = False
 
@@ -34,11 +36,20 @@ class BestRoster:
 
     def breaks(self) -> List[Cell]:
         """The assignments of the best roster that break an absence."""
-        return working_while_away(self._absences, self._cells)
+        return working_while_away(self._absences, self.cells)
 
-    def _rank(self, cells: Sequence[Cell], report: Report) -> Tuple[int, int]:
+    def exceeds(self) -> List[Charge]:
+        """What the best roster has above the limits that are kept."""
+        return exceeded(self._week, self._week.data.limits, self.cells)
+
+    @property
+    def keeps_all(self) -> bool:
+        """Whether there is a roster, and it keeps all absences and limits."""
+        return self._report is not None and not (self.breaks() or self.exceeds())
+
+    def _rank(self, cells: Sequence[Cell], report: Report) -> Tuple[int, int, int]:
         """A smaller rank is better."""
-        return len(working_while_away(self._absences, cells)), report.penalty
+        return len(working_while_away(self._absences, cells)), excess(exceeded(self._week, self._week.data.limits, cells)), report.penalty
 
     def offer(self, cells: Sequence[Cell], finder: str) -> Optional[int]:
         """Keeps the roster if it is better than the best one. Returns its penalty; None if it breaks a hard rule."""
@@ -52,9 +63,9 @@ class BestRoster:
                 if fault.status != BROKEN_RULE:
                     raise
                 return None
-        if self._report is None or self._rank(cells, report) < self._rank(self._cells, self._report):
+        if self._report is None or self._rank(cells, report) < self._rank(self.cells, self._report):
             write_solution(self._solution, solution)
-            self._answer, self._report, self._cells = answer, report, cells
+            self._answer, self._report, self.cells = answer, report, cells
             self._announce(report.penalty, finder)
         return report.penalty
 

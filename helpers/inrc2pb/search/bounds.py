@@ -1,16 +1,17 @@
 """Lower bounds from prices: `inrc2pb-bound` proves those of a week, and `inrc2pb-period-bound` those of several weeks. Without them they
 are computed in plain Python."""
 
+import contextlib
 import os
 import re
 import tempfile
-from dataclasses import dataclass
+from dataclasses import dataclass, replace
 from pathlib import Path
 from typing import Callable, List, Optional, Sequence, Tuple
 
 from ..rows.cases import PricedCase
+from ..rows.certificate import Certificate, Leaf, table_lines
 from ..week.faults import ProgramFault
-from ..rows.plan import WEEK_DAYS
 from ..rows.pricing import Prices
 from ..programs.processes import Processes
 from ..programs.program import LONGEST_RUN, WeekFiles, find_program, run_unless_stopped
@@ -19,7 +20,9 @@ from ..week.writing import write_text
 
 PROVER, PERIOD_PROVER, PLAIN = "inrc2pb-bound", "inrc2pb-period-bound", "plain Python, not proved"
 # The options of the programs for what proves a bound.
-PRICES, CASES = "--prices", "--cases"
+PRICES, CASES, PROOF = "--prices", "--cases", "--proof"
+# Seconds for the help of a program.
+HELP_SECONDS = 5.0
 # The options of a week's files, and the text of its prices or cases.
 PricedWeek = Tuple[Sequence[str], str]
 
@@ -32,25 +35,16 @@ def find_prover(name: str) -> Optional[Path]:
 
 def prices_text(scenario: Scenario, places: Sequence[Place], prices: Prices) -> str:
     """The text of a file of prices, in thousandths, for one week."""
-    return "\n".join(["PRICES", scenario.name, "", *_rows(places, prices)]) + "\n"
+    return "\n".join(["PRICES", scenario.name, "", *table_lines(places, prices)]) + "\n"
 
 
 def cases_text(scenario: Scenario, places: Sequence[Place], nurses: Sequence[str], cases: Sequence[PricedCase]) -> str:
     """The text of a file of cases, each with a table of prices, for one week."""
     lines = ["CASES", scenario.name, "", f"OFF = {len(cases) - 1}"]
     for off, prices in cases:
-        head, *rows = _rows(places, prices)
+        head, *rows = table_lines(places, prices)
         lines += [f"{nurses[off[0]]} {DAYS[off[1]]} {head}" if off else f"REST {head}", *rows]
     return "\n".join(lines) + "\n"
-
-
-def _rows(places: Sequence[Place], prices: Prices) -> List[str]:
-    """The rows of a table of prices, after their number."""
-    rows: "dict[tuple[str, str], List[int]]" = {}
-    for place, price in zip(places, prices):
-        if price:
-            rows.setdefault((place.shift, place.skill), [0] * WEEK_DAYS)[place.day] = price
-    return [f"ROWS = {len(rows)}", *(" ".join([shift, skill, *map(str, row)]) for (shift, skill), row in rows.items())]
 
 
 @dataclass(frozen=True)
@@ -62,6 +56,10 @@ class Bound:
     # The option of the file that proves it.
     option: str = PRICES
 
+    def is_believed(self, penalty: Optional[int]) -> bool:
+        """Whether no roster that is known, with this penalty, refutes it."""
+        return penalty is None or self.points <= penalty
+
 
 class Prover:
     """A program that proves bounds. It has no answer if it is not there, and none after a fault, which `warn` gets."""
@@ -69,13 +67,16 @@ class Prover:
     def __init__(self, name: str, processes: Processes, warn: Callable[[str], None]) -> None:
         self.name, self._processes, self._warn = name, processes, warn
         self._program = find_prover(name)
+        self._help: Optional[str] = None
 
     @property
     def works(self) -> bool:
         """Whether the program is there and had no fault."""
         return self._program is not None
 
-    def answer(self, weeks: Sequence[PricedWeek], words: Sequence[str] = (), seconds: float = LONGEST_RUN, option: str = PRICES) -> Optional[str]:
+    def answer(
+        self, weeks: Sequence[PricedWeek], words: Sequence[str] = (), seconds: float = LONGEST_RUN, option: str = PRICES
+    ) -> Optional[str]:
         """What the program prints about these weeks, with their texts as files of this option."""
         if self._program is None:
             return None
@@ -85,11 +86,7 @@ class Prover:
                 path = Path(folder, f"prices-{number}.txt")
                 write_text(path, text)
                 given += [*options, option, str(path)]
-            try:
-                return run_unless_stopped(self._program, [*given, *words], seconds, self._processes)
-            except ProgramFault as fault:
-                self.fail(str(fault))
-                return None
+            return self._run([*given, *words], seconds)
 
     def bound(self, weeks: Sequence[PricedWeek], seconds: float = LONGEST_RUN, option: str = PRICES) -> Optional[Bound]:
         """The bound that the program proves by the texts."""
@@ -101,6 +98,24 @@ class Prover:
             self.fail("its answer is no bound")
         return Bound(int(found[1]), self.name, option) if found else None
 
+    def reads(self, option: str) -> bool:
+        """Whether the program has this option."""
+        if self._help is None and self._program:
+            self._help = ""
+            with contextlib.suppress(ProgramFault):
+                self._help = run_unless_stopped(self._program, ["--help"], HELP_SECONDS, self._processes) or ""
+        return f"{option} " in (self._help or "")
+
+    def _run(self, words: Sequence[str], seconds: float) -> Optional[str]:
+        """What the program prints."""
+        if self._program is None:
+            return None
+        try:
+            return run_unless_stopped(self._program, words, seconds, self._processes)
+        except ProgramFault as fault:
+            self.fail(str(fault))
+            return None
+
     def fail(self, fault: str) -> None:
         """From now on the program has no answer."""
         self._program = None
@@ -108,21 +123,24 @@ class Prover:
 
 
 class Bounds:
-    """The bounds of a week. `target` is the file that gets the prices or the cases of the best one, if any. After a fault of `inrc2pb-bound`, which
-    `warn` gets, bounds are computed in plain Python."""
+    """The bounds of a week. `target` is the file that gets the prices or the cases of the best one, if any. After a fault of
+    `inrc2pb-bound`, which `warn` gets, bounds are computed in plain Python."""
 
-    def __init__(self, files: WeekFiles, scenario: Scenario, places: Sequence[Place], target: Optional[Path], warn: Callable[[str], None]) -> None:
-        self._files, self._scenario, self._places, self._target = files, scenario, places, target
+    def __init__(
+        self, files: WeekFiles, week: int, scenario: Scenario, places: Sequence[Place], target: Optional[Path], warn: Callable[[str], None]
+    ) -> None:
+        self._files, self._week, self._scenario, self._places, self._target = files, week, scenario, places, target
         # Ctrl-C does not end a proof of one week, which takes moments.
         self._prover = Prover(PROVER, Processes(), warn)
         self._seen: Optional[Prices] = None
+        self._certified: Optional[Certificate] = None
         self._best: Optional[Bound] = None
 
     def of(self, prices: Prices, plain: Callable[[], int]) -> Bound:
         """The bound of these prices; `plain` computes it in plain Python."""
         if prices is not self._seen or self._best is None:
             self._seen = prices
-            self._take(self._priced(prices), PRICES, plain)
+            self._take(*self._priced(prices), plain)
         assert self._best is not None
         return self._best
 
@@ -130,6 +148,13 @@ class Bounds:
         """The best bound, after one by cases; `plain` computes it in plain Python."""
         self._take((self._files.options(), cases_text(self._scenario, self._places, nurses, cases)), CASES, plain)
         assert self._best is not None
+        return self._best
+
+    def prove(self, certificate: Certificate) -> Optional[Bound]:
+        """The best bound, after one by a certificate; only a program that reads it proves it."""
+        if certificate is not self._certified and self._prover.reads(PROOF):
+            self._certified = certificate
+            self._take(self._certificate(certificate), PROOF, lambda: 0)
         return self._best
 
     def _take(self, week: PricedWeek, option: str, plain: Callable[[], int]) -> None:
@@ -142,14 +167,22 @@ class Bounds:
     def no_roster(self, places: Sequence[Place], prices: Prices) -> Optional[str]:
         """What proved by these prices that no roster keeps the minimums; None if they do not prove it."""
         self._places = places
-        self._write(self._priced(prices))
-        answer = self._prover.answer([self._priced(prices)], ["--minimums"])
+        week, option = self._priced(prices)
+        self._write(week)
+        answer = self._prover.answer([week], ["--minimums"], option=option)
         if answer is None:
             return PLAIN
         return PROVER if answer.startswith("no roster exists") else None
 
-    def _priced(self, prices: Prices) -> PricedWeek:
-        return self._files.options(), prices_text(self._scenario, self._places, prices)
+    def _priced(self, prices: Prices) -> Tuple[PricedWeek, str]:
+        """The week with these prices, and the option for them."""
+        if self._prover.reads(PROOF):
+            return self._certificate(Certificate(1, self._places, Leaf(prices))), PROOF
+        return (self._files.options(), prices_text(self._scenario, self._places, prices)), PRICES
+
+    def _certificate(self, certificate: Certificate) -> PricedWeek:
+        fix = ["--fix", f"{self._week}={self._files.fix}"] if self._files.fix else []
+        return [*replace(self._files, fix=None).options(), *fix], certificate.text(self._scenario.name)
 
     def _write(self, week: PricedWeek) -> None:
         if self._target:

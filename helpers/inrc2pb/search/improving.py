@@ -3,12 +3,15 @@
 import os
 import shutil
 import tempfile
+from dataclasses import replace
 from pathlib import Path
-from typing import List, Optional, Sequence
+from typing import Iterator, List, Optional, Sequence
 
 from ..judging.absences import in_words, way_out
+from ..judging.given import read_given, with_given
+from ..judging.limits import limits_in_words, limits_way_out
 from .best_roster import BestRoster
-from .bounds import CASES, PROVER
+from .bounds import PLAIN, PRICES, PROVER
 from ..programs.clock import Clock
 from ..week.faults import Misuse, ProgramFault
 from ..week.files import read_files
@@ -27,19 +30,23 @@ SECONDS = 120.0
 class SearchResult:
     """The result of a search: the report of the best roster, and the lower bound or None, with what proved or computed it.
 
-    `proved` says whether no roster costs less, `breaks` whether this one breaks an absence, `stopped` whether the user stopped the search;
-    `fault` is the fault that ended it.
+    `proved` says whether no roster costs less, `breaks` whether this one breaks an absence and `exceeds` whether a limit, `stopped`
+    whether the user stopped the search; `fault` is the fault that ended it.
     """
 
     def __init__(
-        self, report: Report, search: WeekSearch, best: BestRoster, stopped: bool, fault: Optional[BaseException], prices: Optional[Path] = None
+        self, report: Report, search: WeekSearch, best: BestRoster, stopped: bool, fault: Optional[BaseException],
+        prices: Optional[Path] = None,
     ) -> None:
         self.report = report
         self.breaks = bool(best.breaks())
+        self.exceeds = bool(best.exceeds())
+        self.kept_bound = 0 if self.breaks or self.exceeds else search.kept_bound
         self.bound = search.bound.points if search.bound else None
         self.bound_by = search.bound.by if search.bound else ""
-        # The file that has cases in place of prices, if any.
-        self.cases = prices if search.bound and search.bound.option == CASES else None
+        # What reads the file of what proves the bound, if that is not prices.
+        option = search.bound.option if search.bound else PRICES
+        self.reads = f"{PROVER} {option} reads {prices}" if prices and option != PRICES else ""
         self.claimed_by = search.claimed_by
         self.proved = best.proved
         self.stopped = stopped
@@ -47,34 +54,43 @@ class SearchResult:
 
     def lines(self) -> List[str]:
         """The lines that follow the report."""
-        return [*self._bound_lines(), *([f"{self.cases} has cases: {PROVER} {CASES} reads them"] if self.cases else [])]
+        return [*self._bound_lines(), *([self.reads] if self.reads else [])]
 
     def _bound_lines(self) -> List[str]:
         if self.bound is None:
             return ["no lower bound"]
-        line = f"lower bound {self.bound} ({self.bound_by})"
+        line, best = f"lower bound {self.bound} ({self.bound_by})", max(self.bound, self.kept_bound)
+        if best > self.bound:
+            line += f", {best} with all absences and limits ({PLAIN})"
         if self.proved and self.breaks:
             return [line, "no roster costs less, but this one breaks an absence"]
+        if self.proved and self.exceeds:
+            return [line, "no roster costs less, but this one exceeds a limit"]
         reached = self.bound_by != self.claimed_by and self.bound >= self.report.penalty
         if self.proved and self.claimed_by and not reached:
-            only = f"; without {self.claimed_by} only the lower bound is known" if self.bound < self.report.penalty else ""
+            only = "; without that only the lower bound is known" if self.bound < self.report.penalty else ""
             return [line, f"no roster costs less, says {self.claimed_by}{only}"]
         if self.proved:
             return [line, "no roster costs less" + (", proved" if self.bound_by == PROVER else "")]
-        gap = self.report.penalty - self.bound
-        return [f"{line}: the gap is {gap}, {gap_share(self.report.penalty, self.bound)}"]
+        if best >= self.report.penalty:
+            return [line, "no roster that keeps all absences and limits costs less"]
+        if self.claimed_by:
+            says = f"no roster that keeps all absences and limits costs less, says {self.claimed_by}"
+            return [line, f"{says}; without that only the lower bound is known"]
+        return [f"{line}: the gap is {self.report.penalty - best}, {gap_share(self.report.penalty, best)}"]
 
 
 def improve(
-    files: WeekFiles, solution: Path, *, start: Optional[Path] = None, seconds: float = SECONDS, solver: Optional[str] = None, prices: Optional[Path] = None
+    files: WeekFiles, solution: Path, *, start: Optional[Path] = None, seconds: float = SECONDS, solver: Optional[str] = None,
+    prices: Optional[Path] = None, seed: int = 1,
 ) -> SearchResult:
     """Searches for these seconds, writes the best roster to `solution`, and returns its report and lower bound.
 
-    `start` is the roster to begin with, if it is not the one that `solution` has of this week, `solver` a command that solves the whole week in place of the search over rows, and
-    `prices` the file for the prices, or the cases with prices, that prove the bound. Ctrl-C, TERM or a fault end the search: the roster is written, then
-    KeyboardInterrupt or the fault is raised.
+    `start` is the roster to begin with, if it is not the one that `solution` has of this week, `solver` a command that solves the whole
+    week in place of the search over rows, and `prices` the file for the prices, or the cases with prices, that prove the bound. The `seed`
+    begins the random choices. Ctrl-C, TERM or a fault end the search: the roster is written, then KeyboardInterrupt or the fault is raised.
     """
-    outcome = search(files, solution, start, seconds, solver, prices, Progress(None))
+    outcome = search(files, solution, start, seconds, solver, prices, Progress(None), seed)
     if outcome.fault:
         raise outcome.fault
     if outcome.stopped:
@@ -83,15 +99,16 @@ def improve(
 
 
 def search(
-    files: WeekFiles, solution: Path, start: Optional[Path], seconds: float, solver: Optional[str], prices: Optional[Path], progress: Progress
+    files: WeekFiles, solution: Path, start: Optional[Path], seconds: float, solver: Optional[str], prices: Optional[Path],
+    progress: Progress, seed: int = 1,
 ) -> SearchResult:
     """As `improve`, with its progress printed. A fault is raised only if there is no roster; a signal is no fault."""
     clock = Clock(seconds)
-    inputs = (files.scenario, files.history, files.week, files.fix)
+    inputs = (files.scenario, files.history, files.week, files.fix, files.given)
     check_no_pipes((*inputs, start))
     solution = Path(solution).absolute()
     own = find_solver(solver) if solver else None
-    week = read_files(files.scenario, files.history, files.week)
+    week = read_week_given(files)
     held = held_rows(files.fix, week, progress) if files.fix else ()
     for target, what in ((solution, "the roster"), (prices, "the prices")):
         if target:
@@ -101,7 +118,7 @@ def search(
     if prices and os.path.realpath(solution) == os.path.realpath(prices) != os.devnull:
         raise Misuse(f"{prices} gets the roster, so the prices cannot be written to it: choose another file")
     best = BestRoster(files, week, solution, progress.improved)
-    running = WeekSearch(files, week, held, best, clock, progress)
+    running = WeekSearch(files, week, held, best, clock, progress, seed)
     fault: Optional[BaseException] = None
     with interrupts() as signals:
         folder = Path(tempfile.mkdtemp(prefix="inrc2pb-improve-"))
@@ -118,10 +135,29 @@ def search(
             progress.finish()
             shutil.rmtree(folder, ignore_errors=True)
         outcome = _result(best, running, bool(signals.caught), fault, seconds, prices)
-        if best.breaks():
-            progress.warn(f"no roster was found that keeps every absence: {in_words(best.breaks())}")
-            progress.warn(way_out(week.scenario, held, best.breaks()))
+        for line in _not_kept(week, held, best):
+            progress.warn(line)
         return outcome
+
+
+def read_week_given(files: WeekFiles) -> Week:
+    """Reads the files of a week, with the facts that are given."""
+    week = read_files(files.scenario, files.history, files.week)
+    if files.given is None:
+        return week
+    claims = read_given(files.given, week.scenario)
+    return replace(week, data=with_given(week.scenario, week.data, claims, week.history.week))
+
+
+def _not_kept(week: Week, held: Sequence[Cell], best: BestRoster) -> Iterator[str]:
+    """Who works while away or exceeds a limit in the best roster, and what to do."""
+    broken, over = best.breaks(), best.exceeds()
+    if broken:
+        yield f"no roster was found that keeps every absence: {in_words(broken)}"
+        yield way_out(week.scenario, held, broken)
+    if over:
+        yield f"no roster was found that keeps every limit: {limits_in_words(over, best.cells)}"
+        yield limits_way_out(week, over, best.cells)
 
 
 def _result(
@@ -129,7 +165,8 @@ def _result(
 ) -> SearchResult:
     """The result of a search that has ended. Without a roster it is a ProgramFault that says why."""
     bound = running.bound
-    best.proved = best.penalty is not None and (bool(running.claimed_by) or (bound is not None and best.penalty <= bound.points))
+    claimed = bool(running.claimed_by) and not running.claims_kept
+    best.proved = best.penalty is not None and (claimed or (bound is not None and best.penalty <= bound.points))
     try:
         report = best.report()
     except (ProgramFault, OSError) as unreported:

@@ -2,16 +2,17 @@
 
 import tempfile
 from pathlib import Path
-from typing import Callable, List, Optional, Sequence
+from typing import Callable, List, Optional, Sequence, Tuple
 
-from .bounds import PERIOD_PROVER, Bound
+from .bounds import PLAIN, Bound
 from ..programs.clock import Clock
 from ..week.faults import ProgramFault
 from ..week.records import Cell
 from ..solvers.linear_solvers import INSTALL, LinearSolver, LinearSolvers, installed
 from ..judging.next_history import next_history
 from .period_bound import PeriodBound
-from ..rows.plan import WEEK_DAYS, Plan
+from ..judging.runs import NEVER
+from ..rows.plan import ABSENCES_KEPT, STRICT, WEEK_DAYS, Plan
 from .planned_weeks import PlannedWeeks
 from ..rows.pricing import NurseWeek
 from ..programs.processes import Processes
@@ -21,12 +22,12 @@ from ..rows.row_arrays import INSTALL as INSTALL_NUMPY
 from ..rows.row_arrays import numpy
 from ..rows.row_run import RowRun
 from ..rows.row_search import GIVEN
-from ..rows.skills import staffed
+from ..rows.skills import rows_of, staffed
 
 # The cells of a plan from which on NumPy makes a difference.
 LARGE = 400
 # The most of the time that goes to a first plan, week after week.
-FIRST_SHARE = 0.25
+FIRST_SHARE = 0.1
 
 # Writes rosters of all weeks, whose days count from the first one, to where they belong.
 Keep = Callable[[Sequence[Cell]], None]
@@ -34,18 +35,27 @@ Keep = Callable[[Sequence[Cell]], None]
 
 class PeriodSearch:
     """A search within the time of its clock. `keep` gets each better plan, after `inrc2pb extend` has checked its rosters; `prices` is the
-    folder for the prices of the bound, if any.
+    folder for the prices of the bound, and `start` the plan to begin with, if any. It may break rules: then its weeks of nurses are of use.
+    The `seed` begins the random choices of the search.
 
     `penalty` is that of the best plan, with the forecast of weeks that are not known; `bound` is what no plan costs less than.
     """
 
-    def __init__(self, weeks: PlannedWeeks, keep: Keep, clock: Clock, progress: Progress, prices: Optional[Path] = None) -> None:
+    def __init__(
+        self, weeks: PlannedWeeks, keep: Keep, clock: Clock, progress: Progress, prices: Optional[Path] = None,
+        start: Optional[Sequence[Cell]] = None, seed: int = 1,
+    ) -> None:
         self._weeks, self._keep, self._clock, self._progress, self._prices = weeks, keep, clock, progress, prices
         self._processes = Processes()
         self._proof = PeriodBound(weeks, clock, progress.warn)
+        self._start, self._seed = start, seed
         self.penalty: Optional[int] = None
         self.bound: Optional[Bound] = None
         self._cells: Sequence[Cell] = ()
+        # How much of the absences and limits the best plan does not keep, and its penalty: a smaller rank is better.
+        self._rank: Optional[Tuple[int, int, int]] = None
+        # What no plan that keeps all absences and limits costs less than, by plain Python.
+        self._kept_bound = 0
 
     def interrupt(self) -> None:
         """Ends the search now: the best plan was kept."""
@@ -56,7 +66,7 @@ class PeriodSearch:
     def run(self) -> None:
         """Searches until the time is over or the best plan is found. Without a plan it is a ProgramFault that says why.
 
-        Plans keep all absences, unless none can.
+        Plans keep all absences and limits, unless none can.
         """
         with tempfile.TemporaryDirectory(prefix="inrc2pb-period-") as folder:
             try:
@@ -81,15 +91,18 @@ class PeriodSearch:
         elif numpy is None and len(plan.nurses) * plan.days >= LARGE:
             self._progress.warn(INSTALL_NUMPY)
         (folder / "trial").mkdir()
-        solver = LinearSolvers(names, self._processes, folder, self._progress.warn) if names else None
-        run = self._over_rows(plan, solver, folder / "trial")
-        if plan.away and self.penalty is None:
-            run = self._over_rows(plan.without_absences(), solver, folder / "trial")
+        solver = LinearSolvers(names, self._processes, folder, self._progress.warn, resident=True) if names else None
+        try:
+            run = self._over_rows(plan, solver, folder / "trial")
+            for less_strict in plan.less_strict():
+                broken, above, _ = self._rank or (1, 1, 0)
+                if broken or (above and less_strict.keeping.absence == NEVER):
+                    run = self._over_rows(less_strict, solver, folder / "trial")
+        finally:
+            if solver:
+                solver.close()
         if self.penalty is None:
             raise ProgramFault(NO_ROSTER, self._why_none(run))
-        self._progress.finish()
-        for warning in self._weeks.broken_absences(self._cells):
-            self._progress.warn(warning)
 
     def _over_rows(self, plan: Plan, solver: Optional[LinearSolver], trial: Path) -> RowRun:
         """One search over the rows of the plan."""
@@ -99,24 +112,40 @@ class PeriodSearch:
             penalty = self._checked(cells, trial)
             if penalty is None:
                 return None
-            self._keep(cells)
-            self._cells = cells
-            self.penalty = run.search.value_of(rows) if self._weeks.later() and run.search else penalty
-            self._progress.improved(penalty, "week after week" if finder == GIVEN else finder)
+            value = run.search.value_of(rows) if self._weeks.later() and run.search and not plan.adds else None
+            rank = (*self._weeks.not_kept(cells), penalty if value is None else value)
+            if self._rank is None or rank < self._rank or value is not None:
+                self._keep(cells)
+                self._cells, self._rank, self.penalty = cells, rank, rank[2]
+                given = "week after week" if self._start is None else "the earlier plan"
+                self._progress.improved(penalty, given if finder == GIVEN else finder)
             # Before the search, the cost of the weeks that are not known is not known either.
-            return self.penalty if run.search or not self._weeks.later() else None
+            return rank[2] if run.search or not self._weeks.later() else None
 
         def heard() -> None:
             if run.search is None or run.search.lower_bound is None or self._weeks.later():
                 return
             self._proof.heard(run.search)
-            # With absences it is a bound of the plans that keep them.
-            if not plan.away:
+            # With absences and limits it is a bound of the plans that keep them.
+            if not plan.asks:
                 self._progress.bound_rose(run.search.lower_bound)
+            elif plan.keeping == STRICT:
+                self._kept_bound = max(self._kept_bound, run.search.lower_bound)
 
-        run = RowRun(plan, solver, self._clock, offer, heard, self._week_after_week(plan, solver))
+        def proves() -> bool:
+            return run.certificate is not None and self._proof.prove(run.certificate, self.penalty)
+
+        cases = self._proof.reads_certificates and not plan.asks and not self._weeks.later()
+        run = RowRun(plan, solver, self._clock, offer, heard, self._first(plan, solver), self._seed, proves if cases else None)
         run.run()
+        proves()
         return run
+
+    def _first(self, plan: Plan, solver: Optional[LinearSolver]) -> Optional[List[NurseWeek]]:
+        """The rows to begin with: those of the given plan, as far as they keep the absences, or of one week after another."""
+        if self._start is None:
+            return self._week_after_week(plan, solver)
+        return rows_of(plan, (cell for cell in self._start if not plan.is_away(cell.nurse, cell.day, cell.shift)))
 
     def _week_after_week(self, plan: Plan, solver: Optional[LinearSolver]) -> Optional[List[NurseWeek]]:
         """Rows of all weeks, each planned before the next one and with what it may charge early; None if a week has no roster."""
@@ -130,7 +159,7 @@ class PeriodSearch:
                 found.append(better)
                 return run.search.value_of(better) if run.search else None
 
-            week = Plan.of(plan.scenario, history, [data], True, held, keeps=bool(plan.away))
+            week = Plan.of(plan.scenario, history, [data], True, held, ABSENCES_KEPT if plan.keeping == STRICT else plan.keeping)
             run = RowRun(week, solver, self._clock.part(seconds), offer, lambda: None)
             run.run()
             if not found:
@@ -154,9 +183,13 @@ class PeriodSearch:
             return "stopped before the first plan"
         if run.without_row:
             return f"no rosters keep the hard rules: the held rows of {run.without_row} contradict one another"
-        if run.minimums or run.claimed:
+        if run.minimums or run.claim:
             return "no rosters keep the hard rules of these weeks together, by plain Python: plan the weeks one by one with inrc2pb-improve"
         return "no rosters were found in this time: give more"
+
+    def not_kept(self) -> List[str]:
+        """The absences that the best plan breaks, the limits that it exceeds, and what to do."""
+        return list(self._weeks.warnings(self._cells))
 
     def line(self) -> str:
         """The line about the bound of all weeks together."""
@@ -166,5 +199,10 @@ class PeriodSearch:
             return "no lower bound"
         bound = f"lower bound {self.bound.points} of the sum ({self.bound.by})"
         if self.penalty <= self.bound.points:
-            return f"{bound}: no plan costs less" + (", proved" if self.bound.by == PERIOD_PROVER else "")
-        return f"{bound}: the gap is {self.penalty - self.bound.points}, {gap_share(self.penalty, self.bound.points)}"
+            return f"{bound}: no plan costs less" + (", proved" if self.bound.by != PLAIN else "")
+        best = self.bound.points
+        if self._rank and not any(self._rank[:2]) and self._kept_bound > best:
+            best, bound = self._kept_bound, f"{bound}, {self._kept_bound} with all absences and limits ({PLAIN})"
+        if self.penalty <= best:
+            return f"{bound}: no plan that keeps them costs less"
+        return f"{bound}: the gap is {self.penalty - best}, {gap_share(self.penalty, best)}"

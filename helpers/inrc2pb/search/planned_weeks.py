@@ -2,11 +2,13 @@
 
 from dataclasses import dataclass, field, replace
 from pathlib import Path
-from typing import Dict, List, NamedTuple, Optional, Sequence, Tuple
+from typing import Dict, Iterator, List, NamedTuple, Optional, Sequence, Tuple
 
 from ..judging.absences import absences_of, in_words, way_out, working_while_away
+from ..judging.given import read_given, with_given
+from ..judging.limits import exceeded, excess, limits_in_words, limits_way_out
 from ..week.faults import Misuse
-from ..week.records import Cell, History, Scenario, Solution, WeekData
+from ..week.records import Cell, History, Scenario, Solution, Week, WeekData
 from ..week.files import check_week_number, check_weeks_left, read_history, read_scenario, read_week, write_history, write_solution
 from ..judging.misfits import read_held
 from ..judging.next_history import next_history
@@ -18,7 +20,7 @@ from ..programs.program import WeekFiles
 class PeriodFiles:
     """The files of a period: the weeks' files in their order, and the fix file of some weeks, by number.
 
-    With `ahead` the weeks after them are not known yet, and count with the numbers of these.
+    With `ahead` the weeks after them are not known yet, and count with the numbers of these. `given` has the facts that plans keep.
     """
 
     scenario: Path
@@ -27,10 +29,11 @@ class PeriodFiles:
     fixes: Dict[int, Path] = field(default_factory=dict)
     early: bool = False
     ahead: bool = False
+    given: Optional[Path] = None
 
     def all(self) -> Tuple[Path, ...]:
         """All files that are read."""
-        return (self.scenario, self.history, *self.weeks, *self.fixes.values())
+        return (self.scenario, self.history, *self.weeks, *self.fixes.values(), *([self.given] if self.given else []))
 
 
 class WrittenWeek(NamedTuple):
@@ -54,7 +57,10 @@ class PlannedWeeks:
         self.held: List[Cell] = []
         for number, path in files.fixes.items():
             self._hold(number, path)
-        self.data: List[WeekData] = [read_week(path, self.scenario) for path in files.weeks]
+        claims = read_given(files.given, self.scenario) if files.given else ()
+        self.data: List[WeekData] = [
+            with_given(self.scenario, read_week(path, self.scenario), claims, number) for number, path in zip(self.numbers, files.weeks)
+        ]
 
     def _hold(self, number: int, path: Path) -> None:
         """Keeps the rows of a fix file. The days of the plan count from its first week."""
@@ -66,9 +72,9 @@ class PlannedWeeks:
         self.held += [row._replace(day=row.day + days) for row in rows]
 
     def later(self) -> List[WeekData]:
-        """A forecast of the weeks that are not known: the numbers of the known ones in turn, without requests."""
+        """A forecast of the weeks that are not known: the numbers of the known ones in turn, without requests and absences."""
         missing = self.scenario.weeks - self.numbers.stop if self.files.ahead else 0
-        return [replace(self.data[number % len(self.data)], requests=()) for number in range(missing)]
+        return [replace(self.data[number % len(self.data)], requests=(), absences=frozenset()) for number in range(missing)]
 
     def plan(self) -> Plan:
         """All weeks as one plan, those of the forecast included."""
@@ -77,22 +83,39 @@ class PlannedWeeks:
     def week_files(self, number: int, history: Optional[Path] = None) -> WeekFiles:
         """The files of a week. Its history is the given one of the first week, or another."""
         path = self.files.weeks[number - self.numbers[0]]
-        return WeekFiles(self.files.scenario, history or self.files.history, path, self.files.fixes.get(number), self.files.early)
+        files = self.files
+        return WeekFiles(files.scenario, history or files.history, path, files.fixes.get(number), files.early, files.given)
 
     def options(self) -> List[List[str]]:
         """The files of each week as options of `inrc2pb-period-bound`; those of all weeks come with the first."""
         of_all = ["--sce", str(self.files.scenario), "--his", str(self.files.history), *["--early"] * self.files.early]
         return [[*(of_all if number == 0 else ()), "--week", str(path)] for number, path in enumerate(self.files.weeks)]
 
-    def broken_absences(self, cells: Sequence[Cell]) -> List[str]:
-        """The weeks in which these assignments break an absence, who works then, and what to do."""
-        broken = []
-        for index, (number, data) in enumerate(zip(self.numbers, self.data)):
-            working = working_while_away(absences_of(data), _rows_of(index, cells))
-            if working:
-                broken.append(f"week {number}: no roster was found that keeps every absence: {in_words(working)}")
-                broken.append(f"week {number}: {way_out(self.scenario, _rows_of(index, self.held), working)}")
-        return broken
+    def each(self, cells: Sequence[Cell]) -> Iterator[Tuple[Week, Tuple[Cell, ...]]]:
+        """Each week with its history after the weeks before, and its assignments."""
+        history = self.history
+        for index, data in enumerate(self.data):
+            of_week = _rows_of(index, cells)
+            yield Week(self.scenario, history, data), of_week
+            if history.week + 1 < self.scenario.weeks:
+                history = next_history(self.scenario, history, of_week)
+
+    def not_kept(self, cells: Sequence[Cell]) -> Tuple[int, int]:
+        """How many absences these assignments break, and how much they have above limits."""
+        weeks = list(self.each(cells)) if any(data.limits or absences_of(data) for data in self.data) else []
+        broken = sum(len(working_while_away(absences_of(week.data), of_week)) for week, of_week in weeks)
+        return broken, sum(excess(exceeded(week, week.data.limits, of_week)) for week, of_week in weeks)
+
+    def warnings(self, cells: Sequence[Cell]) -> Iterator[str]:
+        """The weeks in which these assignments break an absence or exceed a limit, who works then, and what to do."""
+        for index, (week, of_week) in enumerate(self.each(cells)):
+            broken, over = working_while_away(absences_of(week.data), of_week), exceeded(week, week.data.limits, of_week)
+            if broken:
+                yield f"week {week.history.week}: no roster was found that keeps every absence: {in_words(broken)}"
+                yield f"week {week.history.week}: {way_out(self.scenario, _rows_of(index, self.held), broken)}"
+            if over:
+                yield f"week {week.history.week}: no plan was found that keeps every limit: {limits_in_words(over, of_week)}"
+                yield f"week {week.history.week}: {limits_way_out(week, over, of_week)}"
 
     def write(self, cells: Sequence[Cell], folder: Path) -> List[WrittenWeek]:
         """Writes the weeks' rosters, of assignments whose days count from the first week, and the history after each week."""

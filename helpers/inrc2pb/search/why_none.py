@@ -21,6 +21,8 @@ from ..judging.rules import numbers
 
 SECONDS = 30.0
 _ANY = Limits(0, 9999)
+# The beginning of the line if nothing has to be lowered.
+EXISTS = "A roster exists"
 
 
 def only_minimums(week: Week) -> Week:
@@ -60,7 +62,9 @@ def _solve(files: WeekFiles, roster: Path) -> SearchResult:
         return improve(files, roster, seconds=SECONDS)
     except ProgramFault as fault:
         if fault.status == NO_ROSTER and fault.message.startswith("no roster keeps"):
-            raise Misuse("even without minimum numbers there is no roster: the cause is a shift that --fix holds, so look at its file") from fault
+            raise Misuse(
+                "even without minimum numbers there is no roster: the cause is a shift that --fix holds, so look at its file"
+            ) from fault
         raise
 
 
@@ -70,7 +74,7 @@ def _missing(week: Week, cells: Sequence[Cell], found: SearchResult) -> Iterator
     away = absences_of(week.data)
     kept = ", and keeps every absence" if away and not working_while_away(away, cells) else ""
     if not short:
-        yield f"A roster exists that meets all minimum numbers{kept}."
+        yield f"{EXISTS} that meets all minimum numbers{kept}."
         return
     lowered = sum(short.values())
     if found.proved:

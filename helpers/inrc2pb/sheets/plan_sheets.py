@@ -4,22 +4,27 @@ import datetime
 import re
 from typing import Collection, Dict, Iterator, List, NamedTuple, Optional, Tuple
 
-from ..judging.absences import Absence, is_broken_by, readable
+from ..judging.absences import is_broken_by, readable
 from ..week.faults import Gathering
 from ..week.hints import plural
-from ..week.records import DAYS, Cell, Place, Request, Requirement, Scenario
+from ..week.records import DAYS, Absence, Cell, Place, Request, Requirement, Scenario
 from .sheet_files import Book
 from .sheet_rows import SheetCell, SheetRow, Table
 from ..week.slots import MAX_NUMBER
 from .ward_sheets import Ward, table_of
 
-AWAY = ("away", "ill", "leave", "training")
+# Reasons to be away. Leave counts as work, and unpaid leave does not.
+LEAVE = "leave"
+AWAY = ("away", "ill", LEAVE, "unpaid", "training")
 _WISH, _NO_WISH = ("wish", "wish off", "off?"), ("", "-")
+_NO_SHIFT = re.compile(r"(not|no)[ _-]*(\S.*)", re.IGNORECASE)
 _PAIR = re.compile(r"\(?([0-9]{1,4}) ?(\+|,|\.\.) ?([0-9]{1,4})\)?")
 _RANGE = re.compile(r"([0-9]{1,4}) ?(?:[-\u2013/]|to) ?([0-9]{1,4})")
 _DATE = re.compile(r"([0-9]{4})-([0-9]{1,2})-([0-9]{1,2})|([0-9]{1,2})\.([0-9]{1,2})\.([0-9]{4})")
+_OTHER_DATE = re.compile(r"\b([0-9]{1,2})[/-]([0-9]{1,2})[/-]([0-9]{4})\b")
 # A date as a spreadsheet counts it, from 1954 on.
 _SERIAL = re.compile(r"\b[2-9][0-9]{4}\b")
+_FIRST_YEAR = 1954
 
 
 class Held(NamedTuple):
@@ -30,14 +35,14 @@ class Held(NamedTuple):
 
 
 class WeekSheet:
-    """What the sheets say of one week. `leave` has the nurses of absences by the word that gave their reason."""
+    """What the sheets say of one week. `reasons` has the word that says why a nurse is away on a day."""
 
     def __init__(self) -> None:
         self.requirements: Dict[Place, Requirement] = {}
         self.wishes: List[Request] = []
         self.absences: List[Absence] = []
         self.held: List[Held] = []
-        self.leave: List[Tuple[str, str]] = []
+        self.reasons: Dict[Tuple[str, int], str] = {}
 
 
 class Days(NamedTuple):
@@ -80,26 +85,41 @@ def _day_of(cell: SheetCell) -> int:
     for day, name in enumerate(DAYS):
         if short == name.casefold():
             return day
-    cell.fault(f"'{cell.text}' is no day of the week: write one of {','.join(DAYS)}, or begin the head with #")
+    whole = ", or whole dates such as 2026-11-30" * bool(re.search("[0-9]", cell.text))
+    cell.fault(f"'{cell.text}' is no day of the week: write one of {','.join(DAYS)}{whole}, or begin the head with #")
 
 
 def _date_of(cell: SheetCell) -> Optional[datetime.date]:
     """The date in a head: written out, or as a number of a spreadsheet."""
     found, serial = _DATE.search(cell.text), _SERIAL.search(cell.text)
+    other = _OTHER_DATE.search(cell.text)
+    if other and not found:
+        cell.fault(f"'{cell.text}' may have the day or the month first: write {_year_first(*map(int, other.groups()))}")
     if not found:
         return cell.book.day_zero + datetime.timedelta(days=int(serial.group())) if serial else None
     words = found.groups()
     year, month, day = words[:3] if words[0] else (words[5], words[4], words[3])
     try:
-        return datetime.date(int(year), int(month), int(day))
+        date = datetime.date(int(year), int(month), int(day))
     except ValueError:
         cell.fault(f"there is no day {found.group()}: write a date such as 2026-11-30")
+    if date.year < _FIRST_YEAR:
+        cell.fault(f"a spreadsheet makes {date} of the number of a day: write whole dates, such as 2026-11-30")
+    return date
+
+
+def _year_first(first: int, second: int, year: int) -> str:
+    """The date that has its day or its month first."""
+    for month, day in ((second, first), (first, second)):
+        if month <= 12 < day:
+            return f"{year}-{month:02}-{day:02}"
+    return f"{year}-{second:02}-{first:02} or {year}-{first:02}-{second:02}"
 
 
 def read_weeks(book: Book, ward: Ward, days: Days) -> List[WeekSheet]:
     """The weeks of the sheets needs and plan."""
     weeks = [WeekSheet() for _ in range(days.weeks)]
-    _read_needs(table_of(book, "needs"), ward.scenario, weeks)
+    _read_needs(table_of(book, "needs"), ward.scenario, weeks, days.monday)
     with Gathering() as faults:
         for nurse, row in _plan_rows(days, ward.scenario, faults).items():
             for index, head in enumerate(days.columns):
@@ -125,21 +145,56 @@ def _plan_rows(days: Days, scenario: Scenario, faults: Gathering) -> Dict[str, S
     return rows
 
 
-def _read_needs(table: Table, scenario: Scenario, weeks: List[WeekSheet]) -> None:
-    """Rows without a week are for all, but for the weeks that have a row of their own."""
-    given: Dict[Tuple[Optional[int], str, str], List[Requirement]] = {}
+def plan_warnings(days: Days, scenario: Scenario) -> Iterator[str]:
+    """Warnings of nurses for whom the plan has no row."""
+    there = {row.of("nurse").text.replace(" ", "_").casefold() for row in days.plan.rows}
+    yield from (f"{nurse} has no row: she has no wishes and no absences" for nurse in scenario.nurses if nurse.casefold() not in there)
+
+
+class _Asked(NamedTuple):
+    """The row of the needs for a shift type and skill, in one week or in all (None)."""
+
+    week: Optional[int]
+    shift: str
+    skill: str
+
+
+def _read_needs(table: Table, scenario: Scenario, weeks: List[WeekSheet], monday: Optional[datetime.date]) -> None:
+    """Rows without a week are for all weeks, but for the days that a row of one week has."""
+    given: Dict[_Asked, List[SheetCell]] = {}
     with Gathering() as faults:
         for row in table.rows:
             with faults.step():
-                week = row.of("week").number(most=len(weeks) - 1) if row.of("week").text else None
-                shift, skill = row.of("shift").known("shift type", scenario.shift_types), row.of("skill").known("skill of the sheet nurses", scenario.skills)
-                if (week, shift, skill) in given:
+                week = _week_number(row.of("week"), len(weeks), monday)
+                shift = row.of("shift").known("shift type", scenario.shift_types)
+                skill = row.of("skill").known("skill of the sheet nurses", scenario.skills)
+                asked = _Asked(week, shift, skill)
+                if asked in given:
                     row.of("shift").fault(f"{readable(shift)} {readable(skill)} has a row already: delete one, or write its week")
-                given[week, shift, skill] = [_needed(row.of(name.casefold())) for name in DAYS]
-    for (only, shift, skill), needed in given.items():
-        for number, one in enumerate(weeks):
-            if only == number or (only is None and (number, shift, skill) not in given):
-                one.requirements.update({Place(day, shift, skill): asked for day, asked in enumerate(needed)})
+                given[asked] = [row.of(name.casefold()) for name in DAYS]
+                for cell in given[asked]:
+                    _needed(cell)
+    for shift, skill in dict.fromkeys((asked.shift, asked.skill) for asked in given):
+        of_all = given.get(_Asked(None, shift, skill))
+        for number, sheet in enumerate(weeks):
+            of_week = given.get(_Asked(number, shift, skill), of_all)
+            for day, cell in enumerate(of_week or ()):
+                base = of_all[day] if of_all and not cell.text else cell
+                sheet.requirements[Place(day, shift, skill)] = _needed(base)
+
+
+def _week_number(cell: SheetCell, weeks: int, monday: Optional[datetime.date]) -> Optional[int]:
+    """The week of a row of the needs; None: all weeks."""
+    if not cell.text:
+        return None
+    date = _date_of(cell)
+    if date:
+        number = (date - monday).days // len(DAYS) if monday else -1
+        cell.fault(f"'{cell.text}' is a date: write {number if 0 <= number < weeks else 'the number'}, its week from 0")
+    week = cell.number()
+    if week >= weeks:
+        cell.fault(f"{week} is more than {weeks - 1}: weeks are counted from 0, so write {weeks - 1} for the last one")
+    return week
 
 
 def _needed(cell: SheetCell) -> Requirement:
@@ -178,11 +233,20 @@ def _read_day(cell: SheetCell, nurse: str, index: int, scenario: Scenario, weeks
         week.wishes.append(Request(nurse, None, day))
     elif text in AWAY:
         week.absences.append(Absence(nurse, day, None))
-        week.leave.append((nurse, text))
-    elif text.startswith("no "):
-        week.wishes += [Request(nurse, part.known("shift type", scenario.shift_types), day) for part in cell._replace(text=cell.text[3:]).parts()]
+        week.reasons[nurse, day] = text
+    elif _no_shift(cell.text, scenario):
+        parts = cell._replace(text=_no_shift(cell.text, scenario)).parts()
+        week.wishes += [Request(nurse, part.known("shift type", scenario.shift_types), day) for part in parts]
     else:
         week.held.append(_held(cell, nurse, day, week, scenario))
+
+
+def _no_shift(text: str, scenario: Scenario) -> str:
+    """The shift types after `no`, also without a blank between; nothing if the text is something else."""
+    found, names = _NO_SHIFT.fullmatch(text), {readable(shift).casefold() for shift in scenario.shift_types}
+    if not found or readable(text).casefold() in names:
+        return ""
+    return found[2] if text[len(found[1])] == " " or readable(found[2]).casefold() in names else ""
 
 
 def _held(cell: SheetCell, nurse: str, day: int, week: WeekSheet, scenario: Scenario) -> Held:
@@ -217,10 +281,12 @@ def _check_held(scenario: Scenario, week: WeekSheet, held: Held, day: int, last:
     if before is not None and on == day - 1 and shift in scenario.shift_types[before].forbidden_next:
         held.cell.fault(f"{readable(nurse)} may not work {readable(shift)} on the day after {readable(before)}: change one of the two")
     if is_broken_by(week.absences, held.row):
-        held.cell.fault(f"{readable(nurse)} never works this shift or is always off on this day, by the sheet nurses: change one of the two")
+        held.cell.fault(
+            f"{readable(nurse)} never works this shift or is always off on this day, by the sheet nurses: change one of the two"
+        )
 
 
 def days_away(weeks: List[WeekSheet], reasons: Collection[str]) -> Iterator[Tuple[str, int]]:
     """The nurses who are away for one of these reasons, and on how many days."""
-    nurses = [nurse for week in weeks for nurse, reason in week.leave if reason in reasons]
+    nurses = [nurse for week in weeks for (nurse, _), reason in week.reasons.items() if reason in reasons]
     yield from ((nurse, nurses.count(nurse)) for nurse in dict.fromkeys(nurses))

@@ -12,7 +12,7 @@ import struct
 import zipfile
 import zlib
 from pathlib import Path
-from typing import Dict, NamedTuple
+from typing import Dict, Mapping, NamedTuple, Sequence
 from xml.etree import ElementTree
 from xml.parsers import expat
 
@@ -25,16 +25,19 @@ _SEPARATORS = (";", ",", "\t")
 _OLD_EXCEL, _ZIP = b"\xd0\xcf\x11\xe0", b"PK"
 # The errors of the library for wrong bytes, and for elements that are nested too deep. OSError is for a place before the file's begin.
 _DAMAGED = (
-    zipfile.BadZipFile, zlib.error, struct.error, ElementTree.ParseError, expat.ExpatError, LookupError, ValueError, EOFError, NotImplementedError,
+    zipfile.BadZipFile, zlib.error, struct.error, ElementTree.ParseError, expat.ExpatError, LookupError, ValueError, EOFError,
+    NotImplementedError,
     RecursionError, OSError,
 )  # fmt: skip
 
 
 class Book(NamedTuple):
-    """The sheets by their names in small letters, and the day with the number 0, if the file has dates as numbers."""
+    """The sheets by their names in small letters, the numbers of their hidden rows, and the day with the number 0, if the file has dates as
+    numbers."""
 
     path: Path
     sheets: Dict[str, Rows]
+    hidden: Mapping[str, Sequence[int]] = {}
     day_zero: datetime.date = datetime.date(1899, 12, 30)
 
 
@@ -54,14 +57,16 @@ def read_book(path: Path) -> Book:
     except _DAMAGED as fault:
         if isinstance(fault, OSError) and fault.errno != errno.EINVAL:
             raise
-        raise FileFault(path, 0, "the spreadsheet is damaged or has a password: open it in its program, and save it again without one") from fault
+        raise FileFault(
+            path, 0, "the spreadsheet is damaged or has a password: open it in its program, and save it again without one"
+        ) from fault
 
 
 def _read_archive(path: Path, archive: zipfile.ZipFile) -> Book:
     names = set(archive.namelist())
     parts = Parts(path, archive)
     if "content.xml" in names:
-        return Book(path, sheet_ods.sheets(parts))
+        return Book(path, *sheet_ods.sheets(parts))
     if "xl/workbook.xml" in names:
         return Book(path, *sheet_xlsx.sheets(parts))
     raise FileFault(path, 0, "this file has no sheets: give an .ods or .xlsx file, or a folder of .csv files")
@@ -97,7 +102,9 @@ def _read_csv(path: Path) -> Rows:
     except (csv.Error, ValueError) as fault:
         raise FileFault(path, 0, f"this is no CSV file ({fault}): save the sheet again as CSV") from fault
     if len(rows) > MAX_ROWS or any(len(row) > MAX_COLUMNS for row in rows):
-        raise FileFault(path, 0, f"the file has more than {MAX_ROWS} rows or {MAX_COLUMNS} columns: delete those that are no part of the ward")
+        raise FileFault(
+            path, 0, f"the file has more than {MAX_ROWS} rows or {MAX_COLUMNS} columns: delete those that are no part of the ward"
+        )
     return trimmed(rows)
 
 

@@ -1,66 +1,76 @@
 """Reads the sheets of an ODS file, as LibreOffice writes it."""
 
-from typing import Dict, Iterator, List
+from typing import Dict, Iterator, List, Tuple
 from xml.etree.ElementTree import Element
 
-from .sheet_parts import MAX_COLUMNS, MAX_ROWS, Parts, Rows, trimmed
+from .sheet_parts import SHEETS, Grid, Parts, Rows, formula_text, number_text
 
 _SPACES = "{urn:oasis:names:tc:opendocument:xmlns:%s:1.0}"
 _TABLE, _TEXT, _OFFICE = (_SPACES % name for name in ("table", "text", "office"))
 
 
-def sheets(parts: Parts) -> Dict[str, Rows]:
-    """The sheets by their names in small letters."""
-    return {_name(table): _rows(table, parts) for table in parts.read("content.xml").iter(_TABLE + "table")}
+def sheets(parts: Parts) -> Tuple[Dict[str, Rows], Dict[str, List[int]]]:
+    """The sheets by their names in small letters, and the numbers of their hidden rows."""
+    found: Dict[str, Rows] = {}
+    hidden: Dict[str, List[int]] = {}
+    for book in parts.read("content.xml").iter(_OFFICE + "spreadsheet"):
+        for table in book.findall(_TABLE + "table"):
+            name = table.get(_TABLE + "name", "").strip().lower()
+            grid = Grid(name, parts)
+            if name in SHEETS:
+                _read(table, grid)
+            found[name], hidden[name] = grid.rows(), grid.hidden
+    return found, hidden
 
 
-def _name(table: Element) -> str:
-    return table.get(_TABLE + "name", "").strip().lower()
+def _rows(element: Element) -> Iterator[Element]:
+    """The rows of a sheet, also those of groups and of heads that are repeated on each page."""
+    for part in element:
+        if part.tag == _TABLE + "table-row":
+            yield part
+        elif part.tag in (_TABLE + "table-row-group", _TABLE + "table-header-rows", _TABLE + "table-rows"):
+            yield from _rows(part)
 
 
-def _rows(table: Element, parts: Parts) -> Rows:
-    """The rows of a sheet. Empty ones at its end may be repeated a million times."""
-    rows: Rows = []
-    empty = 0
-    for row in table.iter(_TABLE + "table-row"):
-        cells = _cells(row, _name(table), parts)
-        times = int(row.get(_TABLE + "number-rows-repeated", "1"))
-        if not any(cells):
-            empty += times
-            continue
-        if len(rows) + empty + times > MAX_ROWS:
-            raise parts.too_large(_name(table))
-        rows += [[] for _ in range(empty)]
-        rows += [cells] * times
-        empty = 0
-    return trimmed(rows)
+def _read(table: Element, grid: Grid) -> None:
+    """Reads the rows of a sheet. Empty ones at its end may be repeated a million times."""
+    number = 0
+    for row in _rows(table):
+        rows = range(number, number + int(row.get(_TABLE + "number-rows-repeated", "1")))
+        number, column = rows.stop, 0
+        has_values = False
+        for cell in row:
+            if cell.tag not in (_TABLE + "table-cell", _TABLE + "covered-table-cell"):
+                continue
+            columns = range(column, column + int(cell.get(_TABLE + "number-columns-repeated", "1")))
+            column = columns.stop
+            if cell.tag == _TABLE + "table-cell":
+                value = _value(cell)
+                has_values = has_values or bool(value)
+                grid.put(rows, columns, value)
+                _merge(cell, rows, columns, grid)
+        if has_values and row.get(_TABLE + "visibility", "visible") != "visible":
+            grid.hidden += [row + 1 for row in rows]
 
 
-def _cells(row: Element, name: str, parts: Parts) -> List[str]:
-    cells: List[str] = []
-    empty = 0
-    for cell in row:
-        if cell.tag not in (_TABLE + "table-cell", _TABLE + "covered-table-cell"):
-            continue
-        value, times = _value(cell), int(cell.get(_TABLE + "number-columns-repeated", "1"))
-        if not value:
-            empty += times
-            continue
-        if len(cells) + empty + times > MAX_COLUMNS:
-            raise parts.too_large(name)
-        cells += [""] * empty + [value] * times
-        empty = 0
-    return cells
+def _merge(cell: Element, rows: range, columns: range, grid: Grid) -> None:
+    """Merges the cells that this one covers."""
+    height, width = (int(cell.get(_TABLE + name, "1")) for name in ("number-rows-spanned", "number-columns-spanned"))
+    if height > 1 or width > 1:
+        grid.merge(range(rows.start, rows.start + height), range(columns.start, columns.start + width))
 
 
 def _value(cell: Element) -> str:
-    """What the cell has, not how it is shown: a number, a date, or the paragraphs of a text."""
+    """What the cell has, not how it is shown: a number, a date, the paragraphs of a text, or what stands for a formula."""
     kind = cell.get(_OFFICE + "value-type", "")
     if kind == "float":
-        return cell.get(_OFFICE + "value", "")
-    if kind == "date":
-        return cell.get(_OFFICE + "date-value", "")[:10]
-    return "\n".join("".join(_text(paragraph)) for paragraph in cell.findall(_TEXT + "p"))
+        value = number_text(cell.get(_OFFICE + "value", ""))
+    elif kind == "date":
+        value = cell.get(_OFFICE + "date-value", "")[:10]
+    else:
+        value = "\n".join("".join(_text(paragraph)) for paragraph in cell.findall(_TEXT + "p"))
+    formula = cell.get(_TABLE + "formula")
+    return value if formula is None or (kind == "string" and not value) else formula_text(formula, value)
 
 
 def _text(element: Element) -> Iterator[str]:

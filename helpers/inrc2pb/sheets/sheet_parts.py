@@ -1,19 +1,21 @@
 """The parts of a spreadsheet that its readers share: XML, and rows of text in limited sizes."""
 
+import re
 import zipfile
 from pathlib import Path
-from typing import List, Sequence
+from typing import Dict, List, Sequence, Tuple
 from xml.etree import ElementTree
 from xml.parsers import expat
 
 from ..week.faults import FileFault
 
 MAX_BYTES = 33_554_432
-
-
 MAX_ROWS, MAX_COLUMNS = 5000, 1000
-
-
+# The sheets of a ward. Others are not read.
+SHEETS = ("shifts", "contracts", "nurses", "needs", "plan")
+# A number that is no whole one by the last of its digits only, as 0.1 * 30 is.
+NEARLY = 1e-9
+_SUM = re.compile(r"(?:of:)?=?([0-9]{1,4}\+[0-9]{1,4})")
 Rows = List[List[str]]
 
 
@@ -45,11 +47,70 @@ class Parts:
         return ElementTree.fromstring(data)
 
     def _refuse(self, *_words: object) -> None:
-        raise FileFault(self._path, 0, "the spreadsheet has a document type, which no program writes: save it again with LibreOffice or Excel")
+        raise FileFault(
+            self._path, 0, "the spreadsheet has a document type, which no program writes: save it again with LibreOffice or Excel"
+        )
 
     def too_large(self, sheet: str) -> FileFault:
         """The fault of a sheet with too many cells."""
-        return FileFault(self._path, 0, f"sheet {sheet} has more than {MAX_ROWS} rows or {MAX_COLUMNS} columns: delete those that are no part of the ward")
+        return FileFault(
+            self._path, 0,
+            f"sheet {sheet} has more than {MAX_ROWS} rows or {MAX_COLUMNS} columns: delete those that are no part of the ward",
+        )
+
+
+class Grid:
+    """The cells of a sheet while it is read. Cells that are merged have the value of the first of them; `hidden` has the numbers of hidden
+    rows, counted from 1."""
+
+    def __init__(self, sheet: str, parts: Parts) -> None:
+        self._sheet, self._parts = sheet, parts
+        self._cells: Dict[int, Dict[int, str]] = {}
+        self._merged: List[Tuple[range, range]] = []
+        self.hidden: List[int] = []
+
+    def put(self, rows: range, columns: range, value: str) -> None:
+        """Writes the value into these cells, if it is one."""
+        if not value:
+            return
+        if rows.stop > MAX_ROWS or columns.stop > MAX_COLUMNS:
+            raise self._parts.too_large(self._sheet)
+        for row in rows:
+            self._cells.setdefault(row, {}).update(dict.fromkeys(columns, value))
+
+    def merge(self, rows: range, columns: range) -> None:
+        """Makes one cell of these."""
+        self._merged.append((rows, columns))
+
+    def rows(self) -> Rows:
+        """The rows, with merged cells filled as far as the sheet has others."""
+        height = max(self._cells, default=-1) + 1
+        width = max((max(cells) for cells in self._cells.values()), default=-1) + 1
+        found = [[self._cells.get(row, {}).get(column, "") for column in range(width)] for row in range(height)]
+        for rows, columns in self._merged:
+            if rows.start < height and columns.start < width:
+                for row in rows[: height - rows.start]:
+                    found[row][columns.start : columns.stop] = [found[rows.start][columns.start]] * len(columns[: width - columns.start])
+        return trimmed(found)
+
+
+def number_text(value: str) -> str:
+    """The text of a number that a spreadsheet has stored; a whole one without a fraction."""
+    try:
+        number = float(value)
+    except ValueError:
+        return value
+    if abs(number) > MAX_BYTES:
+        return value
+    return str(round(number)) if abs(number - round(number)) < NEARLY else str(number)
+
+
+def formula_text(formula: str, value: str) -> str:
+    """What stands for a formula: its value, but the formula itself if there is none, or if it is a sum such as =2+1."""
+    added = _SUM.fullmatch(formula.replace(" ", ""))
+    if added:
+        return f"={added[1]}"
+    return value or "=" + re.sub(r"^(of:)?=|\[\.|\]", "", formula)
 
 
 def trimmed(rows: Sequence[Sequence[str]]) -> Rows:

@@ -9,14 +9,22 @@ from ..week.faults import FileFault, Gathering
 from ..week.hints import quoted
 from .sheet_files import Book
 from .sheet_parts import Rows
-from ..week.slots import MAX_NUMBER, SIGNS, closest
+from ..week.slots import MAX_NUMBER, SIGNS, closest, did_you_mean
 
 _SEVERAL = re.compile(r"[,;/]")
+# Signs without a width, which a text from a page or a message may have.
+_NO_WIDTH = re.compile("[\u200b-\u200d\u2060\ufeff]")
+# What a spreadsheet shows for a formula with a fault.
+_BROKEN = re.compile(r"#(REF!|BEZUG!|DIV/0!|NAME\?|VALUE!|WERT!|NUM!|ZAHL!|NULL!|N/A|NV|SPILL!)|Err:[0-9]+", re.IGNORECASE)
+_SAVE = "open the file in a spreadsheet program, and save it again"
+SUM = re.compile(r"=([0-9]{1,4})\+([0-9]{1,4})")
+# The sign after a maximum that is never exceeded.
+KEPT = "!"
 
 
 def tidy(text: str) -> str:
     """The text with composed letters, and with one blank for each sequence of them, of whatever kind."""
-    return " ".join(unicodedata.normalize("NFC", text).split())
+    return " ".join(_NO_WIDTH.sub("", unicodedata.normalize("NFC", text)).split())
 
 
 def letters_of(column: int) -> str:
@@ -50,22 +58,35 @@ class SheetCell(NamedTuple):
         have them: a fault names it."""
         if not self.text and default is not None:
             return default
-        digits = re.sub(r"[.,]0*$", "", self.text)
+        added = SUM.fullmatch(self.text)
+        if added:
+            total = int(added[1]) + int(added[2])
+            if pair:
+                self.fault(f"'{self.text}' is a sum: write {self.text[1:]} without the sign =, or {total}")
+            return self._replace(text=str(total)).number(default, most)
+        digits = re.sub(r"[.,](?!000$)0*$", "", self.text)
         if not re.fullmatch("[0-9]{1,9}", digits):
-            self.fault(f"'{self.text}' is no whole number: {self._advice(pair)}" if self.text else "the cell is empty: write a whole number")
+            if not self.text:
+                self.fault("the cell is empty: write a whole number")
+            self.fault(f"'{self.text}' is no whole number: {self._advice(pair, ', or leave the cell empty' * (default is not None))}")
         if int(digits) > MAX_NUMBER:
             self.fault(f"{digits} is more than {most}: a spreadsheet makes such a number of 2-3 or 2/3, so write {pair or 'one number'}")
         if int(digits) > most:
             self.fault(f"{digits} is more than {most}: write a smaller number")
         return int(digits)
 
-    def _advice(self, pair: str) -> str:
-        """What to write in place of a text that is no whole number."""
+    def _advice(self, pair: str, empty: str) -> str:
+        """What to write in place of a text that is no whole number. `empty` says that the cell may be empty, if it may."""
+        thousands = re.fullmatch(r"([0-9]+)[.,]000", self.text)
+        if thousands:
+            return f"write {thousands[1]} or {thousands[1]}000"
         if re.fullmatch("[oO0-9]+", self.text):
             return "write the digit 0"
+        if self.text.endswith(KEPT):
+            return f"the sign {KEPT} is for shifts max, work max and weekends"
         if not pair and re.fullmatch(r"[0-9]+[.,][0-9]+", self.text):
             return "shifts are counted, not hours"
-        return f"write one, or {pair}" if pair else "write one"
+        return f"write one, or {pair}" if pair else f"write one{'' if re.search('[0-9]', self.text) else empty}"
 
     def new_name(self, kind: str, taken: Collection[str]) -> str:
         """The cell as a new name of a file, with _ for a blank."""
@@ -83,9 +104,9 @@ class SheetCell(NamedTuple):
         wanted = self.text.replace(" ", "_").casefold()
         found = next((name for name in names if name.casefold() == wanted), None)
         if found is None:
-            meant = closest(self.text.replace(" ", "_"), [*names, *others])
-            advice = f"did you mean {readable(meant)}?" if meant else f"write one of {quoted([*map(readable, names), *others])}"
-            self.fault(f"'{self.text}' is no {kind}: {advice}" if self.text else f"the cell is empty: write a {kind}")
+            otherwise = f"write one of {quoted([*map(readable, names), *others])}"
+            advice = did_you_mean(self.text.replace(" ", "_"), [*names, *others], otherwise, readable)
+            self.fault(f"'{self.text}' is no {kind}: {advice}" if self.text else f"the cell is empty: write a {kind}, or delete the row")
         return found
 
 
@@ -94,7 +115,7 @@ class SheetRow:
 
     def __init__(self, table: "Table", number: int, cells: Sequence[str]) -> None:
         self._table = table
-        self._number = number
+        self.number = number
         self._cells = cells
 
     def outside(self, columns: Collection[int]) -> Iterator[SheetCell]:
@@ -105,7 +126,7 @@ class SheetRow:
     def at(self, column: int) -> SheetCell:
         """The cell of the column with this number."""
         text = tidy(self._cells[column]) if column < len(self._cells) else ""
-        return SheetCell(text, self._table.book, self._table.name, self._number, column)
+        return SheetCell(text, self._table.book, self._table.name, self.number, column)
 
     def of(self, head: str) -> SheetCell:
         """The cell of the column with this head; if there is none, an empty one."""
@@ -119,6 +140,8 @@ class Table:
         self.book, self.name = book, name
         self.heads, self.optional = heads, optional
         self.columns: Dict[str, int] = {}
+        # The heads with the sign for maxima that are never exceeded.
+        self.kept: Dict[str, SheetCell] = {}
         # The columns after those with a known head, if the sheet may have any number of them.
         self.others: List[SheetCell] = []
         rows = self._sheet()
@@ -133,6 +156,7 @@ class Table:
             raise FileFault(book.path, 0, f"sheet {name}, row {first + 1}: there is no column '{missing[0]}': add it")
         self.rows = [SheetRow(self, number + 1, rows[number]) for number in range(begin, len(rows)) if any(map(str.strip, rows[number]))]
         self._check_heads({column for column, text in enumerate(head) if tidy(text)}, first + 1)
+        self._check_formulas({*self.columns.values(), *(cell.column for cell in self.others)})
 
     def fault(self, message: str) -> NoReturn:
         """Raises a fault of the whole sheet."""
@@ -140,7 +164,9 @@ class Table:
 
     def _sheet(self) -> Rows:
         if self.name not in self.book.sheets:
-            raise FileFault(self.book.path, 0, f"there is no sheet '{self.name}': it has {quoted(self.book.sheets)}; --template writes an example")
+            raise FileFault(
+                self.book.path, 0, f"there is no sheet '{self.name}': it has {quoted(self.book.sheets)}; --template writes an example"
+            )
         return self.book.sheets[self.name]
 
     def _find_head(self, rows: Rows) -> int:
@@ -148,12 +174,17 @@ class Table:
         for number, row in enumerate(rows):
             if any(tidy(cell).casefold() == self.heads[0] for cell in row):
                 return number
-        raise FileFault(self.book.path, 0, f"sheet {self.name}: no row has the head '{self.heads[0]}': write {quoted(self.heads)} into the first row")
+        raise FileFault(
+            self.book.path, 0, f"sheet {self.name}: no row has the head '{self.heads[0]}': write {quoted(self.heads)} into the first row"
+        )
 
     def _take_head(self, cell: SheetCell, heads: Sequence[str], open_end: bool) -> None:
         head = cell.text.casefold()
         if not head or head.startswith(("note", "comment", "#")):
             return
+        if head.endswith(KEPT):
+            head = head[: -len(KEPT)].strip()
+            self.kept[head] = cell
         if head in self.columns:
             cell.fault(f"there is a second column '{cell.text}': rename or delete one")
         elif head in self.heads or head in self.optional:
@@ -162,7 +193,10 @@ class Table:
             self.others.append(cell)
         else:
             meant = self._meant(head, {tidy(text).casefold() for text in heads})
-            cell.fault(f"'{cell.text}' is no column of this sheet: " + (f"did you mean '{meant}'?" if meant else "delete it, or begin its head with #"))
+            cell.fault(
+                f"'{cell.text}' is no column of this sheet: "
+                + (f"did you mean '{meant}'?" if meant else "delete it, or begin its head with #")
+            )
 
     def _check_heads(self, columns: Collection[int], number: int) -> None:
         """A fault names the first cell of each column without a head. The given columns have one, in the row of this number."""
@@ -174,6 +208,18 @@ class Table:
             for _, cell in sorted(first.items()):
                 with faults.step():
                     cell.fault(f"'{cell.text}' has no head above it: write one into row {number}, or # to leave the column out")
+
+    def _check_formulas(self, columns: Collection[int]) -> None:
+        """No cell of these columns may be a formula with a fault, or one whose value is not in the file."""
+        with Gathering() as faults:
+            for row in self.rows:
+                for column in sorted(columns):
+                    cell = row.at(column)
+                    with faults.step():
+                        if _BROKEN.fullmatch(cell.text):
+                            cell.fault(f"a formula has the fault {cell.text}: correct it, or write its value in its place")
+                        if cell.text.startswith("=") and not SUM.fullmatch(cell.text):
+                            cell.fault(f"the value of the formula {cell.text} is not in the file: {_SAVE}, or write the value")
 
     def _meant(self, head: str, taken: Collection[str]) -> Optional[str]:
         """The column that a wrong head most likely means: none that the sheet has already."""
@@ -187,6 +233,8 @@ def _joined_head(rows: Rows, first: int, open_end: bool) -> Tuple[List[str], int
     below = [tidy(cell) for cell in (rows[first + 1] if first + 1 < len(rows) else [])]
     width = max(len(head), len(below))
     head, below = (row + [""] * (width - len(row)) for row in (head, below))
+    # A head over two rows.
+    below = ["" if under == own else under for own, under in zip(head, below)]
     has_days = all(re.match("mon|tue|wed|thu|fri|sat|sun", cell.casefold()) for cell in below if cell)
     is_over = any(under and not own for own, under in zip(head, below)) and not any(re.search("[0-9]", cell) for cell in below)
     if not any(below) or below[0] or not (has_days if open_end else is_over):

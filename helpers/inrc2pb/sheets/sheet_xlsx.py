@@ -5,28 +5,33 @@ import re
 from typing import Dict, List, Sequence, Tuple
 from xml.etree.ElementTree import Element
 
-from .sheet_parts import MAX_COLUMNS, MAX_ROWS, Parts, Rows, trimmed
+from .sheet_parts import SHEETS, Grid, Parts, Rows, formula_text, number_text
 
 _MAIN = ("{http://schemas.openxmlformats.org/spreadsheetml/2006/main}", "{http://purl.oclc.org/ooxml/spreadsheetml/main}")
 _LINK = (
     "{http://schemas.openxmlformats.org/officeDocument/2006/relationships}id", "{http://purl.oclc.org/ooxml/officeDocument/relationships}id"
 )  # fmt: skip
+_RANGE = re.compile("([A-Z]{1,3})([0-9]{1,7}):([A-Z]{1,3})([0-9]{1,7})")
 _DAY_ZERO, _DAY_ZERO_1904 = datetime.date(1899, 12, 30), datetime.date(1904, 1, 1)
 
 
-def sheets(parts: Parts) -> Tuple[Dict[str, Rows], datetime.date]:
-    """The sheets by their names in small letters, and the day with the number 0."""
+def sheets(parts: Parts) -> Tuple[Dict[str, Rows], Dict[str, List[int]], datetime.date]:
+    """The sheets by their names in small letters, the numbers of their hidden rows, and the day with the number 0."""
     book = parts.read("xl/workbook.xml")
     shared = [_text(item) for item in _all(parts.read("xl/sharedStrings.xml"), "si")] if parts.has("xl/sharedStrings.xml") else []
     targets = {link.get("Id", ""): _path(link.get("Target", "")) for link in parts.read("xl/_rels/workbook.xml.rels")}
     found: Dict[str, Rows] = {}
+    hidden: Dict[str, List[int]] = {}
     for sheet in _all(book, "sheet"):
         name = sheet.get("name", "").strip().lower()
         target = targets[next(filter(None, map(sheet.get, _LINK)), "")]
         if "worksheets" in target:
-            found[name] = _rows(parts.read(target), name, shared, parts)
-    from_1904 = any(part.get("date1904") in ("1", "true") for part in _all(book, "workbookPr"))
-    return found, _DAY_ZERO_1904 if from_1904 else _DAY_ZERO
+            grid = Grid(name, parts)
+            if name in SHEETS:
+                _read(parts.read(target), grid, shared)
+            found[name], hidden[name] = grid.rows(), grid.hidden
+    from_1904 = any(part.get("date1904") in ("1", "true", "on") for part in _all(book, "workbookPr"))
+    return found, hidden, _DAY_ZERO_1904 if from_1904 else _DAY_ZERO
 
 
 def _path(target: str) -> str:
@@ -38,28 +43,27 @@ def _all(element: Element, name: str) -> List[Element]:
     return [found for space in _MAIN for found in element.iter(space + name)]
 
 
-def _rows(sheet: Element, name: str, shared: Sequence[str], parts: Parts) -> Rows:
-    """The rows of a sheet. A row or cell without a number follows the one before."""
-    rows: Rows = []
+def _read(sheet: Element, grid: Grid, shared: Sequence[str]) -> None:
+    """Reads the rows of a sheet. A row or cell without a number follows the one before."""
+    number = -1
     for row in _all(sheet, "row"):
-        number = int(row.get("r", len(rows) + 1)) - 1
-        cells: List[str] = []
+        number = int(row.get("r", number + 2)) - 1
+        if row.get("hidden") in ("1", "true"):
+            grid.hidden.append(number + 1)
+        column = -1
         for cell in _all(row, "c"):
-            value = _value(cell, shared)
-            column = _column(cell.get("r", "")) if cell.get("r") else len(cells)
-            if value and (number >= MAX_ROWS or column >= MAX_COLUMNS):
-                raise parts.too_large(name)
-            if value or not cell.get("r"):
-                cells += [""] * (column - len(cells)) + [value]
-        if any(cells):
-            rows += [[] for _ in range(number - len(rows))]
-            rows.append(cells)
-    return trimmed(rows)
+            column = _column(cell.get("r", "")) if cell.get("r") else column + 1
+            grid.put(range(number, number + 1), range(column, column + 1), _value(cell, shared))
+    for merged in _all(sheet, "mergeCell"):
+        found = _RANGE.fullmatch(merged.get("ref", "").upper())
+        if found:
+            first, top, last, bottom = found.groups()
+            grid.merge(range(int(top) - 1, int(bottom)), range(_column(first), _column(last) + 1))
 
 
 def _column(place: str) -> int:
     """The number of the column of a place such as C7, from 0."""
-    letters = re.match("[A-Z]+", place)
+    letters = re.match("[A-Z]+", place.upper())
     number = 0
     for letter in letters.group() if letters else "":
         number = 26 * number + ord(letter) - ord("A") + 1
@@ -67,13 +71,16 @@ def _column(place: str) -> int:
 
 
 def _value(cell: Element, shared: Sequence[str]) -> str:
-    """What the cell has; a whole number without a fraction."""
-    kind, value = cell.get("t", "n"), "".join(part.text or "" for part in _all(cell, "v"))
+    """What the cell has: a number, a text, or what stands for a formula."""
+    kind, parts, formulas = cell.get("t", "n"), _all(cell, "v"), _all(cell, "f")
+    value = "".join(part.text or "" for part in parts)
     if kind == "s":
         return shared[int(value)] if value else ""
     if kind == "inlineStr":
         return "".join(_text(item) for item in _all(cell, "is"))
-    return re.sub(r"\.0*$", "", value) if kind == "n" else value
+    value = number_text(value) if kind == "n" else value
+    has_value = kind == "str" and bool(parts)
+    return formula_text(formulas[0].text or "", value) if formulas and not has_value else value
 
 
 def _text(item: Element) -> str:

@@ -27,11 +27,14 @@ EXAMPLE: Dict[str, Rows] = {
     ],
     "contracts": [
         ("contract", "shifts min", "shifts max", "work min", "work max", "off min", "off max", "weekends", "complete weekends"),
-        ("Full", 17, 21, 3, 5, 2, 3, 2, "yes"),
-        ("Half", 8, 11, 2, 3, 2, 5, 2, "no"),
+        ("Full", 17, 22, 3, 5, 2, 3, 2, "yes"),
+        ("Half", 8, 12, 2, 3, 2, 5, 2, "no"),
     ],
     "nurses": [
-        ("nurse", "contract", "skills", "never", "always off", "worked", "worked weekends", "last shift", "days on it", "days of work", "days off"),
+        (
+            "nurse", "contract", "skills", "never", "always off", "worked", "worked weekends", "last shift", "days on it", "days of work",
+            "days off",
+        ),
         ("Amara", "Full", "Charge, Nurse", "", "", 0, 0, "Day", 2, 2, 0),
         ("Bruno", "Full", "Charge, Nurse", "", "", 0, 0, "", 0, 0, 2),
         ("Chen", "Full", "Nurse", "", "", 0, 0, "", 0, 0, 1),
@@ -77,8 +80,12 @@ def write_template(path: Path) -> None:
     try:
         with zipfile.ZipFile(path, "w", zipfile.ZIP_DEFLATED) as archive:
             archive.writestr(zipfile.ZipInfo("mimetype"), _TYPE)
-            archive.writestr("META-INF/manifest.xml", f'{_HEAD}<manifest:manifest {_SPACES} manifest:version="1.3">{manifest}</manifest:manifest>')
-            archive.writestr("content.xml", f'{_HEAD}<office:document-content {_SPACES} office:version="1.3">{content}</office:document-content>')
+            archive.writestr(
+                "META-INF/manifest.xml", f'{_HEAD}<manifest:manifest {_SPACES} manifest:version="1.3">{manifest}</manifest:manifest>'
+            )
+            archive.writestr(
+                "content.xml", f'{_HEAD}<office:document-content {_SPACES} office:version="1.3">{content}</office:document-content>'
+            )
     except BaseException:
         path.unlink()
         raise

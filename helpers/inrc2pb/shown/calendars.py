@@ -2,9 +2,10 @@
 
 import datetime
 import re
+import time
 import uuid
 from pathlib import Path
-from typing import Dict, Iterable, Iterator, List, Mapping, Sequence, Tuple
+from typing import Collection, Dict, Iterable, Iterator, List, Mapping, NamedTuple, Optional, Sequence, Tuple
 
 from ..week.dates import DAY, Times
 from .markup import allowed
@@ -13,6 +14,27 @@ from ..week.writing import write_text
 
 # The maximum number of bytes of a line.
 _LINE = 75
+
+
+class Issue(NamedTuple):
+    """A calendar that takes the place of older ones: its number, which is above theirs, and the days on which they had a nurse's shift."""
+
+    number: int
+    before: Mapping[str, Collection[datetime.date]] = {}
+
+
+def issue_now(before: Mapping[str, Collection[datetime.date]]) -> Issue:
+    """The issue of this minute."""
+    return Issue(int(time.time() // 60), before)
+
+
+def shift_dates(view: RosterView, monday: datetime.date) -> Dict[str, List[datetime.date]]:
+    """The dates of each nurse's shifts."""
+    found: Dict[str, List[datetime.date]] = {}
+    for index, week in enumerate(view.weeks):
+        for cell in week.cells:
+            found.setdefault(cell.nurse, []).append(monday + (7 * index + cell.day) * DAY)
+    return found
 
 
 def _text(value: str) -> str:
@@ -37,11 +59,11 @@ def _day(date: datetime.date) -> str:
     return date.isoformat().replace("-", "")
 
 
-def _event(names: Sequence[str], stamp: str, summary: str, when: Iterable[str]) -> Iterator[str]:
+def _event(names: Sequence[str], stamp: Sequence[str], summary: str, when: Iterable[str]) -> Iterator[str]:
     """The lines of an event. Its names make it the same event in a later calendar."""
     yield "BEGIN:VEVENT"
     yield f"UID:{uuid.uuid5(uuid.NAMESPACE_URL, ' '.join(['inrc2pb', *names]))}"
-    yield f"DTSTAMP:{stamp}"
+    yield from stamp
     yield from when
     yield f"SUMMARY:{_text(summary)}"
     yield "END:VEVENT"
@@ -53,13 +75,15 @@ def _when(date: datetime.date, shift: str, times: Mapping[str, Times]) -> Iterat
         yield f"DTSTART;VALUE=DATE:{_day(date)}"
         return
     start = datetime.datetime.combine(date, times[shift].start)
-    for name, time in (("DTSTART", start), ("DTEND", start + times[shift].length)):
-        yield f"{name}:{_day(time.date())}T{time:%H%M%S}"
+    for name, moment in (("DTSTART", start), ("DTEND", start + times[shift].length)):
+        yield f"{name}:{_day(moment.date())}T{moment:%H%M%S}"
 
 
-def calendar(view: RosterView, nurse: str, monday: datetime.date, times: Mapping[str, Times]) -> str:
-    """The text of a nurse's calendar. One without shifts says so, since a calendar may not be empty."""
-    stamp, ward = f"{_day(monday)}T000000Z", allowed(view.name)
+def calendar(view: RosterView, nurse: str, monday: datetime.date, times: Mapping[str, Times], issue: Optional[Issue] = None) -> str:
+    """The text of a nurse's calendar. One without shifts says so, since a calendar may not be empty. Shifts of older issues are cancelled
+    on days on which this one has none."""
+    ward = allowed(view.name)
+    stamp = [f"DTSTAMP:{_day(monday)}T000000Z", *([f"SEQUENCE:{issue.number}"] if issue else [])]
     lines = ["BEGIN:VCALENDAR", "VERSION:2.0", "PRODID:-//inrc2pb//inrc2pb-table//EN"]
     shifts: List[Tuple[datetime.date, int, ShownCell]] = [
         (monday + (7 * week + day) * DAY, index, cell)
@@ -70,6 +94,10 @@ def calendar(view: RosterView, nurse: str, monday: datetime.date, times: Mapping
     for date, index, cell in shifts:
         names = [ward, allowed(nurse), _day(date), *[str(index)] * bool(index)]
         lines += _event(names, stamp, f"{cell.shift} {cell.skill}".replace("_", " "), _when(date, cell.shift, times))
+    dates = {date for date, _, _ in shifts}
+    for date in sorted(set(issue.before.get(nurse, ())) - dates) if issue else ():
+        when = [f"DTSTART;VALUE=DATE:{_day(date)}", "STATUS:CANCELLED"]
+        lines += _event([ward, allowed(nurse), _day(date)], stamp, "no shift", when)
     if not shifts:
         end = monday + 7 * len(view.weeks) * DAY
         when = [f"DTSTART;VALUE=DATE:{_day(monday)}", f"DTEND;VALUE=DATE:{_day(end)}", "TRANSP:TRANSPARENT"]
@@ -92,9 +120,11 @@ def file_names(nurses: Iterable[str]) -> Dict[str, str]:
     return found
 
 
-def write_calendars(view: RosterView, folder: Path, monday: datetime.date, times: Mapping[str, Times]) -> None:
+def write_calendars(
+    view: RosterView, folder: Path, monday: datetime.date, times: Mapping[str, Times], issue: Optional[Issue] = None
+) -> None:
     """Writes a calendar for each nurse to the folder, which is made if it does not exist."""
-    texts = {name: calendar(view, nurse, monday, times) for nurse, name in file_names(view.nurses).items()}
+    texts = {name: calendar(view, nurse, monday, times, issue) for nurse, name in file_names(view.nurses).items()}
     folder.mkdir(parents=True, exist_ok=True)
     for name, text in texts.items():
         write_text(folder / name, text)

@@ -7,7 +7,7 @@ from ..week.faults import Misuse
 from ..week.hints import quoted
 from ..week.records import DAYS
 from .roster_view import ShownCell, RosterView
-from ..week.slots import closest
+from ..week.slots import did_you_mean
 
 
 class Change(NamedTuple):
@@ -74,6 +74,6 @@ def _place(view: RosterView, text: str) -> Tuple[str, int]:
     nurse = "_".join(names)
     for word, known, what in ((nurse, view.nurses, "nurse"), (day, DAYS, "day")):
         if word not in known:
-            meant = closest(word, known)
-            raise Misuse(f'--swap "{text}": \'{word}\' is no {what}: {f"did you mean {meant}?" if meant else f"give one of {quoted(known)}"}')
+            advice = did_you_mean(word, known, f"give one of {quoted(known)}")
+            raise Misuse(f"--swap \"{text}\": '{word}' is no {what}: {advice}")
     return nurse, DAYS.index(day)

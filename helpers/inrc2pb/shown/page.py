@@ -17,7 +17,7 @@ body { font: 10pt/1.3 sans-serif; margin: 1.2em; color: #111; background: #fff; 
 h1 { font-size: 1.4em; margin: 0 0 .2em }
 h2 { font-size: 1.15em; margin: 1.2em 0 .3em }
 p, ul { margin: .3em 0 }
-section { overflow-x: auto }
+section { overflow-x: auto; position: relative }
 table { border-collapse: collapse; margin: .6em 0 1em }
 caption { text-align: left; padding: .2em 0; font-size: .9em }
 th, td { border: 1px solid #999; padding: .15em .4em; text-align: center; font-variant-numeric: tabular-nums }
@@ -60,12 +60,13 @@ caption, h2, summary { break-after: avoid }
 }
 """
 RULES = {
-    "S1": "fewer nurses than best", "S2": "days in a row with work or on one shift type", "S3": "days in a row off", "S4": "a wish that is not granted",
+    "S1": "fewer nurses than best", "S2": "days in a row with work or on one shift type", "S3": "days in a row off",
+    "S4": "a wish that is not granted",
     "S5": "half a weekend", "S6": "shifts in the period", "S7": "weekends in the period",
 }  # fmt: skip
 
 
-def _style(page: Content) -> Markup:
+def page_style(page: Content) -> Markup:
     """The style, with the colors of the shift types. Browsers print them only if `print-color-adjust` says so."""
     colors = "".join(f".s{number} {{ background: {color}; color: {ink_on(color)} }}\n" for number, color in enumerate(COLORS))
     return Markup(STYLE + colors)
@@ -162,7 +163,7 @@ def page_text(page: Content) -> str:
     parts = [_roster(page), *([] if page.only_table else _details(page))]
     head = element(
         "head", element("meta", charset="utf-8"), element("meta", name="viewport", content="width=device-width"),
-        element("title", title(page)), element("style", _style(page)),
+        element("title", title(page)), element("style", page_style(page)),
     )  # fmt: skip
     body = element("body", element("main", *(joined(part, Markup("\n")) for part in parts)))
     return f"<!DOCTYPE html>\n{element('html', head, Markup(chr(10)), body, lang='en')}\n"

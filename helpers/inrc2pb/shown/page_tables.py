@@ -2,7 +2,7 @@
 
 import datetime
 from dataclasses import dataclass, field
-from typing import Dict, Iterator, List, Mapping, Optional, Sequence
+from typing import Callable, Dict, Iterator, List, Mapping, Optional, Sequence
 
 from .changes import Change, cells_text, changes
 from ..judging.coverage import Covered, coverage
@@ -27,7 +27,8 @@ def plain(name: str) -> str:
 class Content:
     """What a page shows: the roster, an older one, the date of the first Monday, and the times of shift types, as far as they are known.
 
-    `only_table` is for a wall: nothing on what the roster costs, nor on wishes and held shifts.
+    `only_table` is for a wall: nothing on what the roster costs, nor on wishes and held shifts. `link` has the address of a nurse's day
+    in a week of the table, if its cells are links.
     """
 
     view: RosterView
@@ -35,6 +36,7 @@ class Content:
     monday: Optional[datetime.date] = None
     times: Mapping[str, Times] = field(default_factory=dict)
     only_table: bool = False
+    link: Optional[Callable[[int, str, int], str]] = None
 
     def days(self, week: int) -> Sequence[str]:
         """The names of a week's days."""
@@ -120,13 +122,16 @@ class RosterTable:
         change = self.changed.get((week, nurse, day))
         parts = [self._shift(cell) for cell in cells]
         if not cells and self.view.is_away(week, nurse, day):
-            parts.append(element("span", "away", class_="away"))
+            parts.append(element("span", self.view.reason(week, nurse, day), class_="away"))
         elif not cells and change:
             parts.append(element("span", "off", class_="away"))
         if change:
             parts.append(joined(shown(CHANGED, class_="mark"), hidden(f" {CHANGED_MEANING}, before: {plain(cells_text(change.before))}")))
         number = self.view.shifts.index(cells[0].shift) % len(COLORS) if cells else None
         kinds = [_weekend(day), f"s{number}" if cells else None, "changed" if change else None]
+        if self.page.link:
+            named = hidden(f"{plain(nurse)}, {self.page.days(week)[day]}: ")
+            parts = [element("a", named, *(parts or [shown("\u00b7")]), href=self.page.link(week, nurse, day))]
         return element("td", *parts, class_=" ".join(kind for kind in kinds if kind) or None)
 
     def _shift(self, cell: ShownCell) -> Markup:
@@ -174,7 +179,10 @@ def totals_table(page: Content) -> Optional[Markup]:
     rows = []
     for nurse, total in found.items():
         over = total.weekends - total.max_weekends
-        numbers = [str(total.shifts), f"{total.contract.minimum} to {total.contract.maximum}", _left(total, is_last), *map(str, total.by_shift.values())]
+        numbers = [
+            str(total.shifts), f"{total.contract.minimum} to {total.contract.maximum}", _left(total, is_last),
+            *map(str, total.by_shift.values()),
+        ]
         numbers += [f"{total.weekends}{f' ({over} too many)' if over > 0 else ''}", str(total.max_weekends)]
         numbers += [str(len(total.wishes)), str(total.granted), str(len(total.wishes) - total.granted)]
         if view.has_costs:
@@ -220,7 +228,8 @@ def coverage_tables(page: Content) -> Iterator[Markup]:
             for (shift, skill), covered in places.items()
         ]
         if rows:
-            caption = f"Nurses at each place, and (minimum\u2013best). {MINUS}1: one fewer than best; !: below the minimum; +1: one more than best"
+            signs = f"{MINUS}1: one fewer than best; !: below the minimum; +1: one more than best"
+            caption = f"Nurses at each place, and (minimum\u2013best). {signs}"
             yield table(caption, day_heads(page, weeks, "place"), rows, "coverage")
 
 

@@ -8,9 +8,11 @@ from ..week.faults import Misuse
 from ..week.files import check_week_number, read_history, read_scenario, read_solution, read_week
 from ..week.records import History, Scenario, Solution, Week
 from ..week.hints import plural
+from ..judging.given import read_given, with_given
 from ..judging.misfits import other_week
 from ..judging.next_history import next_history
 from .roster_view import RosterView, WeekView
+from ..week.reasons import read_reasons
 from ..week.slots import text_of
 
 
@@ -18,7 +20,7 @@ from ..week.slots import text_of
 class RosterFiles:
     """The files of a table: one roster for each week, and what else is known of these weeks.
 
-    `fixes` has fix files by the number of their week, or by None if there is only one week.
+    `fixes` has fix files by the number of their week, or by None if there is only one week; `given` has the facts that plans keep.
     """
 
     rosters: Sequence[Path]
@@ -27,6 +29,8 @@ class RosterFiles:
     weeks: Sequence[Path] = ()
     fixes: Mapping[Optional[int], Path] = field(default_factory=dict)
     early: bool = False
+    given: Optional[Path] = None
+    reasons: Optional[Path] = None
 
 
 def read_view(files: RosterFiles) -> RosterView:
@@ -37,14 +41,18 @@ def read_view(files: RosterFiles) -> RosterView:
     solutions = [read_solution(path, scenario, texts[path]) for path in files.rosters]
     datas = [read_week(path, scenario) for path in files.weeks] if scenario else []
     histories = _histories(files, scenario, solutions) if scenario else []
-    fixes = _fix_of_each(files, [of_week.week for of_week in histories or solutions])
+    numbers = [of_week.week for of_week in histories or solutions]
+    fixes = _fix_of_each(files, numbers)
+    claims = read_given(files.given, scenario) if files.given and scenario else ()
+    reasons = read_reasons(files.reasons, scenario) if files.reasons and scenario else {}
     views = []
     for index, (solution, fix) in enumerate(zip(solutions, fixes)):
         held = read_solution(fix, scenario, texts[fix]).cells if fix else ()
-        data = datas[index] if datas else None
+        data = with_given(scenario, datas[index], claims, numbers[index]) if scenario and datas else None
         week = Week(scenario, histories[index], data) if scenario and histories and data else None
         number = histories[index].week if week else solution.week
-        views.append(WeekView(number, solution.cells, data, week, held, files.early))
+        of_week = {(away.nurse, away.day): word for away, word in reasons.items() if away.week == number + 1}
+        views.append(WeekView(number, solution.cells, data, week, held, files.early, of_week))
     if scenario:
         warnings = [*_other_weeks(files.rosters, texts, scenario, histories), *_other_weeks(fixes, texts, scenario, histories)]
         return RosterView(scenario.name, list(scenario.nurses), list(scenario.shift_types), list(scenario.skills), views, warnings)
@@ -56,7 +64,10 @@ def read_view(files: RosterFiles) -> RosterView:
 def read_old(files: RosterFiles, rosters: Sequence[Path]) -> RosterView:
     """Reads the older rosters of the same weeks and ward; that they are of others is a Misuse."""
     if len(rosters) != len(files.rosters):
-        raise Misuse(f"--old is given {plural(len(rosters), 'time')} for {plural(len(files.rosters), 'roster')}: give it once for each, in their order")
+        raise Misuse(
+            f"--old is given {plural(len(rosters), 'time')} for {plural(len(files.rosters), 'roster')}: "
+            "give it once for each, in their order"
+        )
     for old, new in zip(rosters, files.rosters):
         before, now = (read_solution(path, None) for path in (old, new))
         if before.scenario != now.scenario:
@@ -75,9 +86,16 @@ def _check_numbers(files: RosterFiles) -> None:
     """Each roster has its files, or none does."""
     count = len(files.rosters)
     if len(files.weeks) not in (0, count):
-        raise Misuse(f"--week is given {plural(len(files.weeks), 'time')} for {plural(count, 'roster')}: give it once for each, in their order")
+        raise Misuse(
+            f"--week is given {plural(len(files.weeks), 'time')} for {plural(count, 'roster')}: give it once for each, in their order"
+        )
     if len(files.histories) not in (0, 1, count):
-        raise Misuse(f"--his is given {plural(len(files.histories), 'time')} for {plural(count, 'roster')}: give the first week's, or each week's in order")
+        raise Misuse(
+            f"--his is given {plural(len(files.histories), 'time')} for {plural(count, 'roster')}: "
+            "give the first week's, or each week's in order"
+        )
+    if (files.given or files.reasons) and not files.weeks:
+        raise Misuse(f"{'--given' if files.given else '--reasons'} needs --sce and --week: give them too")
     if files.weeks and not files.scenario:
         raise Misuse("--week needs --sce: give the scenario too")
     if files.histories and not (files.scenario and files.weeks):
@@ -92,7 +110,9 @@ def _histories(files: RosterFiles, scenario: Scenario, solutions: Sequence[Solut
     while histories and len(histories) < len(solutions):
         last = len(histories) - 1
         if histories[last].week + 1 >= scenario.weeks:
-            raise Misuse(f"{files.rosters[last]}: week {histories[last].week} is the last of {scenario.weeks}: give --his once for each roster")
+            raise Misuse(
+                f"{files.rosters[last]}: week {histories[last].week} is the last of {scenario.weeks}: give --his once for each roster"
+            )
         try:
             histories.append(next_history(scenario, histories[last], solutions[last].cells))
         except Misuse as fault:

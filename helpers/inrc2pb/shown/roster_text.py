@@ -86,14 +86,16 @@ class TextTable:
             found.append([" ".join(_filled(text, width) for text, width in zip(row, wide)) for row in table])
             found += [[head, *texts] for head, *texts in zip(HEADS, *(total.texts() for total in counted.values()))]
         if self.view.has_costs:
-            found.append(["cost", *(f"{sum(self.view.costs[nurse].values()):4}  {costs_text(self.view.costs[nurse])}" for nurse in self.view.nurses)])
+            found.append(
+                ["cost", *(f"{sum(self.view.costs[nurse].values()):4}  {costs_text(self.view.costs[nurse])}" for nurse in self.view.nurses)]
+            )
         return [[_filled(text, max(map(columns, column))) for text in column] for column in found]
 
     def text(self, week: int, nurse: str, day: int) -> str:
         """The text of one nurse and day."""
         cells = self.view.cells(week, nurse, day)
         if not cells and self.view.is_away(week, nurse, day):
-            return "away" if self.single else AWAY
+            return self.view.reason(week, nurse, day) if self.single else AWAY
         skills = [f" {self.skills[cell.skill]}" if self.single else "" for cell in cells]
         return "+".join(f"{self.shifts[cell.shift]}{skill}{cell.marks}" for cell, skill in zip(cells, skills)) or "."
 
@@ -118,12 +120,12 @@ class TextTable:
         """The whole table."""
         view, lines = self.view, self.head()
         for row, (nurse, name) in enumerate(self.nurses.items(), 1):
-            weeks = [
-                _with_weekend_apart([self.shown(week, nurse, day) for day in range(7)], self.gap) for week in range(len(view.weeks))
-            ]
+            weeks = [_with_weekend_apart([self.shown(week, nurse, day) for day in range(7)], self.gap) for week in range(len(view.weeks))]
             lines.append("  ".join([_filled(name, self.first), "  ||  ".join(weeks), *(column[row] for column in self.right)]).rstrip())
         names = [self.nurses, self.shifts] + [self.skills] * self.single + [self.types] * bool(self.right)
-        below = abbreviations(*names) + [LEGEND] * bool(totals(view)) + [f"{AWAY} = away"] * self.has_away + view.legend() + view.misfilled()
+        below = (
+            abbreviations(*names) + [LEGEND] * bool(totals(view)) + [f"{AWAY} = away"] * self.has_away + view.legend() + view.misfilled()
+        )
         return lines + [""] * bool(below) + below
 
 
@@ -141,5 +143,8 @@ def spreadsheet(view: RosterView) -> Iterator[List[object]]:
             row += [sum(view.costs[nurse].values()), costs_text(view.costs[nurse])]
         if counted:
             total = counted[nurse]
-            row += [total.shifts, *total.contract, total.weekends, total.max_weekends, len(total.wishes), total.granted, *total.by_shift.values()]
+            row += [
+                total.shifts, *total.contract, total.weekends, total.max_weekends, len(total.wishes), total.granted,
+                *total.by_shift.values(),
+            ]
         yield row

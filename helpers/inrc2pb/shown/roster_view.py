@@ -1,14 +1,15 @@
 """A roster of one or more weeks, ready to be shown: cells with marks, charges, and lines that go below."""
 
-from dataclasses import dataclass
+from dataclasses import dataclass, field
 from functools import cached_property
-from typing import Callable, Dict, FrozenSet, Iterator, List, NamedTuple, Optional, Sequence
+from typing import Callable, Dict, FrozenSet, Iterator, List, Mapping, NamedTuple, Optional, Sequence, Tuple
 
 from ..judging import rules
-from ..judging.absences import Absence, absences_of, is_broken_by
+from ..judging.absences import absences_of, is_broken_by
 from ..judging.breaches import Breach, breaches
 from ..judging.coverage import missing_nurses, spare_nurses
-from ..week.records import Cell, Week, WeekData
+from ..judging.limits import exceeded, limits_in_words
+from ..week.records import Absence, Cell, Week, WeekData
 
 HELD, REFUSED, AWAY = "*", "!", "#"
 MEANINGS = {HELD: "held", REFUSED: "a request to be off was not granted", AWAY: "on duty while away"}
@@ -32,6 +33,8 @@ class WeekView:
     week: Optional[Week] = None
     held: Sequence[Cell] = ()
     early: bool = False
+    # Why nurses are away, as far as it is known.
+    reasons: Mapping[Tuple[str, int], str] = field(default_factory=dict)
 
     def marks(self, cell: Cell) -> str:
         """The marks of an assignment."""
@@ -65,6 +68,19 @@ class WeekView:
         """What the soft rules charge; None if the week's files are not known, or the roster breaks a hard rule."""
         return list(rules.charges(self.week, self.cells, self.early)) if self.week and not self.breaches else None
 
+    @cached_property
+    def above(self) -> List[rules.Charge]:
+        """What the roster has above limits that hold, if the week's files are known."""
+        return exceeded(self.week, self.week.data.limits, self.cells) if self.week and not self.breaches else []
+
+    def for_absence(self, charge: rules.Charge) -> int:
+        """The part of a charge that is for absences: days off above the maximum in a row, while the nurse is away."""
+        if (charge.rule, charge.what) != ("S3", "off above") or not charge.days:
+            return 0
+        first, last = charge.days
+        away = sum(Absence(charge.nurse or "", day, None) in self.absences for day in range(first, last + 1))
+        return charge.weight * min(charge.times, away)
+
     @property
     def penalty(self) -> Optional[int]:
         """The penalty of the roster, if it has one."""
@@ -79,9 +95,10 @@ class WeekView:
             lines.append(f"roster breaks {self.breaches[0].rule}: it has no penalty")
         if self.charges is not None:
             places = sum(charge.cost for charge in self.charges if charge.nurse is None)
-            whole = sum(charge.cost for charge in self.charges)
-            lines.append(f"cost: of the nurses {whole - places}, of places not filled (S1) {places}; penalty {whole}")
-        return lines
+            whole, away = sum(charge.cost for charge in self.charges), sum(map(self.for_absence, self.charges))
+            absent = f", {away} of it for absences" * bool(away)
+            lines.append(f"cost: of the nurses {whole - places}{absent}, of places not filled (S1) {places}; penalty {whole}")
+        return lines + [f"above a limit that holds: {limits_in_words([charge], self.cells)}" for charge in self.above]
 
     @property
     def misfilled(self) -> List[str]:
@@ -131,6 +148,10 @@ class RosterView:
     def is_away(self, week: int, nurse: str, day: int) -> bool:
         """Whether the nurse is away on this day by the week's file."""
         return Absence(nurse, day, None) in self.weeks[week].absences
+
+    def reason(self, week: int, nurse: str, day: int) -> str:
+        """Why the nurse is away on this day, or `away`."""
+        return self.weeks[week].reasons.get((nurse, day), "away")
 
     @property
     def has_costs(self) -> bool:

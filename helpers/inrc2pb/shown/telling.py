@@ -4,10 +4,12 @@ from typing import Collection, Dict, Iterable, Iterator, List, Optional, Tuple
 
 from ..judging.absences import absences_of, joined, wishes_of
 from ..judging.demand import asked_shifts, supplied_shifts
+from ..week.facts import SHIFTS, WEEKENDS, WORK_DAYS
 from ..week.hints import plural
 from ..week.records import DAYS, Cell, Contract, History, Limits, Place, Request, Requirement, Scenario, WeekData
 
 _WEEK = len(DAYS)
+_LIMITS = {SHIFTS: "shifts", WORK_DAYS: "days of work in a row", WEEKENDS: "weekends"}
 
 
 def scenario_sentences(scenario: Scenario) -> Iterator[str]:
@@ -32,7 +34,10 @@ def _contract_sentences(contract: Contract, scenario: Scenario) -> Iterator[str]
         f"{contract.name}: {_range(contract.assignments, days)} shifts in {period}; {_in_a_row(contract.working_days)} of work in a row, "
         f"{_in_a_row(contract.days_off)} off."
     )
-    weekends = f"at most {plural(contract.max_weekends, 'weekend')} with work" if contract.max_weekends < scenario.weeks else "any number of weekends with work"
+    weekends = (
+        f"at most {plural(contract.max_weekends, 'weekend')} with work" if contract.max_weekends < scenario.weeks
+        else "any number of weekends with work"
+    )
     yield f"{contract.name}: {weekends}" + (", on both days or none." if contract.complete_weekends else ".")
 
 
@@ -58,7 +63,10 @@ def history_sentences(history: History) -> Iterator[str]:
     """A history in sentences: the last days, and the totals of the period."""
     yield f"{plural(history.week, 'week')} of the period {'is' if history.week == 1 else 'are'} over."
     for past in history.nurses.values():
-        total = f"; {plural(past.assignments, 'shift')} and {plural(past.weekends, 'weekend')} in this period" if past.assignments or past.weekends else ""
+        total = (
+            f"; {plural(past.assignments, 'shift')} and {plural(past.weekends, 'weekend')} in this period"
+            if past.assignments or past.weekends else ""
+        )
         if past.last_shift is None:
             yield f"{past.nurse} was off on Sunday, for {plural(past.days_off, 'day')} in a row{total}."
         else:
@@ -70,7 +78,9 @@ def week_sentences(scenario: Scenario, history: Optional[History], data: WeekDat
     """A week in sentences: its numbers, absences and wishes."""
     rows: Dict[Tuple[str, str], List[Requirement]] = {}
     for place in data.requirements:
-        rows[place.shift, place.skill] = [data.requirements.get(Place(day, place.shift, place.skill), Requirement(0, 0)) for day in range(_WEEK)]
+        rows[place.shift, place.skill] = [
+            data.requirements.get(Place(day, place.shift, place.skill), Requirement(0, 0)) for day in range(_WEEK)
+        ]
     for (shift, skill), numbers in rows.items():
         yield f"{shift} {skill}: {_numbers_by_day(numbers)}."
     (minimum, best), (low, high) = asked_shifts(data), supplied_shifts(scenario, history)
@@ -79,7 +89,18 @@ def week_sentences(scenario: Scenario, history: Optional[History], data: WeekDat
     for nurse in scenario.nurses:
         for named in (None, *scenario.shift_types):
             yield from _away(nurse, named, {one.day for one in away if (one.nurse, one.shift) == (nurse, named)})
+    yield from _limits_that_hold(scenario, data)
     yield from _wishes(wishes_of(data))
+
+
+def _limits_that_hold(scenario: Scenario, data: WeekData) -> Iterator[str]:
+    """The maxima that are never exceeded, by contract or, if not all nurses of a contract have one, by nurse."""
+    for kind, what in _LIMITS.items():
+        held = {limit.nurse for limit in data.limits if limit.kind == kind}
+        for contract in scenario.contracts:
+            owners = [nurse.name for nurse in scenario.nurses.values() if nurse.contract == contract]
+            named = [contract] if held.issuperset(owners) else [nurse for nurse in owners if nurse in held]
+            yield from (f"{name}: the most {what} hold." for name in named if owners)
 
 
 def _numbers_by_day(numbers: List[Requirement]) -> str:

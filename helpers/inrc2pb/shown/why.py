@@ -3,6 +3,7 @@
 from typing import Iterator, List, Tuple
 
 from .changes import changed_lines
+from ..judging.limits import limits_in_words
 from .charge_words import costs_text, difference, in_words
 from .roster_view import RosterView
 from ..judging.rules import SOFT_RULES, Charge, cost_by_rule
@@ -22,11 +23,15 @@ def breach_lines(view: RosterView, named: str = "roster") -> Iterator[str]:
 def why_lines(view: RosterView) -> Iterator[str]:
     """A line for each hard rule that is broken and for each charge, and the sum."""
     yield from breach_lines(view)
-    found = _charges(view)
-    for week, charge in found:
-        yield f"{charge.cost:5}  {charge.rule}  {week}{in_words(charge)}"
+    for above in view.weeks:
+        yield from (f"{view.prefix(above)}above a limit that holds: {limits_in_words([charge], above.cells)}" for charge in above.above)
+    for shown in view.weeks:
+        for charge in shown.charges or ():
+            away = shown.for_absence(charge)
+            absent = f" ({away} for absences)" * bool(away)
+            yield f"{charge.cost:5}  {charge.rule}  {view.prefix(shown)}{in_words(charge)}{absent}"
     if view.penalty is not None:
-        rules = costs_text(cost_by_rule(charge for _, charge in found))
+        rules = costs_text(cost_by_rule(charge for _, charge in _charges(view)))
         yield f"{view.penalty:5}  in all{f': {rules}' if rules else ''}"
 
 

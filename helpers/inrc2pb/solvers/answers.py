@@ -29,7 +29,8 @@ class Relaxed(NamedTuple):
 
 
 class Chosen(NamedTuple):
-    """An answer of an integer program: the names that are 1, or None without one, and whether the solver claims that there is no better one."""
+    """An answer of an integer program: the names that are 1, or None without one, and whether the solver claims that there is no better
+    one."""
 
     names: Optional[List[str]]
     proved: bool

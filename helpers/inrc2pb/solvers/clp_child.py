@@ -1,7 +1,7 @@
 """A process that keeps linear programs in Clp's library: it reads requests from its standard input and answers on its standard output.
 
-A request is a list of operations, marshalled, after its length. Each `solve` has an answer: HEAD, then, if it is asked for, the rows' prices,
-the columns' values and what one of each column would add. It imports nothing of the package, and so starts fast.
+A request is a list of operations, marshalled, after its length. Each `solve` has an answer: HEAD, then, if it is asked for, the rows'
+prices, the columns' values and what one of each column would add. It imports nothing of the package, and so starts fast.
 """
 
 import array
@@ -25,6 +25,8 @@ DUAL, PRIMAL = "dual", "primal"
 # Seconds between two looks whether the parent is alive.
 LOOK_SECONDS = 0.5
 _MOST_ITERATIONS = 2**31 - 1
+# The iterations after which it looks at the time.
+_PIECE = 1000
 # Clp's statuses of a basis for a new column and a new row.
 _AT_LOWER, _BASIC = b"\3", b"\1"
 _DOUBLE, _INT, _POINTER = ctypes.c_double, ctypes.c_int, ctypes.c_void_p
@@ -39,13 +41,14 @@ def load() -> Any:
         getattr(clp, name).restype, getattr(clp, name).argtypes = _POINTER, [_POINTER]
     for name in ("Clp_dualRowSolution", "Clp_primalColumnSolution", "Clp_dualColumnSolution"):
         getattr(clp, name).restype, getattr(clp, name).argtypes = _POINTER, [_POINTER]
-    for name in ("Clp_chgRowLower", "Clp_chgRowUpper", "Clp_chgColumnLower", "Clp_chgColumnUpper", "Clp_chgObjCoefficients", "Clp_copyinStatus"):
+    for name in (
+        "Clp_chgRowLower", "Clp_chgRowUpper", "Clp_chgColumnLower", "Clp_chgColumnUpper", "Clp_chgObjCoefficients", "Clp_copyinStatus",
+    ):
         getattr(clp, name).argtypes = [_POINTER, _POINTER]
     for name in ("Clp_setLogLevel", "Clp_setMaximumIterations", "Clp_dual", "Clp_primal"):
         getattr(clp, name).argtypes = [_POINTER, _INT]
     clp.Clp_objectiveValue.restype, clp.Clp_objectiveValue.argtypes = _DOUBLE, [_POINTER]
     clp.Clp_status.argtypes = clp.Clp_numberIterations.argtypes = [_POINTER]
-    clp.Clp_setMaximumSeconds.argtypes = [_POINTER, _DOUBLE]
     return clp
 
 
@@ -119,11 +122,16 @@ class Program:
     def solve(self, how: str, iterations: int, seconds: float, whole: bool) -> List[bytes]:
         """Solves it, from the basis at which it is; the answer."""
         clp, model = self._clp, self._model
-        clp.Clp_setMaximumIterations(model, iterations or _MOST_ITERATIONS)
-        clp.Clp_setMaximumSeconds(model, seconds)
-        (clp.Clp_dual if how == DUAL else clp.Clp_primal)(model, 0)
+        method, done, limit = clp.Clp_dual if how == DUAL else clp.Clp_primal, 0, time.monotonic() + seconds
+        while True:
+            # Clp's own limit of seconds does not count those in which it waits for a processor.
+            clp.Clp_setMaximumIterations(model, min(_PIECE, (iterations or _MOST_ITERATIONS) - done))
+            method(model, 0)
+            done += clp.Clp_numberIterations(model)
+            if clp.Clp_status(model) != STOPPED or done >= (iterations or _MOST_ITERATIONS) or time.monotonic() >= limit:
+                break
         rows, columns = (self._rows, self._columns) if whole else (0, 0)
-        head = HEAD.pack(clp.Clp_status(model), clp.Clp_numberIterations(model), clp.Clp_objectiveValue(model), rows, columns)
+        head = HEAD.pack(clp.Clp_status(model), done, clp.Clp_objectiveValue(model), rows, columns)
         found = [(clp.Clp_dualRowSolution, rows), (clp.Clp_primalColumnSolution, columns), (clp.Clp_dualColumnSolution, columns)]
         return [head, *(ctypes.string_at(get(model), 8 * number) for get, number in found if number)]
 

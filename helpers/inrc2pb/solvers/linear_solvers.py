@@ -8,7 +8,7 @@ from typing import Callable, Dict, Iterator, List, Optional, Sequence
 
 from .answers import MAX_FAULTS, MAX_VALUE, Chosen, NoSolution, Relaxed, SolverFault
 from ..programs.clock import Clock, TimeIsOver
-from ..programs.processes import Ended, Processes
+from ..programs.processes import MAX_OUTPUT, Ended, Processes
 from .resident_program import Child, LinearProgram
 
 INSTALL = "install one (Debian: apt-get install coinor-cbc)"
@@ -35,24 +35,28 @@ class LinearSolver:
         answer is a SolverFault if it shows."""
         raise NotImplementedError
 
-    def choose(self, model: str, clock: Clock, cutoff: Optional[int], step: int) -> Chosen:
-        """Solves an integer program whose values are multiples of `step`; only answers of at most the cutoff count."""
+    def choose(self, model: str, clock: Clock, cutoff: Optional[int], step: int, nodes: int = 0) -> Chosen:
+        """Solves an integer program whose values are multiples of `step`, in at most so many nodes, if that is not 0; only answers of at
+        most the cutoff count."""
         raise NotImplementedError
 
     def beside(self, number: int) -> "LinearSolver":
-        """The same solver with files of its own, so that it can run at the same time; the number is above 0."""
+        """The same solver with files of its own, so that it can run at the same time; the number is above 0. Each number has one."""
         raise NotImplementedError
 
     def program(self) -> LinearProgram:
         """A linear program of this solver, without rows and columns."""
         return LinearProgram(None, self.relax)
 
+    def warn(self, line: str) -> None:
+        """Prints a warning."""
+
     def end_all(self) -> None:
         """Ends what runs now, also in the solvers beside this one."""
         self._processes.end_running()
 
     def close(self) -> None:
-        """Ends the process that it keeps, if there is one."""
+        """Ends the process that it keeps, if there is one, and those of the solvers beside it."""
 
     def _run(self, model: str, words: Sequence[str], clock: Clock, seconds: float) -> Ended:
         self._model.write_text(model)
@@ -69,6 +73,8 @@ class LinearSolver:
         """The lines of the answer's file."""
         if not self._answer.exists():
             raise SolverFault(f"{self.name} wrote no answer and ended with status {ended.status}")
+        if self._answer.stat().st_size > MAX_OUTPUT:
+            raise SolverFault(f"{self.name} wrote more than {MAX_OUTPUT >> 20} MiB, too much for an answer")
         lines = self._answer.read_text(encoding="utf-8", errors="replace").splitlines()
         if not lines:
             raise SolverFault(f"{self.name} wrote an empty answer")
@@ -86,7 +92,8 @@ def _number(text: str, solver: str) -> float:
 
 
 class Coin(LinearSolver):
-    """cbc or clp, which write the same files: index, name, value and price of each row, then of each column; `**` marks what is infeasible."""
+    """cbc or clp, which write the same files: index, name, value and price of each row, then of each column; `**` marks what is
+    infeasible."""
 
     def __init__(self, name: str, processes: Processes, folder: Path) -> None:
         super().__init__(processes, folder)
@@ -115,10 +122,14 @@ class Coin(LinearSolver):
                 found.rises[name] = _number(price, self.name)
         return found
 
-    def choose(self, model: str, clock: Clock, cutoff: Optional[int], step: int) -> Chosen:
+    def choose(self, model: str, clock: Clock, cutoff: Optional[int], step: int, nodes: int = 0) -> Chosen:
         most = [] if cutoff is None else ["cutoff", f"{cutoff + 0.5}"]
         seconds = clock.left()
-        words = [self._model.name, "sec", f"{seconds:.1f}", "timem", "elapsed", *most, "ratio", "0", "allow", f"{step - 0.1}", "increment", f"{step - 0.1}"]
+        words = [
+            self._model.name, "sec", f"{seconds:.1f}", "timem", "elapsed", *most, "ratio", "0", "allow", f"{step - 0.1}", "increment",
+            f"{step - 0.1}",
+        ]
+        words += ["maxNodes", str(nodes)] * bool(nodes)
         how = ["-heuristicsOnOff", "off"] if model.count("\n BV ") > MANY else []
         ended = self._run(model, [*words, *how, "solve", "solution", self._answer.name], clock, seconds + _WRITING)
         late = clock.left() < seconds / 2
@@ -158,7 +169,9 @@ class Glpsol(LinearSolver):
                 value = _number(line.partition("=")[2].split()[0], self.name)
             elif kind == "s" and words[3:5] != ["f", "f"]:
                 raise SolverFault("glpsol found no solution")
-            elif kind in ("i", "j") and len(words) == 4 and words[0].isdigit() and 0 < int(words[0]) <= len(rows if kind == "i" else columns):
+            elif (
+                kind in ("i", "j") and len(words) == 4 and words[0].isdigit() and 0 < int(words[0]) <= len(rows if kind == "i" else columns)
+            ):
                 name = (rows if kind == "i" else columns)[int(words[0]) - 1]
                 if kind == "i":
                     found.prices[name] = _number(words[3], self.name)
@@ -201,6 +214,7 @@ class LinearSolvers(LinearSolver):
         self._child = Child(processes, folder) if resident else None
         self._others = [Glpsol(processes, folder) if name == "glpsol" else Coin(name, processes, folder) for name in names]
         self._warn, self._faults = warn, 0
+        self._beside: Dict[int, "LinearSolvers"] = {}
 
     @property
     def name(self) -> str:  # type: ignore[override]
@@ -224,20 +238,26 @@ class LinearSolvers(LinearSolver):
             except SolverFault as fault:
                 self._blame(fault)
 
-    def choose(self, model: str, clock: Clock, cutoff: Optional[int], step: int) -> Chosen:
+    def choose(self, model: str, clock: Clock, cutoff: Optional[int], step: int, nodes: int = 0) -> Chosen:
         """Solves an integer program; a fault is no answer."""
         try:
-            return self._others[0].choose(model, clock, cutoff, step)
+            return self._others[0].choose(model, clock, cutoff, step, nodes)
         except SolverFault as fault:
             self._blame(fault)
             return Chosen(None, False)
 
     def beside(self, number: int) -> LinearSolver:
         """The solvers that are still used, with files of their own; the number is above 0."""
-        folder = self._model.parent / str(number)
-        folder.mkdir(exist_ok=True)
-        resident = self._child is not None and self._child.works
-        return LinearSolvers([other.name for other in self._others], self._processes, folder, self._warn, resident)
+        if number not in self._beside:
+            folder = self._model.parent / str(number)
+            folder.mkdir(exist_ok=True)
+            resident = self._child is not None and self._child.works
+            self._beside[number] = LinearSolvers([other.name for other in self._others], self._processes, folder, self._warn, resident)
+        return self._beside[number]
+
+    def warn(self, line: str) -> None:
+        """Prints a warning."""
+        self._warn(line)
 
     def program(self) -> LinearProgram:
         """A linear program, kept by the child."""
@@ -245,8 +265,9 @@ class LinearSolvers(LinearSolver):
 
     def close(self) -> None:
         """Ends the child."""
-        if self._child:
-            self._child.end()
+        for solver in (self, *self._beside.values()):
+            if solver._child:
+                solver._child.end()
 
     def _blame(self, fault: SolverFault) -> None:
         self._basis.unlink(missing_ok=True)

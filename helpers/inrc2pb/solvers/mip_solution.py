@@ -1,14 +1,16 @@
 """Reads the result files of MIP solvers, as answers that `inrc2pb decode` reads.
 
-Known are the files of cbc, glpsol, HiGHS and SCIP, Gurobi's list of names and values, and toulbar2's list.
+Known are the files of cbc, glpsol and HiGHS, and Gurobi's list of names and values.
 """
 
+import os
 import re
 from array import array
 from dataclasses import dataclass, field
 from typing import Callable, Iterable, Iterator, List, Optional, TextIO, Tuple
 
 from ..week.faults import Misuse
+from ..week.slots import PathLike
 
 # How a solver ended, and the status of its answer.
 STATUSES = {"optimal": "OPTIMUM FOUND", "stopped": "SATISFIABLE", "infeasible": "UNSATISFIABLE", "unknown": "UNKNOWN"}
@@ -16,6 +18,8 @@ STATUSES = {"optimal": "OPTIMUM FOUND", "stopped": "SATISFIABLE", "infeasible": 
 TOLERANCE = 1e-6 * (1 + 1e-9)
 # A value that is off by no more is an integer by some solver's tolerance, such as Gurobi's own of 1e-5.
 SOLVER_TOLERANCE = 1e-3
+# A larger file is no result of a model: the longest one has some megabytes.
+MAX_BYTES = 1 << 28
 # An objective of more than 17 digits is not kept.
 MAX_OBJECTIVE = 1e17
 LITERALS_PER_LINE = 20
@@ -50,6 +54,12 @@ class Answer:
             target.write(f"o {self.objective}\n")
         for index in range(0, len(self.variables), LITERALS_PER_LINE):
             target.write("v" + "".join(f" x{number}" for number in self.variables[index : index + LITERALS_PER_LINE]) + "\n")
+
+
+def check_size(path: PathLike) -> None:
+    """A file that is too long for an answer is a SolutionFault before it is read."""
+    if os.path.isfile(path) and os.path.getsize(path) > MAX_BYTES:
+        raise SolutionFault(f"{path} has more than {MAX_BYTES >> 20} MiB: this is no answer")
 
 
 def read_answer(solution: TextIO, ended: Optional[str] = None) -> Answer:
@@ -196,22 +206,6 @@ def _until_comment(lines: Iterator[Line]) -> Iterator[Tuple[int, List[str]]]:
         yield number, words
 
 
-def _of_scip(first: Line, lines: Iterator[Line], _ended: str) -> Answer:
-    """`solution status: ..`, `objective value: ..`, then a name, a value and `(obj:..)` a line."""
-    says = first[1].partition(":")[2].strip()
-    if says == "infeasible":
-        return Answer("UNSATISFIABLE")
-    second = next(lines, (0, ""))[1]
-    if not second.startswith("objective value:"):
-        return Answer("UNKNOWN")
-    status = "optimal" if says == "optimal solution found" else "stopped"
-    return Answer(STATUSES[status], _objective(second.partition(":")[2].strip()), _values(_words(lines)))
-
-
-def _of_raw_glpsol(_first: Line, _lines: Iterator[Line], _ended: str) -> Answer:
-    raise SolutionFault("this is the solution without names that `glpsol -w` writes: let `glpsol -o` write it")
-
-
 def _of_list(first: Line, lines: Iterator[Line], ended: str) -> Answer:
     """Names and values, as Gurobi and others write them; `# Objective value = ..` in front, if at all."""
     objective = None
@@ -223,24 +217,9 @@ def _of_list(first: Line, lines: Iterator[Line], ended: str) -> Answer:
     return Answer(STATUSES[ended], objective, _values(_words(line for part in (rows, lines) for line in part)))
 
 
-def _of_toulbar2(first: Line, lines: Iterator[Line], ended: str) -> Answer:
-    """`x1=v0 x2=v1 ..` on one line: the last line is the last solution."""
-    last = first
-    for last in lines:
-        pass
-    variables = array("L")
-    for word in last[1].split():
-        name, _, value = word.partition("=")
-        _put_value(last[0], name, value[1:] if value.startswith("v") else value, variables)
-    return Answer(STATUSES[ended], None, variables)
-
-
 _READERS: List[Tuple["re.Pattern[str]", Callable[[Line, Iterator[Line], str], Answer]]] = [
-    (re.compile(r"solution status:"), _of_scip),
     (re.compile(r"Model status$"), _of_highs),
     (re.compile(r"Problem:"), _of_glpsol),
-    (re.compile(r"c Problem:"), _of_raw_glpsol),
     (re.compile(r".* - objective value"), _of_cbc),
-    (re.compile(r"x[0-9]+="), _of_toulbar2),
     (re.compile(r"#|x[0-9]+\s"), _of_list),
 ]

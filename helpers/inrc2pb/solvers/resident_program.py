@@ -22,9 +22,11 @@ from ..programs.clock import Clock, TimeIsOver
 from ..programs.processes import MAX_WAIT, PIECE, Processes
 
 # Seconds that a child has beyond the end of the time to say so.
-GRACE = 0.5
+GRACE = 1.0
 # What Clp takes for infinity.
 _INFINITE = 1e30
+# The line before and after columns that are integers.
+_MARK = "    MARKER                 'MARKER'                 'INT{}'\n"
 # An operation on a program: a name and words.
 _Operation = Tuple[object, ...]
 # Solves the text of a program; the flag says whether the last solution is a start.
@@ -161,6 +163,11 @@ def _finite(value: float) -> float:
     return max(-_INFINITE, min(_INFINITE, value))
 
 
+def no_solver(text: str, clock: Clock, goes_on: bool) -> Relaxed:
+    """Solves nothing, for programs that are never solved."""
+    raise SolverFault("there is no solver of linear programs")
+
+
 class LinearProgram:
     """A linear program. It is a copy of what a child keeps: a new child gets it from here, and so does a solver that reads files.
 
@@ -278,12 +285,15 @@ class LinearProgram:
         for target, values in ((prices, found.prices), (columns, found.taken), (rises, found.rises)):
             for name, value in values.items():
                 if not (name[1:].isdigit() and int(name[1:]) < len(target)):
-                    raise SolverFault(f"the answer has an unknown name {name[:40]}")
+                    raise SolverFault(f"the answer has an unknown column {name[:40]}")
                 target[int(name[1:])] = value
-        return Solution(OPTIMAL, found.value, prices, columns, rises)
+        # How many iterations it took is not known: as many as it has rows, say.
+        return Solution(OPTIMAL, found.value, prices, columns, rises, self.rows)
 
-    def text(self) -> str:
-        """The program in the MPS format: row N is cN, column N is vN."""
+    def text(self, names: Optional[Sequence[str]] = None, whole: str = "") -> str:
+        """The program in the MPS format: row N is cN. Column N is vN, or has one of the names; an empty name leaves it out, and names with
+        the letter of `whole` are those of columns that are 0 or 1."""
+        names = names or [f"v{number}" for number in range(len(self._columns))]
         kinds, right, ranges = [], [], []
         for number, (lower, upper) in enumerate(zip(self._lower, self._upper)):
             kind = "E" if lower == upper else "N" if upper - lower >= 2 * _INFINITE else "G" if upper >= _INFINITE else "L"
@@ -293,12 +303,21 @@ class LinearProgram:
             if kind == "L" and lower > -_INFINITE:
                 ranges.append(_entry("RNG", f"c{number}", upper - lower))
         lines = ["NAME          ROWS\nROWS\n N  obj\n", *kinds, "COLUMNS\n"]
-        limits = []
-        for number, (cost, lower, upper, entries) in enumerate(self._columns):
-            lines += [_entry(f"v{number}", "obj", cost), *(_entry(f"v{number}", f"c{row}", value) for row, value in entries)]
-            limits.append(_bound("LO" if lower > -_INFINITE else "MI", number, _finite(lower)))
-            limits += [_bound("UP", number, upper)] * (upper < _INFINITE)
-        return "".join([*lines, "RHS\n", *right, "RANGES\n", *ranges, "BOUNDS\n", *limits, "ENDATA\n"])
+        limits, marks = [], 0
+        for name, (cost, lower, upper, entries) in zip(names, self._columns):
+            if not name or lower == upper == 0:
+                continue
+            is_whole = name[0] == whole
+            lines += [_MARK.format("END" if marks % 2 else "ORG")] * (is_whole == (marks % 2 == 0))
+            marks += is_whole == (marks % 2 == 0)
+            lines += [_entry(name, "obj", cost)] * (cost != 0) + [_entry(name, f"c{row}", value) for row, value in entries]
+            if is_whole:
+                limits.append(f" BV BND       {name}\n")
+            else:
+                limits += [_bound("LO" if lower > -_INFINITE else "MI", name, _finite(lower))] * (lower != 0)
+                limits.append(_bound("UP", name, upper) if upper < _INFINITE else f" PL BND       {name}\n")
+        lines += [_MARK.format("END")] * (marks % 2)
+        return "".join([*lines, "RHS\n", *right, *["RANGES\n"] * bool(ranges), *ranges, "BOUNDS\n", *limits, "ENDATA\n"])
 
 
 def _as_arrays(columns: Sequence[Column]) -> Tuple[bytes, ...]:
@@ -317,5 +336,5 @@ def _entry(column: str, row: str, value: float) -> str:
     return f"    {column:<8}  {row:<8}  {value:>12.12g}\n"
 
 
-def _bound(kind: str, number: int, value: float) -> str:
-    return f" {kind} BND       v{number:<7}  {value:>12.12g}\n"
+def _bound(kind: str, name: str, value: float) -> str:
+    return f" {kind} BND       {name:<8}  {value:>12.12g}\n"

@@ -14,11 +14,13 @@ from typing import List, Optional, Sequence
 from ..programs.clock import TimeIsOver
 from ..week.faults import Misuse
 from .linear_program import convert
-from .mip_solution import SolutionFault, read_answer
+from .mip_solution import SolutionFault, check_size, read_answer
 from ..programs.processes import MAX_OUTPUT, Ended, Processes
 from ..programs.program import WeekFiles, encode_unless_stopped
 
-PACKAGES = {"clasp": "clasp", "cbc": "coinor-cbc", "minisat+": "minisat+", "toulbar2": "toulbar2", "glpsol": "glpk-utils", "clp": "coinor-clp"}
+PACKAGES = {
+    "clasp": "clasp", "cbc": "coinor-cbc", "minisat+": "minisat+", "glpsol": "glpk-utils", "clp": "coinor-clp",
+}
 # The commands of solvers that are named without one.
 _COMMANDS = {
     "clasp": "clasp --time-limit={seconds} {opb}",
@@ -92,6 +94,7 @@ def answer_of(solution: Path, ended: Optional[str] = None) -> Outcome:
     """The answer in a result file; `ended` counts if the file does not say how the solver ended."""
     text = io.StringIO()
     try:
+        check_size(solution)
         with open(solution, encoding="utf-8", errors="replace") as file:
             read_answer(file, ended).write(text)
     except SolutionFault as fault:

@@ -7,10 +7,11 @@ from typing import Collection, Dict, NamedTuple, Optional, Sequence
 from .faults import Misuse
 from .hints import quoted
 from .records import DAYS
-from .slots import closest
+from .slots import did_you_mean
 
 MONTHS = ("Jan", "Feb", "Mar", "Apr", "May", "Jun", "Jul", "Aug", "Sep", "Oct", "Nov", "Dec")
 DAY = datetime.timedelta(days=1)
+_TIMES = re.compile("([0-9]{1,2}:[0-9]{2}) ?[-\u2013] ?([0-9]{1,2}:[0-9]{2})")
 
 
 class Times(NamedTuple):
@@ -55,27 +56,37 @@ def day_names(monday: Optional[datetime.date], week: int) -> Sequence[str]:
 
 
 def read_times(texts: Sequence[str], shifts: Collection[str]) -> Dict[str, Times]:
-    """The times of some shift types, each given as `Early=06:00-14:15`. A shift that ends before it begins ends on the next day."""
+    """The times of all shift types or of none, each given as `Early=06:00-14:15`. A shift that ends before it begins ends a day later."""
     found: Dict[str, Times] = {}
     for text in texts:
         shift, is_given, times = text.rpartition("=")
-        match = re.fullmatch("([0-9]{1,2}:[0-9]{2})-([0-9]{1,2}:[0-9]{2})", times)
-        if not is_given or not match:
+        if not is_given or not _TIMES.fullmatch(times):
             raise Misuse(f"--times {text}: give a shift type, its start and its end, such as Early=06:00-14:15")
         if shift not in shifts:
-            meant = closest(shift, shifts)
-            raise Misuse(f"--times {text}: '{shift}' is no shift type: {f'did you mean {meant}?' if meant else f'give one of {quoted(shifts)}'}")
+            advice = did_you_mean(shift, shifts, f"give one of {quoted(shifts)}")
+            raise Misuse(f"--times {text}: '{shift}' is no shift type: {advice}")
         if shift in found:
             raise Misuse(f"--times {text}: {shift} has two times: give one")
-        start, end = (_minutes(text, time) for time in match.groups())
-        length = (end - start) % (24 * 60) or 24 * 60
-        found[shift] = Times(datetime.time(start // 60 % 24, start % 60), datetime.timedelta(minutes=length))
+        found[shift] = times_of(times, f"--times {text}")
+    missing = [shift for shift in shifts if shift not in found]
+    if found and missing:
+        raise Misuse(f"--times has no times of {quoted(missing)}: give them too, such as --times {missing[0]}=06:00-14:15")
     return found
 
 
-def _minutes(text: str, time: str) -> int:
+def times_of(text: str, where: str) -> Times:
+    """The times of a shift, given as `06:00-14:15`."""
+    match = _TIMES.fullmatch(text)
+    if not match:
+        raise Misuse(f"{where}: '{text}' has no times: write when the shift begins and ends, such as 06:00-14:15")
+    start, end = (_minutes(where, time) for time in match.groups())
+    length = (end - start) % (24 * 60) or 24 * 60
+    return Times(datetime.time(start // 60 % 24, start % 60), datetime.timedelta(minutes=length))
+
+
+def _minutes(where: str, time: str) -> int:
     """The minutes from midnight to a time, such as 6:00 or 24:00."""
     hours, minutes = map(int, time.split(":"))
     if minutes > 59 or hours * 60 + minutes > 24 * 60:
-        raise Misuse(f"--times {text}: {time} is no time of a day: give hours from 0 to 24 and minutes from 00 to 59")
+        raise Misuse(f"{where}: {time} is no time of a day: give hours from 0 to 24 and minutes from 00 to 59")
     return hours * 60 + minutes

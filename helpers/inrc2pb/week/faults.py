@@ -21,8 +21,8 @@ _ADVICE = {
     "ENAMETOOLONG": "give a shorter name",
     "ELOOP": "its links lead in a circle: correct them",
     "ENOEXEC": "it is no program of this machine; a script needs a first line such as #!/bin/sh",
-    "EMFILE": "raise your limit for open files (ulimit -n), or give a smaller --jobs",
-    "EAGAIN": "end other programs, or give a smaller --jobs",
+    "EMFILE": "raise your limit for open files (ulimit -n)",
+    "EAGAIN": "end other programs",
     "ENOMEM": "end other programs",
 }
 
@@ -121,7 +121,18 @@ def fault_line(fault: BaseException) -> str:
     elif isinstance(fault, ProgramFault):
         of_line = next((advice for part, advice in _PROGRAM_ADVICE if part in fault.message), "")
         advice = _os_advice(fault.__cause__) if isinstance(fault.__cause__, OSError) else of_line
-    return (f"{line}: {advice}" if advice and not line.endswith("?") else line).replace("\n", " ")
+    return printable((f"{line}: {advice}" if advice and not line.endswith("?") else line).replace("\n", " "))
+
+
+def printable(text: str) -> str:
+    """The text with the codes of the signs that no terminal shows, and of the bytes that are no UTF-8."""
+    return "".join(char if char.isprintable() else _code(ord(char)) for char in text)
+
+
+def _code(number: int) -> str:
+    # `text_of` reads the byte 80 (hexadecimal) as dc80.
+    number -= 0xDC00 * (0xDC80 <= number <= 0xDCFF)
+    return f"\\x{number:02x}" if number < 256 else f"\\u{number:04x}"
 
 
 def _os_advice(fault: OSError) -> str:

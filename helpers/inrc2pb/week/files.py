@@ -9,7 +9,7 @@ from typing import Dict, Iterable, List, Optional, Tuple
 from .faults import FileFault, Misuse
 from .records import ANY, DAYS, NONE, Cell, Contract, History, Limits, Nurse, NurseHistory, Place, Request
 from .records import Requirement, Scenario, ShiftType, Solution, Week, WeekData
-from .slots import PathLike, Slots, Token
+from .slots import MAX_CONTRACTS, MAX_NURSES, MAX_SHIFTS, MAX_SKILLS, MAX_WEEKS, PathLike, Slots, Token
 from .writing import write_text
 
 
@@ -19,16 +19,16 @@ def read_scenario(path: PathLike, text: Optional[str] = None) -> Scenario:
     slots.words("SCENARIO", "=")
     name = slots.any_word("the scenario's name").text
     slots.words("WEEKS", "=")
-    weeks = slots.number("the number of weeks", 1, 52)
+    weeks = slots.number("the number of weeks", 1, MAX_WEEKS)
     slots.words("SKILLS", "=")
     skills: Dict[str, None] = {}
-    for _ in range(slots.number("the number of skills", 1, 16)):
+    for _ in range(slots.number("the number of skills", 1, MAX_SKILLS)):
         skills[slots.new_name("skill", skills)] = None
     shift_types = _shift_types(slots)
     contracts = _contracts(slots)
     slots.words("NURSES", "=")
     nurses: Dict[str, Nurse] = {}
-    for _ in range(slots.number("the number of nurses", 1, 1000)):
+    for _ in range(slots.number("the number of nurses", 1, MAX_NURSES)):
         nurse = slots.new_name("nurse", nurses)
         contract = slots.known_name("contract", contracts, "CONTRACTS").text
         count = slots.number(f"the number of skills of {nurse}", 0, len(skills))
@@ -40,7 +40,7 @@ def read_scenario(path: PathLike, text: Optional[str] = None) -> Scenario:
 def _shift_types(slots: Slots) -> Dict[str, ShiftType]:
     slots.words("SHIFT_TYPES", "=")
     limits: Dict[str, Limits] = {}
-    for _ in range(slots.number("the number of shift types", 1, 16)):
+    for _ in range(slots.number("the number of shift types", 1, MAX_SHIFTS)):
         shift = slots.new_name("shift type", [*limits, NONE, ANY])
         limits[shift] = slots.pair(f"consecutive {shift} shifts")
     slots.words("FORBIDDEN_SHIFT_TYPES_SUCCESSIONS")
@@ -57,7 +57,7 @@ def _shift_types(slots: Slots) -> Dict[str, ShiftType]:
 def _contracts(slots: Slots) -> Dict[str, Contract]:
     slots.words("CONTRACTS", "=")
     contracts: Dict[str, Contract] = {}
-    for _ in range(slots.number("the number of contracts", 1, 64)):
+    for _ in range(slots.number("the number of contracts", 1, MAX_CONTRACTS)):
         name = slots.new_name("contract", contracts)
         contracts[name] = Contract(
             name,
@@ -113,7 +113,9 @@ def _nurse_history(slots: Slots, nurse: str, scenario: Scenario) -> NurseHistory
 def check_week_number(path: PathLike, history: History, scenario: Scenario) -> None:
     """The history's week has to be one of the scenario's weeks."""
     if history.week >= scenario.weeks:
-        message = f"week {history.week} is not below WEEKS = {scenario.weeks}: the period is over, begin a new one with inrc2pb-next --new-period"
+        message = (
+            f"week {history.week} is not below WEEKS = {scenario.weeks}: the period is over, begin a new one with inrc2pb-next --new-period"
+        )
         raise FileFault(path, 0, message, "week not below WEEKS")
 
 
@@ -201,7 +203,10 @@ def scenario_text(scenario: Scenario) -> str:
     lines += [_row(shift.name, len(shift.forbidden_next), *shift.forbidden_next) for shift in types]
     lines += ["", f"CONTRACTS = {len(contracts)}"]
     lines += [
-        _row(contract.name, contract.assignments, contract.working_days, contract.days_off, contract.max_weekends, int(contract.complete_weekends)) for contract in contracts
+        _row(
+            contract.name, contract.assignments, contract.working_days, contract.days_off, contract.max_weekends,
+            int(contract.complete_weekends),
+        ) for contract in contracts
     ]
     lines += ["", f"NURSES = {len(nurses)}", *(_row(nurse.name, nurse.contract, len(nurse.skills), *nurse.skills) for nurse in nurses)]
     return "\n".join(lines) + "\n"

@@ -42,7 +42,9 @@ def reasons(lines: Sequence[str], line: int, word: str, names: Collection[str] =
 
     Each of the names should have a line below the heading.
     """
-    found = [*_wrong_count(lines, line), *_without_line(lines, names, heading), *_wrong_row(lines, line), *_wrong_number(lines[line - 1], word)]
+    found = [
+        *_wrong_count(lines, line), *_without_line(lines, names, heading), *_wrong_row(lines, line), *_wrong_number(lines[line - 1], word),
+    ]
     if not word:
         found += _no_requests(lines)
     return "".join(f"; {reason}" for reason in found)
@@ -76,7 +78,10 @@ def _wrong_count(lines: Sequence[str], line: int) -> Iterator[str]:
 
 def _without_line(lines: Sequence[str], names: Collection[str], heading: str) -> Iterator[str]:
     """The names with which no line below the heading begins."""
-    begins = {words_of(row)[0] for number, line in enumerate(lines) if heading and _heading_of(line) == heading for row in _rows_below(lines, number)}
+    begins = {
+        words_of(row)[0] for number, line in enumerate(lines) if heading and _heading_of(line) == heading
+        for row in _rows_below(lines, number)
+    }
     missing = [name for name in names if name not in begins]
     if missing:
         yield f"no line begins with {quoted(missing)}"
@@ -154,7 +159,10 @@ def _requested(row: str) -> Optional[str]:
 def _assigned(row: str) -> Optional[str]:
     words = words_of(row)
     turned = len(words) == 4 and words[1] not in DAYS and words[2] in DAYS
-    return "the day comes first, then the shift type" if turned else _wrong_length(row, 4, "a row has a nurse, a day, a shift type and a skill")
+    return (
+        "the day comes first, then the shift type" if turned
+        else _wrong_length(row, 4, "a row has a nurse, a day, a shift type and a skill")
+    )
 
 
 def _wrong_length(row: str, count: int, says: str) -> Optional[str]:

@@ -1,7 +1,7 @@
 """A scenario, a history, a week and a roster as values. Days are numbers from 0 (Monday); `DAYS` has their names."""
 
 from dataclasses import dataclass
-from typing import Dict, NamedTuple, Optional, Tuple
+from typing import Dict, FrozenSet, NamedTuple, Optional, Tuple
 
 DAYS = ("Mon", "Tue", "Wed", "Thu", "Fri", "Sat", "Sun")
 NONE, ANY = "None", "Any"
@@ -107,13 +107,31 @@ class Request:
     day: int
 
 
+class Absence(NamedTuple):
+    """A day on which a nurse may not work this shift type; None: any."""
+
+    nurse: str
+    day: int
+    shift: Optional[str]
+
+
+class KeptLimit(NamedTuple):
+    """A maximum of a nurse's contract that may be exceeded at most so often in a plan. The kinds are those of the charges in `facts`."""
+
+    nurse: str
+    kind: str
+    most: int
+
+
 @dataclass(frozen=True)
 class WeekData:
-    """The requirements that the week's file lists, and its requests."""
+    """The requirements that the week's file lists, and its requests; the absences and limits that a file of facts has for the week."""
 
     name: str
     requirements: Dict[Place, Requirement]
     requests: Tuple[Request, ...]
+    absences: FrozenSet[Absence] = frozenset()
+    limits: FrozenSet[KeptLimit] = frozenset()
 
 
 class Cell(NamedTuple):

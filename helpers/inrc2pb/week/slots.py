@@ -4,7 +4,7 @@ import contextlib
 import difflib
 import re
 from pathlib import Path
-from typing import Collection, Iterable, Iterator, List, NamedTuple, NoReturn, Optional, Tuple, Union
+from typing import Callable, Collection, Iterable, Iterator, List, NamedTuple, NoReturn, Optional, Tuple, Union
 
 from .faults import FileFault
 from .hints import HEADINGS, is_no_text, quoted, reasons
@@ -13,6 +13,7 @@ from .records import Limits
 
 MAX_FILE_LEN = 4_194_304
 MAX_NUMBER = 9999
+MAX_WEEKS, MAX_SKILLS, MAX_SHIFTS, MAX_CONTRACTS, MAX_NURSES = 52, 16, 16, 64, 1000
 SIGNS = "(),="
 _TOKEN = re.compile(r"[(),=]|[^ \t\n\r(),=]+")
 _COMMENT_STARTS = ("#", "//", ";", "%", "/*", "<!--", "--")
@@ -74,6 +75,12 @@ def closest(word: str, names: Iterable[str]) -> Optional[str]:
     same = [name for name in words if name.lower() == low]
     longer = [name for name in words if len(name) > 2 and low.startswith(name.lower()) or len(low) > 2 and name.lower().startswith(low)]
     return next(iter(same or difflib.get_close_matches(word, words, 1) or longer), None)
+
+
+def did_you_mean(word: str, names: Iterable[str], otherwise: str, shown: Callable[[str], str] = str) -> str:
+    """A question with the name that the word most likely means, as it is shown; without one, what else to do."""
+    meant = closest(word, names)
+    return f"did you mean {shown(meant)}?" if meant else otherwise
 
 
 class Slots:
@@ -202,8 +209,11 @@ class Slots:
             self.fault(token, "unknown name", f"'{token.text}' is no {kind} of {source}: {encoding}")
         same = composed_otherwise(token.text, names)
         if same:
-            self.fault(token, "unknown name", f"'{token.text}' is no {kind} of {source}: it looks like '{same}', and has other letters: copy that name")
-        meant = closest(token.text, names)
-        message = f"'{token.text}' is no {kind} of {source}: " + (f"did you mean '{meant}'?" if meant else f"it has {quoted(names)}")
-        hint = "" if _comment_hint(token.text) else _comment_hint(meant or "")
+            self.fault(
+                token, "unknown name",
+                f"'{token.text}' is no {kind} of {source}: it looks like '{same}', and has other letters: copy that name",
+            )
+        advice = did_you_mean(token.text, names, f"it has {quoted(names)}", "'{}'".format)
+        message = f"'{token.text}' is no {kind} of {source}: {advice}"
+        hint = "" if _comment_hint(token.text) else _comment_hint(closest(token.text, names) or "")
         self.fault(token, "unknown name", message + hint)

@@ -1,0 +1,254 @@
+//! Reads facts about a plan, and a facts' file.
+
+ghost use Rattle.std.specs.Prelude.{◌≡◌, ◌≤◌, [], length, IfOk, IfErr};
+ghost use Rattle.rota_core.specs.Certificates.{AreConditionsFor};
+ghost use Rattle.rota_core.specs.Limits.{max_number};
+ghost use Rattle.rota_core.specs.ScenarioTables.{numbers_of};
+ghost use Rattle.rota_core.specs.declared.fault.FileName.TheVariants as files;
+ghost use Rattle.rota_read.specs.FileAnswers.{IsFaultOf};
+ghost use Rattle.rota_read.specs.Files.{Spells};
+ghost use Rattle.rota_read.specs.Layout.{repeat};
+ghost use Rattle.rota_read.specs.FactsLayout.{charge_kind, charge_limit, condition_row, day_choice, fact, fact_word, facts, keyword, nurse_limit, nurse_unless, one_of_two, week_number};
+ghost use Rattle.rota_read.specs.Reading.{read_layout, read_text, Reads, ReadsFile};
+
+use crate::cursor::Cursor;
+use crate::fault::Stop;
+use rota_core::{
+    ChargeKind, ChargeLimit, Condition, DayChoice, Fact, FileFault, FileName, Kind, MAX_NUMBER,
+    NurseLimit, Scenario,
+};
+use std::alloc::Global;
+
+/// The word that a fact begins with.
+#[derive(Clone, Copy)]
+pub enum FactWord {
+    Choice,
+    Place,
+    Charges,
+    Even,
+}
+
+fn fact_word(word: &[u8]) -> Option<FactWord>
+    ensures { result ≡ fact_word word.now }
+{
+    if word == b"CHOICE".as_slice() {
+        return Some(FactWord::Choice);
+    }
+    if word == b"PLACE".as_slice() {
+        return Some(FactWord::Place);
+    }
+    if word == b"CHARGES".as_slice() {
+        return Some(FactWord::Charges);
+    }
+    if word == b"EVEN".as_slice() {
+        return Some(FactWord::Even);
+    }
+    None
+}
+
+fn charge_kind(word: &[u8]) -> Option<ChargeKind>
+    ensures { result ≡ charge_kind word.now }
+{
+    if word == b"SHIFT_RUNS".as_slice() {
+        return Some(ChargeKind::ShiftRuns);
+    }
+    if word == b"WORK_DAYS".as_slice() {
+        return Some(ChargeKind::WorkDays);
+    }
+    if word == b"SHIFTS".as_slice() {
+        return Some(ChargeKind::Assignments);
+    }
+    if word == b"WEEKENDS".as_slice() {
+        return Some(ChargeKind::Weekends);
+    }
+    None
+}
+
+impl<'a> Cursor<'a> {
+    #[tactic(auto, unfolding(crate::specs::FactsLayout::keyword, crate::specs::Reading::read_layout))]
+    fn fact_word(&mut self) -> Result<FactWord, Stop>
+        ensures { Reads (λ word. word) result self.new (read_layout (keyword fact_word) self.old) }
+    {
+        let token = self.token()?;
+        fact_word(token.word).ok_or(token.fault(Kind::OtherWord))
+    }
+
+    #[tactic(auto, unfolding(crate::specs::FactsLayout::keyword, crate::specs::Reading::read_layout))]
+    fn charge_kind(&mut self) -> Result<ChargeKind, Stop>
+        ensures { Reads (λ kind. kind) result self.new (read_layout (keyword charge_kind) self.old) }
+    {
+        let token = self.token()?;
+        charge_kind(token.word).ok_or(token.fault(Kind::OtherWord))
+    }
+
+    // Whether the next token is the first of two words; otherwise it is the second.
+    #[tactic(auto, unfolding(crate::specs::FactsLayout::one_of_two, crate::specs::FactsLayout::keyword, crate::specs::Reading::read_layout))]
+    fn one_of_two(&mut self, first: &[u8], second: &[u8]) -> Result<bool, Stop>
+        ensures { Reads (λ is. is) result self.new (read_layout (one_of_two first.now second.now) self.old) }
+    {
+        let token = self.token()?;
+        if token.word == first {
+            return Ok(true);
+        }
+        if token.word != second {
+            return Err(token.fault(Kind::OtherWord));
+        }
+        Ok(false)
+    }
+
+    // A week, from 0.
+    #[tactic(auto, unfolding(crate::specs::FactsLayout::week_number, crate::specs::Reading::read_layout))]
+    fn week_number(&mut self, weeks: u8) -> Result<u8, Stop>
+        ensures { Reads (λ week. week) result self.new (read_layout (week_number weeks) self.old) }
+    {
+        let number = self.number(1, u16::from(weeks))?;
+        Ok(number as u8 - 1)
+    }
+
+    #[tactic(auto, unfolding(crate::specs::FactsLayout::day_choice, crate::specs::Reading::read_layout))]
+    fn day_choice(&mut self, scenario: &Scenario, weeks: u8) -> Result<DayChoice, Stop>
+        ensures { Reads (λ one. one) result self.new (read_layout (day_choice scenario.now weeks) self.old) }
+    {
+        let week = self.week_number(weeks)?;
+        let nurse = self.nurse(scenario)?;
+        let day = self.day()?;
+        let choice = self.shift_or(b"None", scenario)?;
+        Ok(DayChoice {
+            week,
+            nurse,
+            day,
+            choice,
+        })
+    }
+
+    #[tactic(auto, unfolding(crate::specs::FactsLayout::nurse_limit, crate::specs::Reading::read_layout))]
+    fn nurse_limit(&mut self, scenario: &Scenario, weeks: u8) -> Result<NurseLimit, Stop>
+        ensures { Reads (λ one. one) result self.new (read_layout (nurse_limit scenario.now weeks) self.old) }
+    {
+        let week = self.week_number(weeks)?;
+        let day = self.day()?;
+        let shift = self.shift(scenario)?;
+        let skill = self.skill(scenario)?;
+        let most = self.number(0, MAX_NUMBER)?;
+        Ok(NurseLimit {
+            week,
+            day,
+            shift,
+            skill,
+            most,
+        })
+    }
+
+    // No nurse for all nurses, and otherwise a nurse.
+    #[tactic(auto, unfolding(crate::specs::FactsLayout::nurse_unless, crate::specs::Reading::read_layout))]
+    fn nurse_unless(&mut self, scenario: &Scenario, all: bool) -> Result<Option<u16>, Stop>
+        ensures { Reads (λ nurse. nurse) result self.new (read_layout (nurse_unless scenario.now all) self.old) }
+    {
+        if all {
+            return Ok(None);
+        }
+        Ok(Some(self.nurse(scenario)?))
+    }
+
+    #[tactic(auto, unfolding(crate::specs::FactsLayout::charge_limit, crate::specs::Reading::read_layout))]
+    fn charge_limit(&mut self, scenario: &Scenario) -> Result<ChargeLimit, Stop>
+        ensures { Reads (λ one. one) result self.new (read_layout (charge_limit scenario.now) self.old) }
+    {
+        let kind = self.charge_kind()?;
+        let all = self.one_of_two(b"ALL", b"NURSE")?;
+        let nurse = self.nurse_unless(scenario, all)?;
+        let most = self.number(0, MAX_NUMBER)?;
+        Ok(ChargeLimit { kind, nurse, most })
+    }
+
+    /// A fact about a plan of this number of weeks.
+    #[tactic(auto, unfolding(crate::specs::FactsLayout::fact, crate::specs::FactsLayout::fact_after, crate::specs::Reading::read_layout))]
+    pub fn fact(&mut self, scenario: &Scenario, weeks: u8) -> Result<Fact, Stop>
+        ensures { Reads (λ one. one) result self.new (read_layout (fact scenario.now weeks) self.old) }
+    {
+        match self.fact_word()? {
+            FactWord::Choice => Ok(Fact::Choice(self.day_choice(scenario, weeks)?)),
+            FactWord::Place => Ok(Fact::Nurses(self.nurse_limit(scenario, weeks)?)),
+            FactWord::Charges => Ok(Fact::Charges(self.charge_limit(scenario)?)),
+            FactWord::Even => Ok(Fact::EvenShiftRuns),
+        }
+    }
+
+    // Reads one more condition.
+    #[tactic(auto, unfolding(crate::specs::FactsLayout::condition_row, crate::specs::Reading::read_layout))]
+    fn condition_row(
+        &mut self,
+        scenario: &Scenario,
+        weeks: u8,
+        conditions: &mut Vec<Condition>,
+    ) -> Result<(), Stop>
+        ensures { Reads (λ _. conditions.new.items) result self.new (read_layout (condition_row scenario.now weeks conditions.old.items) self.old) }
+    {
+        let holds = self.one_of_two(b"HOLDS", b"NOT")?;
+        let fact = self.fact(scenario, weeks)?;
+        Ok(conditions.push(Condition { fact, holds })?)
+    }
+
+    // Reads this number of conditions.
+    #[tactic(auto, using(crate::proofs::RowSteps::row_steps))]
+    fn condition_rows(
+        &mut self,
+        alloc: Global,
+        scenario: &Scenario,
+        weeks: u8,
+        count: u16,
+    ) -> Result<Vec<Condition>, Stop>
+        ensures { Reads (λ v. v.items) result self.new (read_layout (repeat count (condition_row scenario.now weeks) []) self.old) }
+    {
+        let mut conditions = Vec::new(alloc);
+        for _ in 0..count {
+            self.condition_row(scenario, weeks, &mut conditions)?;
+        }
+        Ok(conditions)
+    }
+}
+
+// The conditions of the whole text.
+#[tactic(auto, using(crate::proofs::EndLemmas::front_fails), unfolding(crate::specs::FactsLayout::facts, crate::specs::Layout::exactly, crate::specs::Reading::read_layout, crate::specs::Reading::read_text))]
+fn whole_facts(
+    alloc: Global,
+    scenario: &Scenario,
+    weeks: u8,
+    text: &[u8],
+) -> Result<Vec<Condition>, Stop>
+    ensures { ReadsFile (λ v. v.items) result (read_text (facts scenario.now weeks) text.now) }
+{
+    let mut cursor = Cursor::open(text)?;
+    cursor.exactly(b"FACTS")?;
+    cursor.word()?;
+    let count = cursor.setting(b"ROWS", 0, MAX_NUMBER)?;
+    let conditions = cursor.condition_rows(alloc, scenario, weeks, count)?;
+    cursor.finish()?;
+    Ok(conditions)
+}
+
+/// Returns the facts that the text spells, each with whether it holds, for a scenario and plans of this number of
+/// weeks.
+///
+/// The text is a facts' file, in the layout of `docs/formats.md`.
+///
+/// # Errors
+///
+/// `Bad` is the text's one fault: the fault of the first token that does not fit its position, with the
+/// token's line, or `Ended`, with the line of the last token (1 if there is none). A text of more than
+/// `MAX_FILE_LEN` bytes has `Limit` on line 0. `Memory` is returned only if memory runs out before a fault
+/// was found.
+#[tactic(auto, using(crate::proofs::FactsLaws::facts_steps))]
+pub fn read_facts(
+    alloc: Global,
+    scenario: &Scenario,
+    weeks: u8,
+    text: &[u8],
+) -> Result<Vec<Condition>, FileFault>
+    ensures spelled { IfOk result (λ v. Spells (facts scenario.now weeks) text.now v.items) }
+    ensures few { IfOk result (λ v. length v.items ≤ max_number) }
+    ensures shape { IfOk result (λ v. AreConditionsFor (numbers_of scenario.now) weeks v.items) }
+    ensures fault { IfErr result (IsFaultOf files.Facts (facts scenario.now weeks) text.now) }
+{
+    whole_facts(alloc, scenario, weeks, text).map_err(|stop| stop.in_file(FileName::Facts))
+}

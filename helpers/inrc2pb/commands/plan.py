@@ -1,0 +1,159 @@
+"""Plans a ward from one folder: its spreadsheet, and what verbs have made of it."""
+
+import argparse
+import sys
+from pathlib import Path
+from typing import Callable, Dict, List, Optional, Sequence
+
+from ..plans.local_jobs import Jobs
+from ..plans.local_server import LocalServer
+from ..plans.plan_days import PlanDays
+from ..plans.written_absences import WrittenAbsence, with_written
+from ..plans.verbs import Means, Verbs
+from ..plans.ward_folder import WardFolder
+from ..plans.ward_plan import Sheet
+from ..programs.interrupts import interrupts
+from ..programs.program import find_program
+from ..programs.progress import Progress
+from ..sheets.plan_sheets import AWAY, read_days
+from ..sheets.sheet_files import read_book
+from ..sheets.ward_sheets import shift_times
+from ..week.faults import Misuse
+from ..week.slots import did_you_mean
+from .command import check_seconds, number_of_seconds, parser
+from .ward import ward_files, ward_name
+
+# The reasons of absences that count as work.
+CREDITED = tuple(word for word in AWAY if word not in ("away", "unpaid"))
+# What each verb does, in the order of the help. Those that only read need no lock.
+VERBS = {
+    "check": "name the mistakes of the spreadsheet, and print the ward in sentences",
+    "plan [DAY]": "plan the weeks that are not over, from this day on",
+    "ill NAME DAY [DAY]": "she is ill from the first to the last day: a plan with few changes; also leave, unpaid, training, away",
+    "back NAME DAY": "she is back from this day on",
+    "swap NAME DAY [NAME [DAY]]": "what a swap costs, which rule it breaks, and who else could swap; --do writes it",
+    "over [NAME DAY SHIFT ..]": "the first week is over, as planned or with these shifts (or off); after the last one a new period begins",
+    "page": "write the pages and calendars; from now on plans change little",
+    "undo": "the plan before the last verb holds again",
+    "serve": "a page in your browser that does the same",
+}
+_NAMES = (*(usage.split(" ")[0] for usage in VERBS), *AWAY)
+LOCAL = "127.0.0.1"
+
+
+def _options() -> argparse.ArgumentParser:
+    width = max(map(len, VERBS))
+    verbs = "\n".join(f"  {usage:{width}}  {text}" for usage, text in VERBS.items())
+    options = parser(
+        "Plans a ward from one folder: its spreadsheet, and what verbs have made of it.\n\n" + verbs,
+        "A day is Fri (the next one of the plan), Fri 2 (that of week 2), or a date. A name may be its beginning, if that is clear.\n"
+        "The folder gets roster.html, wall.html, calendars, and in plans each plan with its time: no verb changes an older one.\n"
+        'Example: inrc2pb-plan "my ward" ill Chen Fri Sun',
+    )
+    options.add_argument(
+        "folder", metavar="FOLDER", type=Path, help="the folder that has the ward's spreadsheet, or its sheets as .csv files"
+    )
+    options.add_argument("verb", metavar="VERB", help="what to do")
+    options.add_argument("words", metavar="WORD", nargs="*", default=[], help="names and days")
+    options.add_argument(
+        "--time",
+        metavar="SECONDS",
+        type=number_of_seconds,
+        help="the most seconds to search (default: 20 for each week, and 30 for a change)",
+    )
+    options.add_argument("--do", action="store_true", help="with swap: write it")
+    options.add_argument("--port", metavar="N", type=int, default=0, help="with serve: the port (default: a free one)")
+    options.add_argument(
+        "--host",
+        metavar="NAME",
+        default=LOCAL,
+        help="with serve: the name or number of this machine (default: %(default)s, for its own users)",
+    )
+    options.add_argument("--free", action="store_true", help="with plan: all shifts may change, also of a plan that hangs on the wall")
+    return options
+
+
+def read_sheet(path: Path, name: Optional[str], written: Sequence[WrittenAbsence]) -> Sheet:
+    """The files of a ward's spreadsheet, with these absences in its plan."""
+    book = read_book(path)
+    book = with_written(book, read_days(book), written)
+    days = read_days(book)
+    files = ward_files(book, name or ward_name(path), days, days.weeks, CREDITED)
+    credit = {nurse: shifts for nurse, (_, shifts) in files.credit.items()}
+    return Sheet(files.texts, files.warnings, PlanDays(days.monday, days.weeks), credit, shift_times(book))
+
+
+def _check(given: argparse.Namespace) -> None:
+    """Options and verbs fit."""
+    if given.verb not in _NAMES:
+        otherwise = f"write one of {', '.join(_NAMES)}"
+        raise Misuse(f"'{given.verb}' is no verb: {did_you_mean(given.verb, _NAMES, otherwise)}")
+    if given.do and given.verb != "swap":
+        raise Misuse("--do is for swap: leave it out")
+    if given.free and given.verb != "plan":
+        raise Misuse("--free is for plan: leave it out")
+    if (given.port or given.host != LOCAL) and given.verb != "serve":
+        raise Misuse("--port and --host are for serve: leave them out")
+    if not 0 <= given.port < 65536:
+        raise Misuse(f"--port {given.port}: give a number from 1024 to 65535")
+    if given.words and given.verb in ("check", "page", "undo", "serve"):
+        raise Misuse(f"'{given.words[0]}' is a word too many: {given.verb} has none")
+    if given.time is not None:
+        check_seconds(given.time, "--time")
+
+
+def _options_first(words: Sequence[str]) -> List[str]:
+    """The words with the options before all others, as the parser wants them."""
+    options: List[str] = []
+    others: List[str] = []
+    for before, word in zip(["", *words], words):
+        (options if word.startswith("-") or before in ("--time", "--port", "--host") else others).append(word)
+    return [*options, *others]
+
+
+def _say(text: str) -> None:
+    print(text, file=sys.stderr, flush=True)
+
+
+def _done(verbs: Verbs, given: argparse.Namespace) -> List[str]:
+    """Does what the verb says; the lines to print."""
+    done: Dict[str, Callable[[], List[str]]] = {
+        "check": verbs.check,
+        "plan": lambda: verbs.plan(given.words, given.time, given.free),
+        "back": lambda: verbs.back(given.words, given.time),
+        "swap": lambda: verbs.swap(given.words, given.do),
+        "over": lambda: verbs.over(given.words),
+        "page": verbs.page,
+        "undo": verbs.undo,
+        **{word: lambda: verbs.away(given.verb, given.words, given.time) for word in AWAY},
+    }
+    return done[given.verb]()
+
+
+def _serve(folder: WardFolder, given: argparse.Namespace) -> None:
+    """Serves the local page until Ctrl-C."""
+    with interrupts() as signals:
+        server = LocalServer(Jobs(folder, read_sheet, signals), given.host, given.port)
+        print(f"open this address in a browser, and give it to nobody else: {server.address}", flush=True)
+        _say("Ctrl-C ends it")
+        server.run(signals)
+
+
+def main() -> Optional[int]:
+    """The command `inrc2pb-plan`."""
+    given = _options().parse_args(_options_first(sys.argv[1:]))
+    _check(given)
+    folder = WardFolder(given.folder)
+    verbs = Verbs(folder, Means(read_sheet, Progress(sys.stderr), _say))
+    if given.verb == "check":
+        print("\n".join(verbs.check()))
+        return 0
+    folder.spreadsheet()
+    find_program()
+    if given.verb == "serve":
+        _serve(folder, given)
+        return 0
+    with folder.locked(_say):
+        lines = _done(verbs, given)
+    print("\n".join(lines))
+    return verbs.status

@@ -1,0 +1,64 @@
+"""Limits that are never exceeded: who exceeds one in a roster, in words, and who could work instead."""
+
+from typing import Collection, Iterable, Iterator, List, Sequence, Set
+
+from ..week.facts import SHIFTS, WEEKENDS, WORK_DAYS
+from ..week.hints import plural
+from ..week.records import DAYS, Cell, KeptLimit, Week
+from .absences import joined, readable
+from .rules import SATURDAY, Charge, charges
+
+# The charges of each kind, by their rule and what they charge.
+_KINDS = {("S2", "work above"): WORK_DAYS, ("S6", "above"): SHIFTS, ("S7", "above"): WEEKENDS}
+
+
+def exceeded(week: Week, limits: Collection[KeptLimit], cells: Sequence[Cell]) -> List[Charge]:
+    """What the roster of this week has above the limits; totals count from the first one above."""
+    most = {(limit.nurse, limit.kind): limit.most for limit in limits}
+    found: List[Charge] = []
+    for charge in charges(week, cells, early=True) if limits else ():
+        key = charge.nurse or "", _KINDS.get((charge.rule, charge.what), "")
+        if key in most:
+            times = charge.times if key[1] == WORK_DAYS else charge.number - max(charge.limit + most[key], charge.before)
+            if times > 0:
+                found.append(charge._replace(times=times))
+    return found
+
+
+def excess(charged: Iterable[Charge]) -> int:
+    """How much is above the limits in all."""
+    return sum(charge.times for charge in charged)
+
+
+def limits_in_words(charged: Iterable[Charge], cells: Sequence[Cell]) -> str:
+    """Who exceeds which limit with these assignments, as `Amara has 6 days of work in a row, Tue to Sun, of at most 5`."""
+    return ", ".join(_in_words(charge, sorted({cell.day for cell in cells if cell.nurse == charge.nurse})) for charge in charged)
+
+
+def _in_words(charge: Charge, worked: Sequence[int]) -> str:
+    """The same of one limit. The shifts above are the last of the days on which the nurse works."""
+    nurse = readable(charge.nurse or "")
+    if charge.rule == "S2":
+        first, last = charge.days or (0, 0)
+        days = f", to {DAYS[last]}," if charge.before else f", {DAYS[first]} to {DAYS[last]},"
+        return f"{nurse} has {plural(charge.number, 'day')} of work in a row{days} of at most {charge.limit}"
+    what, above = ("shift", worked[-charge.times :]) if charge.rule == "S6" else ("weekend", [day for day in worked if day >= SATURDAY])
+    return f"{nurse} has {plural(charge.number, what)} of at most {charge.limit}, above on {joined(DAYS[day] for day in above)}"
+
+
+def limits_way_out(week: Week, charged: Sequence[Charge], cells: Sequence[Cell]) -> str:
+    """What to do if a roster exceeds limits."""
+    over = {charge.nurse for charge in charged}
+    skills = {cell.skill for cell in cells if cell.nurse in over}
+    spare = list(_with_shifts_left(week, over, skills, cells))
+    others = f"; with these skills shifts are left for {joined(spare[:6])}" if spare else "; nobody with these skills has shifts left"
+    return f"lower minimum numbers, hold fewer shifts, or allow these nurses more{others}"
+
+
+def _with_shifts_left(week: Week, over: Collection[object], skills: Set[str], cells: Sequence[Cell]) -> Iterator[str]:
+    """The nurses with one of these skills whose contracts have shifts left after this week, and how many."""
+    for nurse, owner in week.scenario.nurses.items():
+        worked = week.history.nurses[nurse].assignments + sum(cell.nurse == nurse for cell in cells)
+        left = week.scenario.contract_of(nurse).assignments.maximum - worked
+        if nurse not in over and left > 0 and skills & set(owner.skills):
+            yield f"{readable(nurse)} ({left})"

@@ -1,0 +1,79 @@
+"""The verbs of a local page: one runs at a time, in a thread of its own, and what it says is kept."""
+
+import io
+import threading
+from typing import Callable, List, NamedTuple, Optional
+
+from ..programs.interrupts import Interrupts
+from ..programs.progress import Progress
+from ..week.faults import FileFault, FileFaults, Misuse, ProgramFault, fault_line
+from .verbs import Means, Reader, Verbs
+from .ward_folder import WardFolder
+
+
+class Said(NamedTuple):
+    """What a verb has said: its lines, whether they are a fault, and whether it still runs."""
+
+    lines: List[str]
+    is_fault: bool = False
+    runs: bool = False
+
+
+class Jobs:
+    """The verbs of a folder. `stop` ends the one that runs, which keeps its best plan."""
+
+    def __init__(self, folder: WardFolder, read: Reader, signals: Interrupts) -> None:
+        self.folder, self._read, self._signals = folder, read, signals
+        self._lock = threading.Lock()
+        self._thread: Optional[threading.Thread] = None
+        self._spoken = io.StringIO()
+        self._said = Said([])
+
+    def verbs(self, spoken: Optional[io.StringIO] = None) -> Verbs:
+        """The verbs of the folder, which say to this text how far they are."""
+        text = spoken or io.StringIO()
+        return Verbs(self.folder, Means(self._read, Progress(text), lambda line: print(line, file=text)))
+
+    @property
+    def runs(self) -> bool:
+        """Whether a verb runs."""
+        return self._thread is not None and self._thread.is_alive()
+
+    def said(self) -> Said:
+        """What the last verb has said until now."""
+        return Said(self._spoken.getvalue().splitlines(), runs=True) if self.runs else self._said
+
+    def begin(self, verb: Callable[[Verbs], List[str]]) -> None:
+        """Begins a verb. That another one runs is a Misuse."""
+        with self._lock:
+            if self.runs:
+                raise Misuse("another verb still runs: wait for its end, or stop it")
+            self._spoken = io.StringIO()
+            self._thread = threading.Thread(target=self._run, args=(verb, self._spoken))
+            self._thread.start()
+
+    def _run(self, verb: Callable[[Verbs], List[str]], spoken: io.StringIO) -> None:
+        self._said = Said(["this failed: the terminal of inrc2pb-plan says why"], True)
+        try:
+            with self.folder.locked(lambda line: print(line, file=spoken)):
+                self._said = Said(verb(self.verbs(spoken)))
+        except Exception as fault:
+            self._said = Said(fault_lines(fault), True)
+
+    def stop(self) -> None:
+        """Ends the search that runs, if one does."""
+        self._signals.ask()
+
+    def wait(self) -> None:
+        """Waits for the end of the verb that runs."""
+        if self._thread:
+            self._thread.join()
+
+
+def fault_lines(fault: Exception) -> List[str]:
+    """A fault as lines; one of the program itself is raised again."""
+    if isinstance(fault, FileFaults):
+        return [fault_line(one) for one in fault.faults]
+    if isinstance(fault, (FileFault, Misuse, ProgramFault, OSError)):
+        return [fault_line(fault)]
+    raise fault

@@ -1,0 +1,165 @@
+"""A server for the local page of one ward: one address with a secret, and no other origin."""
+
+import hmac
+import secrets
+import threading
+from http.server import BaseHTTPRequestHandler, ThreadingHTTPServer
+from typing import Dict, Optional, Tuple
+from urllib.parse import parse_qsl, urlsplit
+
+from ..programs.interrupts import Interrupts
+from ..shown.page import page_text
+from ..week.faults import Misuse
+from .local_forms import verb_of
+from .local_jobs import Jobs, Said, fault_lines
+from .local_page import Place, page_markup
+from .pages import roster_content
+from .ward_plan import WardPlan
+
+# The most bytes of a form and of its address, its most fields, and the seconds that a browser has for a request.
+_MOST_BYTES, _MOST_FIELDS, _SECONDS = 10_000, 20, 20
+_PAUSE = 0.2
+_HEADERS = {
+    "Content-Type": "text/html; charset=utf-8",
+    "Content-Security-Policy": "default-src 'none'; style-src 'unsafe-inline'; form-action 'self'; frame-ancestors 'none'; base-uri 'none'",
+    "Referrer-Policy": "same-origin",
+    "X-Content-Type-Options": "nosniff",
+    "Cache-Control": "no-store",
+}
+
+
+class Site:
+    """The page of a folder's verbs at an address with a secret."""
+
+    def __init__(self, jobs: Jobs, host: str) -> None:
+        self.jobs, self.host, self.port = jobs, host, 0
+        self.base = f"/{secrets.token_urlsafe(16)}/"
+        self.fault: Optional[Said] = None
+
+    def plan(self) -> Tuple[Optional[WardPlan], Said]:
+        """The plan that holds, and what is said above it: a fault of the spreadsheet, or of a form, if there is one."""
+        said = self.jobs.said()
+        try:
+            plan = self.jobs.verbs().current()
+        except Exception as fault:
+            return None, said if said.runs else Said(fault_lines(fault), True)
+        if self.fault and not said.runs:
+            said, self.fault = self.fault, None
+        return plan, said
+
+    def post(self, fields: Dict[str, str]) -> None:
+        """Does what a form asks for. A form that no page has is a fault, which the next page shows."""
+        try:
+            if fields.get("verb") == "stop":
+                self.jobs.stop()
+            else:
+                self.jobs.begin(verb_of(fields))
+        except Misuse as fault:
+            self.fault = Said([str(fault)], True)
+
+
+class _Handler(BaseHTTPRequestHandler):
+    """A request of the browser. `site` is set in a subclass."""
+
+    site: Site
+    timeout = _SECONDS
+    server_version, sys_version = "inrc2pb-plan", ""
+
+    def do_GET(self) -> None:
+        """Shows a page."""
+        path, query = self._path()
+        if path is None:
+            return
+        plan, said = self.site.plan()
+        if path == "roster" and plan and plan.is_planned:
+            self._answer(page_text(roster_content(plan)))
+        elif path:
+            self._refuse(404, "there is no such page")
+        else:
+            self._answer(page_markup(plan, said, _place(plan, query), self.site.base))
+
+    def do_POST(self) -> None:
+        """Takes a form, and leads to the page."""
+        path, _ = self._path()
+        if path is None:
+            return
+        length, origin = self.headers.get("Content-Length", ""), self.headers.get("Origin")
+        if origin is not None and urlsplit(origin).netloc != self.headers.get("Host"):
+            return self._refuse(403, "this form is of another page")
+        if path or not length.isdigit() or int(length) > _MOST_BYTES:
+            return self._refuse(400, "this is no form of the page")
+        try:
+            fields = dict(parse_qsl(self.rfile.read(int(length)).decode(), max_num_fields=_MOST_FIELDS))
+        except ValueError:
+            return self._refuse(400, "this is no form of the page")
+        self.site.post(fields)
+        self.send_response(303)
+        self.send_header("Location", self.site.base)
+        self.send_header("Content-Length", "0")
+        self.end_headers()
+
+    def _path(self) -> Tuple[Optional[str], Dict[str, str]]:
+        """The part of the path after the secret, and the query; None if the request is refused."""
+        found = urlsplit(self.path)
+        known = hmac.compare_digest(found.path[: len(self.site.base)].encode(), self.site.base.encode())
+        if not known or not self._is_own_host() or len(self.path) > _MOST_BYTES:
+            self._refuse(403, "open the address that inrc2pb-plan has printed")
+            return None, {}
+        try:
+            return found.path[len(self.site.base) :], dict(parse_qsl(found.query, max_num_fields=_MOST_FIELDS))
+        except ValueError:
+            self._refuse(400, "this is no address of the page")
+            return None, {}
+
+    def _is_own_host(self) -> bool:
+        """Whether the browser means this server by its own name: a page of another name could have been led here."""
+        port = self.site.port
+        return self.headers.get("Host") in {
+            f"{name}:{port}" for name in (self.site.host, *(["localhost"] if self.site.host == "127.0.0.1" else []))
+        }
+
+    def _answer(self, text: str, status: int = 200) -> None:
+        data = text.encode("utf-8", errors="replace")
+        self.send_response(status)
+        for name, value in _HEADERS.items():
+            self.send_header(name, value)
+        self.send_header("Content-Length", str(len(data)))
+        self.end_headers()
+        self.wfile.write(data)
+
+    def _refuse(self, status: int, text: str) -> None:
+        self.close_connection = True
+        self._answer(f"<!DOCTYPE html><title>inrc2pb-plan</title><p>{text}\n", status)
+
+    def log_message(self, *_: object) -> None:
+        """Nothing is logged: addresses have the secret."""
+
+
+def _place(plan: Optional[WardPlan], query: Dict[str, str]) -> Optional[Place]:
+    """The cell that an address names, if the plan has it."""
+    nurse, day = query.get("nurse", ""), query.get("day", "")
+    known = plan and nurse in plan.scenario.nurses and day.isdecimal() and len(day) < 4 and plan.first <= int(day) < plan.days.total
+    return Place(nurse, int(day)) if known else None
+
+
+class LocalServer:
+    """A server that runs until a signal comes. `address` is that of its page."""
+
+    def __init__(self, jobs: Jobs, host: str, port: int) -> None:
+        site = Site(jobs, host)
+        self._jobs = jobs
+        self._server = ThreadingHTTPServer((host, port), type("Handler", (_Handler,), {"site": site}))
+        self._server.daemon_threads = True
+        site.port = self._server.server_port
+        self.address = f"http://{host}:{site.port}{site.base}"
+
+    def run(self, signals: Interrupts) -> None:
+        """Serves until a signal comes; a verb that runs is stopped, and keeps its best plan."""
+        thread = threading.Thread(target=self._server.serve_forever, args=(_PAUSE,), daemon=True)
+        thread.start()
+        waiting = threading.Event()
+        while not signals.caught:
+            waiting.wait(_PAUSE)
+        self._server.shutdown()
+        self._jobs.wait()
+        self._server.server_close()

@@ -1,0 +1,36 @@
+"""The pages and calendars of a ward's folder."""
+
+from pathlib import Path
+from typing import Collection, List, Mapping, Optional
+
+from ..shown.calendars import issue_now, write_calendars
+from ..shown.page import page_text
+from ..shown.page_tables import Content
+from ..week.dates import DAY
+from ..week.writing import write_text
+from .ward_plan import WardPlan
+
+ROSTER, WALL, CALENDARS = "roster.html", "wall.html", "calendars"
+
+
+def write_roster_page(top: Path, plan: WardPlan, old: Optional[WardPlan] = None) -> Path:
+    """Writes the page with costs, and with what differs from an older plan of the same weeks."""
+    write_text(top / ROSTER, page_text(roster_content(plan, old)))
+    return top / ROSTER
+
+
+def write_all(top: Path, plan: WardPlan, before: Mapping[str, Collection[int]]) -> List[Path]:
+    """Writes the page for the wall, and a calendar for each nurse if the plan has dates. `before` has the days of their older shifts."""
+    content = roster_content(plan)
+    write_text(top / WALL, page_text(Content(content.view, None, content.monday, content.times, True)))
+    if content.monday is None:
+        return [top / WALL]
+    dates = {nurse: [plan.days.date(day) for day in days if day >= plan.first] for nurse, days in before.items()}
+    write_calendars(content.view, top / CALENDARS, content.monday, content.times, issue_now(dates))
+    return [top / WALL, top / CALENDARS]
+
+
+def roster_content(plan: WardPlan, old: Optional[WardPlan] = None) -> Content:
+    """What the pages show: the weeks that are not over."""
+    monday = None if plan.days.monday is None else plan.days.monday + plan.first * DAY
+    return Content(plan.view(), old.view() if old and old.is_planned else None, monday, plan.sheet.times)

@@ -1,0 +1,132 @@
+"""A search for the weeks of a ward's plan that are not over. Days that are over stay as they are."""
+
+import tempfile
+from dataclasses import replace
+from pathlib import Path
+from typing import Iterator, List, NamedTuple, Sequence
+
+from ..programs.clock import Clock
+from ..programs.interrupts import interrupts
+from ..programs.program import WeekFiles
+from ..programs.progress import Progress
+from ..search.period_search import PeriodSearch
+from ..search.planned_weeks import PeriodFiles, PlannedWeeks, history_name
+from ..search.why_none import EXISTS, why_none
+from ..week.facts import Choice, Claim, Fact, facts_text
+from ..week.faults import FileFault, fault_line
+from ..week.files import history_text, solution_text, week_text
+from ..week.records import Cell, Solution, Week, WeekData
+from ..week.writing import write_text
+from .few_changes import with_few_changes
+from .plan_days import WEEK_DAYS
+from .skill_labels import with_old_skills
+from .ward_plan import FACTS, WardPlan
+
+
+class Asked(NamedTuple):
+    """What a search is asked for: the first day that may change, whether few shifts may change, and how many seconds it has."""
+
+    first: int
+    few_changes: bool
+    seconds: float
+
+
+class Found(NamedTuple):
+    """The plan that a search has found, the line on its bound, and whether the user stopped the search."""
+
+    plan: WardPlan
+    bound: str
+    stopped: bool
+
+
+def search_plan(old: WardPlan, asked: Asked, progress: Progress) -> Found:
+    """The best plan of the weeks that are not over. It begins with the old one, if there is one."""
+    kept: List[Sequence[Cell]] = []
+    with tempfile.TemporaryDirectory(prefix="inrc2pb-plan-") as name:
+        weeks = _weeks(_files(old, asked, Path(name)))
+        start = [cell._replace(day=cell.day - old.first) for cell in old.cells()] if old.is_planned else None
+        clock = Clock(asked.seconds)
+        search = PeriodSearch(weeks, kept.append, clock, progress, start=start)
+        with interrupts() as signals, signals.calling(search.interrupt):
+            try:
+                search.run()
+            except Exception as fault:
+                if not kept:
+                    raise
+                progress.warn(fault_line(fault))
+    cells = [cell._replace(day=cell.day + old.first) for cell in kept[-1]]
+    held = [cell._replace(day=WEEK_DAYS * number + cell.day) for number in old.weeks for cell in old.held[number]]
+    labelled = with_old_skills(old.scenario, cells, [*old.cells(), *held])
+    return Found(old.with_cells(labelled), search.line(), clock.stopped)
+
+
+def _weeks(files: PeriodFiles) -> PlannedWeeks:
+    """The weeks of these files. A fault names a file without its folder, which is there for the search only."""
+    try:
+        return PlannedWeeks(files)
+    except FileFault as fault:
+        raise FileFault(fault.path.name, fault.line, f"{fault.message}: correct the plan or the spreadsheet", fault.fault) from fault
+
+
+def _files(old: WardPlan, asked: Asked, folder: Path) -> PeriodFiles:
+    """The files of a search, in this folder."""
+    history, given = folder / history_name(old.open_week), folder / FACTS
+    write_text(folder / "ward.txt", old.sheet.texts["ward.txt"])
+    write_text(history, history_text(old.histories[old.open_week]))
+    write_text(given, facts_text(old.scenario.name, [*_later_claims(old, asked.first), *_past_claims(old, asked.first)]))
+    weeks, fixes = [], {}
+    for number in old.weeks:
+        first = asked.first - WEEK_DAYS * number
+        path, fixes[number] = folder / f"week-{number}.txt", folder / f"fix-{number}.txt"
+        write_text(path, week_text(_week(old, number, range(max(first, 0), WEEK_DAYS if asked.few_changes else 0))))
+        cells = old.rosters.get(number, ())
+        held = [*(cell for cell in old.held[number] if cell.day >= first), *(cell for cell in cells if cell.day < first)]
+        write_text(fixes[number], solution_text(Solution(number, old.scenario.name, tuple(held))))
+        weeks.append(path)
+    return PeriodFiles(folder / "ward.txt", history, weeks, fixes, given=given)
+
+
+def _week(old: WardPlan, number: int, softly: range) -> WeekData:
+    """The file of a week. On these days few shifts change."""
+    if number not in old.rosters:
+        return old.data[number]
+    return with_few_changes(old.scenario, old.data[number], old.rosters[number], softly)
+
+
+def _later_claims(old: WardPlan, first: int) -> List[Claim]:
+    """What plans keep, but for absences before this day."""
+
+    def is_past(fact: Fact) -> bool:
+        return isinstance(fact, Choice) and WEEK_DAYS * (fact.week - 1) + fact.day < first
+
+    return [claim for claim in old.claims if not is_past(claim.fact)]
+
+
+def _past_claims(old: WardPlan, first: int) -> Iterator[Claim]:
+    """That whoever was off before this day, in the weeks that are not over, stays off."""
+    works = {(cell.nurse, cell.day) for cell in old.cells()}
+    for day in range(old.first, first):
+        off = (nurse for nurse in old.scenario.nurses if (nurse, day) not in works)
+        yield from (Claim(Choice(day // WEEK_DAYS + 1, nurse, day % WEEK_DAYS, None)) for nurse in off)
+
+
+def why_no_plan(plan: WardPlan) -> List[str]:
+    """Which minimum numbers to lower in the first week that has no roster; nothing if each week alone has one."""
+    with tempfile.TemporaryDirectory(prefix="inrc2pb-plan-") as name:
+        for number in plan.weeks:
+            past = plan.histories[min(number, len(plan.histories) - 1)]
+            week = Week(plan.scenario, replace(past, week=number), plan.data[number])
+            lines = list(why_none(_week_files(plan, week, Path(name)), week))
+            if not lines[0].startswith(EXISTS):
+                return [f"week {number}: {line}" for line in lines]
+    return []
+
+
+def _week_files(plan: WardPlan, week: Week, folder: Path) -> WeekFiles:
+    """The files of a week, in this folder."""
+    number = week.history.week
+    paths = [folder / file for file in ("ward.txt", "history.txt", f"week-{number}.txt", f"fix-{number}.txt", FACTS)]
+    texts = plan.sheet.texts
+    for path in paths:
+        write_text(path, history_text(week.history) if path.name == "history.txt" else texts[path.name])
+    return WeekFiles(paths[0], paths[1], paths[2], paths[3], given=paths[4])

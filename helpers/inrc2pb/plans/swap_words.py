@@ -1,0 +1,39 @@
+"""Swaps in words."""
+
+from typing import List, Tuple
+
+from ..judging.absences import readable
+from ..week.faults import Misuse
+from .plan_days import PlanDays
+from .swaps import Offer, Swap, Swaps
+from .ward_plan import WardPlan
+
+# The most swaps that are offered.
+MOST_OFFERS = 8
+
+
+def offer_lines(plan: WardPlan, swaps: Swaps, nurse: str, day: int) -> List[str]:
+    """Who could take the nurse's shift on this day. That she has none is a Misuse."""
+    cell = swaps.works(nurse, day)
+    if cell is None:
+        raise Misuse(f"{readable(nurse)} is off on {plan.days.text(day)}: name a day on which she works")
+    found = swaps.offers(nurse, day)
+    shift = f"{readable(nurse)}'s {readable(cell.shift)} on {plan.days.text(day)}"
+    if not found:
+        return [f"nobody can take {shift}"]
+    return [
+        f"who could take {shift}, and what it adds to the points:",
+        *(offer_text(plan.days, swaps, offer) for offer in found[:MOST_OFFERS]),
+    ]
+
+
+def shift_of(swaps: Swaps, swap: Swap) -> Tuple[str, int]:
+    """The first shift that one of the two gives away."""
+    return next((nurse, day) for nurse in (swap.one, swap.other) for day in swap.days if swaps.works(nurse, day))
+
+
+def offer_text(days: PlanDays, swaps: Swaps, offer: Offer) -> str:
+    """An offer in words: who takes the shift, and which of hers is taken for it."""
+    one, other, _ = offer.swap
+    given = [f"{readable(cell.shift)} on {days.text(day)}" for day in offer.swap.days for cell in [swaps.works(other, day)] if cell]
+    return f"{offer.cost:+5}  {readable(other)} takes it" + "".join(f", and {readable(one)} her {shift}" for shift in given)

@@ -1,0 +1,100 @@
+"""The folder of a ward: its spreadsheet, and a folder for each plan, which is written as a whole and never changed by a verb."""
+
+import contextlib
+import datetime
+import fcntl
+import os
+import re
+import shutil
+import tempfile
+from pathlib import Path
+from typing import Callable, Dict, Iterator, List, Optional, TextIO
+
+from ..week.faults import Misuse
+from ..week.hints import quoted
+from ..week.writing import write_text
+
+PLANS, UNDONE, LOCK = "plans", "undone", "lock"
+_SPREADSHEETS, _CSV = (".ods", ".xlsx"), (".csv", ".tsv")
+_NAME = re.compile("([0-9]{4})-.+")
+
+
+class WardFolder:
+    """A folder with a spreadsheet. The plans are the folders `plans/NNNN-TIME-VERB`; the last of them holds."""
+
+    def __init__(self, top: Path) -> None:
+        if not top.is_dir():
+            raise Misuse(f"{top} is no folder: give the folder that has the ward's spreadsheet")
+        self.top, self.plans = top, top / PLANS
+
+    def spreadsheet(self) -> Path:
+        """The only spreadsheet of the folder; the folder itself if its sheets are .csv files."""
+        files = [path for path in sorted(self.top.iterdir()) if path.is_file() and not path.name.startswith((".", "~"))]
+        found = [path for path in files if path.suffix.lower() in _SPREADSHEETS]
+        if len(found) > 1:
+            raise Misuse(f"{self.top} has several spreadsheets, {quoted(path.name for path in found)}: leave one of them in it")
+        if found:
+            return found[0]
+        if any(path.suffix.lower() in _CSV for path in files):
+            return self.top
+        raise Misuse(f"{self.top} has no spreadsheet: put the ward's .ods or .xlsx file into it; inrc2pb-ward --template writes an example")
+
+    def all_plans(self) -> List[Path]:
+        """The folders of all plans, in the order in which they were made."""
+        if not self.plans.is_dir():
+            return []
+        return sorted(path for path in self.plans.iterdir() if path.is_dir() and _NAME.fullmatch(path.name))
+
+    def last(self) -> Optional[Path]:
+        """The folder of the plan that holds, if there is one."""
+        return next(reversed(self.all_plans()), None)
+
+    def add(self, verb: str, texts: Dict[str, str], now: datetime.datetime) -> Path:
+        """Writes a plan with these files: its folder is there as a whole or not at all."""
+        number = 1 + max((int(path.name[:4]) for path in [*self.all_plans(), *self.undone()]), default=0)
+        target = self.plans / f"{number:04}-{now:%Y-%m-%d-%H%M}-{verb}"
+        new = Path(tempfile.mkdtemp(prefix=".new-", dir=self.plans))
+        try:
+            for name, text in texts.items():
+                write_text(new / name, text)
+            os.chmod(new, 0o777 & ~_umask_of(self.plans))
+            os.rename(new, target)
+        except BaseException as fault:
+            shutil.rmtree(new, ignore_errors=True)
+            if isinstance(fault, OSError):
+                fault.filename = str(target)
+            raise
+        return target
+
+    def undone(self) -> List[Path]:
+        """The folders of the plans that were undone."""
+        folder = self.plans / UNDONE
+        return [path for path in folder.iterdir() if _NAME.fullmatch(path.name)] if folder.is_dir() else []
+
+    def undo(self) -> Path:
+        """Takes the last plan away, to the folder `undone`. Returns its new path."""
+        last = self.last()
+        if last is None:
+            raise Misuse(f"{self.top}: there is nothing to undo")
+        (self.plans / UNDONE).mkdir(exist_ok=True)
+        return last.rename(self.plans / UNDONE / last.name)
+
+    @contextlib.contextmanager
+    def locked(self, wait: Callable[[str], None]) -> Iterator[None]:
+        """Within the block no other run writes to the folder. `wait` is called with what to say, if one does now."""
+        self.plans.mkdir(exist_ok=True)
+        with open(self.plans / LOCK, "a+", encoding="utf-8") as file:
+            self._take(file, wait)
+            yield
+
+    def _take(self, file: TextIO, wait: Callable[[str], None]) -> None:
+        try:
+            fcntl.flock(file, fcntl.LOCK_EX | fcntl.LOCK_NB)
+        except BlockingIOError:
+            wait(f"another run works in {self.top}: this one waits for its end, Ctrl-C ends it")
+            fcntl.flock(file, fcntl.LOCK_EX)
+
+
+def _umask_of(folder: Path) -> int:
+    """The permissions that the folder does not give."""
+    return 0o777 & ~folder.stat().st_mode

@@ -1,0 +1,251 @@
+"""The plan of a ward's folder as a value: what the spreadsheet says, and the rosters of its weeks."""
+
+from dataclasses import dataclass, field, replace
+from functools import cached_property
+from pathlib import Path
+from typing import Dict, Iterable, List, Mapping, NamedTuple, Optional, Sequence, Set, Tuple
+
+from ..judging.absences import readable
+from ..judging.given import read_given, with_given
+from ..judging.leave import credited
+from ..judging.next_history import next_history
+from ..programs.program import WeekFiles, penalty_of
+from ..shown.roster_view import RosterView, WeekView
+from ..week.dates import Times
+from ..week.facts import Claim
+from ..week.faults import Misuse
+from ..week.hints import plural
+from ..week.files import history_text, read_history, read_scenario, read_solution, read_week, solution_text, write_solution
+from ..week.reasons import read_reasons
+from ..week.records import Cell, History, Scenario, Solution, Week, WeekData
+from ..week.writing import write_text
+from . import record
+from .plan_days import WEEK_DAYS, PlanDays
+from .record import Record, read_record
+from .written_absences import WrittenAbsence, read_written, written_text
+from .written_absences import NAME as ABSENCES
+
+START, FACTS, REASONS = "start.txt", "facts.txt", "reasons.txt"
+Cells = Tuple[Cell, ...]
+
+
+class Sheet(NamedTuple):
+    """A spreadsheet as the texts of a ward's files by their names, warnings, the shifts as which days away count in its history, and the
+    times of shift types."""
+
+    texts: Dict[str, str]
+    warnings: Sequence[str]
+    days: PlanDays
+    credit: Dict[str, int]
+    times: Mapping[str, Times] = {}
+
+
+class Stored(NamedTuple):
+    """What verbs have written to the folder of a plan. `start` is the history before the first week, without days away."""
+
+    folder: Path
+    record: Record
+    start: History
+    rosters: Dict[int, Cells]
+    written: Tuple[WrittenAbsence, ...]
+
+
+def read_stored(folder: Path) -> Stored:
+    """Reads the folder of a plan."""
+    of_plan = read_record(folder)
+    start = read_history(folder / START, read_scenario(folder / "ward.txt"))
+    weeks = [number for number in range(of_plan.days.weeks) if (folder / roster_name(number)).exists()]
+    rosters = {number: read_solution(folder / roster_name(number)).cells for number in weeks}
+    return Stored(folder, of_plan, start, rosters, read_written(folder, of_plan.days))
+
+
+def published_days(folders: Iterable[Path], days: PlanDays) -> Dict[str, Set[int]]:
+    """The days of each nurse's shifts in plans of these days that hung on the wall."""
+    found: Dict[str, Set[int]] = {}
+    for folder in folders:
+        of_plan = read_record(folder)
+        rosters = [(number, folder / roster_name(number)) for number in range(days.weeks)]
+        for number, path in rosters if of_plan.published and of_plan.days == days else ():
+            for cell in read_solution(path).cells if path.exists() else ():
+                found.setdefault(cell.nurse, set()).add(WEEK_DAYS * number + cell.day)
+    return found
+
+
+def roster_name(number: int) -> str:
+    """The name of the file of a week's roster."""
+    return f"roster-{number}.txt"
+
+
+@dataclass(frozen=True)
+class WardPlan:
+    """A plan. `rosters` has the weeks that are over as they were worked, and the others as they are planned, if they are."""
+
+    sheet: Sheet
+    start: History
+    open_week: int = 0
+    rosters: Dict[int, Cells] = field(default_factory=dict)
+    written: Tuple[WrittenAbsence, ...] = ()
+    published: bool = False
+    # The planned assignments that were left out, since the spreadsheet does not have their names.
+    unknown: Tuple[Cell, ...] = ()
+
+    @property
+    def days(self) -> PlanDays:
+        """The days of all weeks."""
+        return self.sheet.days
+
+    @property
+    def first(self) -> int:
+        """The first day that is not over."""
+        return WEEK_DAYS * self.open_week
+
+    @property
+    def weeks(self) -> range:
+        """The weeks that are not over."""
+        return range(self.open_week, self.days.weeks)
+
+    @property
+    def is_planned(self) -> bool:
+        """Whether each week that is not over has a roster."""
+        return all(number in self.rosters for number in self.weeks)
+
+    @cached_property
+    def scenario(self) -> Scenario:
+        """The ward."""
+        return read_scenario("ward.txt", self.sheet.texts["ward.txt"])
+
+    @cached_property
+    def claims(self) -> Tuple[Claim, ...]:
+        """The absences and the limits that hold, as facts."""
+        return read_given(FACTS, self.scenario, self.sheet.texts[FACTS])
+
+    @cached_property
+    def data(self) -> List[WeekData]:
+        """The weeks' files, with their absences and limits."""
+        names = [f"week-{number}.txt" for number in range(self.days.weeks)]
+        weeks = [read_week(name, self.scenario, self.sheet.texts[name]) for name in names]
+        return [with_given(self.scenario, week, self.claims, number) for number, week in enumerate(weeks)]
+
+    @cached_property
+    def held(self) -> List[Cells]:
+        """The shifts of each week that are held."""
+        names = [f"fix-{number}.txt" for number in range(self.days.weeks)]
+        return [read_solution(name, self.scenario, self.sheet.texts[name]).cells for name in names]
+
+    @cached_property
+    def histories(self) -> List[History]:
+        """The history of each week, as far as rosters are known."""
+        found = [credited(self.start, self.sheet.credit)]
+        for number in range(self.days.weeks - 1):
+            if number not in self.rosters:
+                break
+            found.append(next_history(self.scenario, found[-1], self.rosters[number]))
+        return found
+
+    def week(self, number: int) -> Week:
+        """A week's ward, history and file."""
+        return Week(self.scenario, self.histories[number], self.data[number])
+
+    def cells(self) -> List[Cell]:
+        """The assignments of the weeks that are not over, with the days of the plan."""
+        return [cell._replace(day=WEEK_DAYS * number + cell.day) for number in self.weeks for cell in self.rosters.get(number, ())]
+
+    def with_cells(self, cells: Iterable[Cell]) -> "WardPlan":
+        """The same with these assignments in the weeks that are not over."""
+        found: Dict[int, List[Cell]] = {number: [] for number in self.weeks}
+        for cell in cells:
+            found[cell.day // WEEK_DAYS].append(cell._replace(day=cell.day % WEEK_DAYS))
+        ordered = {number: tuple(sorted(of_week, key=self._order)) for number, of_week in found.items()}
+        return replace(self, rosters={**self.rosters, **ordered})
+
+    def _order(self, cell: Cell) -> Tuple[int, int]:
+        return list(self.scenario.nurses).index(cell.nurse), cell.day
+
+    def view(self) -> RosterView:
+        """The weeks that are not over, to be shown."""
+        reasons = read_reasons(REASONS, self.scenario, self.sheet.texts[REASONS])
+        weeks = []
+        for number in self.weeks:
+            why = {(away.nurse, away.day): word for away, word in reasons.items() if away.week == number + 1}
+            view = WeekView(number, self.rosters[number], self.data[number], self.week(number), self.held[number], reasons=why)
+            weeks.append(view)
+        scenario = self.scenario
+        return RosterView(scenario.name, list(scenario.nurses), list(scenario.shift_types), list(scenario.skills), weeks)
+
+    def texts(self, of_plan: Record) -> Dict[str, str]:
+        """The files of the plan's folder."""
+        name = self.scenario.name
+        found = {
+            **self.sheet.texts,
+            START: history_text(self.start),
+            ABSENCES: written_text(self.written, self.days),
+            record.NAME: of_plan.text(),
+        }
+        found.update({f"history-{number}.txt": history_text(past) for number, past in enumerate(self.histories[: self.open_week + 1])})
+        found.update({roster_name(number): solution_text(Solution(number, name, cells)) for number, cells in self.rosters.items()})
+        return found
+
+    def penalties(self, folder: Path) -> Dict[int, int]:
+        """The penalty of each week that is not over, by `inrc2pb extend`, whose files are written to the folder."""
+        for name, text in self.sheet.texts.items():
+            write_text(folder / name, text)
+        found = {}
+        for number in self.weeks:
+            history, roster = folder / f"history-{number}.txt", folder / roster_name(number)
+            write_text(history, history_text(self.histories[number]))
+            write_solution(roster, Solution(number, self.scenario.name, self.rosters[number]))
+            found[number] = penalty_of(WeekFiles(folder / "ward.txt", history, folder / f"week-{number}.txt"), roster)
+        return found
+
+
+def first_plan(sheet: Sheet, past: Optional[History] = None) -> WardPlan:
+    """The plan of a spreadsheet before anything is planned, after this history, if there is one."""
+    scenario = read_scenario("ward.txt", sheet.texts["ward.txt"])
+    own = credited(
+        read_history("history-0.txt", scenario, sheet.texts["history-0.txt"]), {nurse: -shifts for nurse, shifts in sheet.credit.items()}
+    )
+    known = past.nurses if past else {}
+    return WardPlan(sheet, replace(own, nurses={nurse: known.get(nurse, row) for nurse, row in own.nurses.items()}))
+
+
+def continued(stored: Stored, sheet: Sheet) -> WardPlan:
+    """The plan of a folder, with what its spreadsheet says now."""
+    plan = first_plan(sheet, stored.start)
+    before = stored.record
+    _check_days(sheet.days, before.days)
+    for number in range(before.open_week):
+        _check_names(plan.scenario, number, stored.rosters.get(number, ()))
+    open_cells = [(number, cell) for number, cells in stored.rosters.items() if number >= before.open_week for cell in cells]
+    unknown = tuple(cell for _, cell in open_cells if not _is_known(plan.scenario, cell))
+    rosters = {number: tuple(cell for cell in cells if cell not in unknown) for number, cells in stored.rosters.items()}
+    return replace(plan, open_week=before.open_week, rosters=rosters, written=stored.written, published=before.published, unknown=unknown)
+
+
+def _check_days(now: PlanDays, before: PlanDays) -> None:
+    """The spreadsheet has the days of the plan. At the beginning of a period its number of weeks is free."""
+    if now.monday == before.monday and before.weeks in (0, now.weeks):
+        return
+    begin = "" if before.monday is None else f" from {before.monday} on"
+    if not before.weeks:
+        raise Misuse(f"a period is over: write the days of the next one{begin} into the sheet plan, with its wishes and absences")
+    raise Misuse(
+        f"the plan has {plural(before.weeks, 'week')}{begin}, and the sheet plan has other days: write these, or plan in another folder"
+    )
+
+
+def _check_names(scenario: Scenario, number: int, cells: Cells) -> None:
+    """Who worked in a week that is over is in the ward."""
+    for cell in cells:
+        if cell.nurse not in scenario.nurses:
+            nurse = readable(cell.nurse)
+            cure = "write it again, with away in the plan from her last day on"
+            raise Misuse(f"{nurse} worked in week {number}, and has no row in the sheet nurses: {cure}")
+        if cell.shift not in scenario.shift_types or cell.skill not in scenario.skills:
+            raise Misuse(
+                f"'{cell.row()}' was worked in week {number}, and the spreadsheet has no such shift type or skill: keep its old name"
+            )
+
+
+def _is_known(scenario: Scenario, cell: Cell) -> bool:
+    """Whether the ward has the names of an assignment."""
+    return cell.nurse in scenario.nurses and cell.shift in scenario.shift_types and cell.skill in scenario.skills

@@ -1,0 +1,76 @@
+"""The names and days that follow a verb."""
+
+from typing import Collection, NoReturn, Optional, Sequence
+
+from ..judging.absences import readable
+from ..sheets.sheet_rows import tidy
+from ..week.faults import Misuse
+from ..week.hints import quoted
+from ..week.slots import did_you_mean
+from .plan_days import PlanDays, is_day
+
+
+class Wording:
+    """The words after a verb, which are taken one after another. `usage` is an example of the whole line."""
+
+    def __init__(self, words: Sequence[str], nurses: Collection[str], days: PlanDays, first: int, usage: str) -> None:
+        self._left = [tidy(word) for word in words]
+        self._nurses, self._days, self._first, self._usage = nurses, days, first, usage
+
+    @property
+    def is_over(self) -> bool:
+        """Whether no word is left."""
+        return not self._left
+
+    def nurse(self) -> str:
+        """A nurse. Her name may be several words, up to the next day, or the beginning of a name that only she has."""
+        if self.is_over:
+            self._misuse("a nurse is missing")
+        text = self._left.pop(0)
+        while self._left and not is_day(self._left[0]) and not self._is_nurse(text):
+            text += f" {self._left.pop(0)}"
+        return self._known("nurse", text, self._nurses)
+
+    def _is_nurse(self, text: str) -> bool:
+        return any(text.casefold() == readable(nurse).casefold() for nurse in self._nurses)
+
+    def day(self, near: Optional[int] = None) -> int:
+        """A day; a day of the week is the first one from the day `near` on, or from the first day that is not over."""
+        if self.is_over:
+            self._misuse("a day is missing")
+        text = self._left.pop(0)
+        if self._left and self._left[0].isdigit():
+            text += f" {self._left.pop(0)}"
+        return self._days.number(text, self._first if near is None else near)
+
+    def open_day(self, near: Optional[int] = None) -> int:
+        """The same for a day that is not in a week that is over."""
+        found = self.day(near)
+        if found < self._first:
+            raise Misuse(f"{self._days.text(found)} is in a week that is over: the plan goes on from {self._days.text(self._first)}")
+        return found
+
+    def one_of(self, kind: str, names: Collection[str]) -> str:
+        """One of these names."""
+        if self.is_over:
+            self._misuse(f"a {kind} is missing")
+        return self._known(kind, self._left.pop(0), names)
+
+    def end(self) -> None:
+        """No word may be left."""
+        if self._left:
+            self._misuse(f"'{self._left[0]}' is a word too many")
+
+    def _known(self, kind: str, text: str, names: Collection[str]) -> str:
+        wanted = text.replace(" ", "_").casefold()
+        same = [name for name in names if name.casefold() == wanted]
+        begun = [name for name in names if name.casefold().startswith(wanted)]
+        if len(same or begun) == 1:
+            return (same or begun)[0]
+        if begun:
+            raise Misuse(f"'{text}' may be {quoted(map(readable, begun))}: write the whole name")
+        otherwise = f"write one of {quoted(map(readable, names))}"
+        raise Misuse(f"'{text}' is no {kind}: {did_you_mean(text.replace(' ', '_'), names, otherwise, readable)}")
+
+    def _misuse(self, what: str) -> NoReturn:
+        raise Misuse(f"{what}: write, for example, {self._usage}")

@@ -1,0 +1,60 @@
+"""A folder for all temporary files of a helper. The folders of helpers that were killed are removed by a later one."""
+
+import contextlib
+import fcntl
+import os
+import re
+import shutil
+import tempfile
+import time
+from pathlib import Path
+from typing import Iterator
+
+PREFIX = "inrc2pb-helper-"
+_NAME = re.compile(PREFIX + "[a-z0-9_]{8}")
+# A folder that is younger may not be locked yet.
+MIN_AGE = 60.0
+
+
+@contextlib.contextmanager
+def own_folder() -> Iterator[None]:
+    """Within the block temporary files are in a folder of their own, which is locked, and removed at the end."""
+    home = Path(tempfile.gettempdir())
+    _remove_left(home)
+    before = tempfile.tempdir
+    try:
+        folder = tempfile.mkdtemp(prefix=PREFIX, dir=str(home))
+    except OSError:
+        # Whoever needs a temporary file gets this fault.
+        yield
+        return
+    lock = os.open(folder, os.O_RDONLY)
+    try:
+        with contextlib.suppress(OSError):
+            fcntl.flock(lock, fcntl.LOCK_EX)
+        tempfile.tempdir = folder
+        yield
+    finally:
+        tempfile.tempdir = before
+        shutil.rmtree(folder, ignore_errors=True)
+        os.close(lock)
+
+
+def _remove_left(home: Path) -> None:
+    """Removes the old folders of this user that nobody locks. The lock of a process ends with it, however it ends."""
+    with contextlib.suppress(OSError):
+        for path in [path for path in home.iterdir() if _NAME.fullmatch(path.name)]:
+            with contextlib.suppress(OSError):
+                _remove_unlocked(path)
+
+
+def _remove_unlocked(path: Path) -> None:
+    """Removes the folder, if it is old and nobody locks it."""
+    lock = os.open(str(path), os.O_RDONLY | os.O_DIRECTORY | os.O_NOFOLLOW)
+    try:
+        found = os.fstat(lock)
+        if found.st_uid == os.geteuid() and time.time() - found.st_mtime > MIN_AGE:
+            fcntl.flock(lock, fcntl.LOCK_EX | fcntl.LOCK_NB)
+            shutil.rmtree(str(path), ignore_errors=True)
+    finally:
+        os.close(lock)

@@ -1,0 +1,150 @@
+"""The pricing of cases by NumPy, for all nurses at once: charges of shift runs are counted apart, so that a surcharge is one number."""
+
+from typing import Any, Dict, List, NamedTuple, Optional, Set, Tuple
+
+from ..judging.rules import SHIFT_RUN
+from ..judging.runs import NEVER
+from .case_limits import CaseLimits
+from .certificate import Case, Leaf
+from .plan import POINT, Plan
+from .pricing import Crews, Prices, Pricing, NurseWeek
+from .row_arrays import Block, Member, blocks_of, numpy
+from .row_graph import Check
+
+# A charge of a shift run costs so many points in the graphs, so that the number of charges can be read from a cost.
+_CODE = 10_000_000
+
+
+class PricedRow(NamedTuple):
+    """A row of a nurse, its cost in points, and its number of charges of shift runs."""
+
+    nurse: int
+    row: NurseWeek
+    cost: int
+    runs: int
+
+
+class Found(NamedTuple):
+    """The cheapest row of each nurse at some prices, what it costs less what it earns, and what no roster of the case costs less than by
+    these prices, in thousandths."""
+
+    rows: List[PricedRow]
+    values: List[int]
+    bound: int
+
+
+def _split(coded: int) -> Tuple[int, int]:
+    """The cost of a step without shift runs, in thousandths, and its number of charges of them."""
+    runs = (coded + _CODE * POINT // 2) // (_CODE * POINT)
+    return coded - runs * _CODE * POINT, runs
+
+
+class _CaseBlock:
+    """Nurses who are priced together: by day, choice and node the costs without shift runs, and the charges of these."""
+
+    def __init__(self, block: Block) -> None:
+        self.nurses, self._block = block.nurses, block
+        self._steps = []
+        for coded in block.costs:
+            never = coded >= NEVER // 2
+            costs, runs = _split(numpy.where(never, 0, coded))
+            self._steps.append((numpy.where(never, NEVER, costs), runs))
+
+    def cheapest(self, pay: Any, weight: int) -> Tuple[Any, Any]:
+        """What the cheapest row of each nurse costs, and the row, if a charge of a shift run has this weight in thousandths."""
+        steps = self._steps
+        weighted = [costs + runs * weight if weight < NEVER else numpy.where(runs > 0, NEVER, costs) for costs, runs in steps]
+        return self._block.with_costs(weighted).cheapest(pay, range(len(self.nurses)))
+
+
+class CasePricing:
+    """The nurses of a plan with the graphs of their rows."""
+
+    def __init__(self, plan: Plan, crews: Crews, check: Check) -> None:
+        pricing = Pricing(plan, crews, check, _CODE)
+        self.plan, self.crews = plan, crews
+        self.numbers = {nurse: at for at, nurse in enumerate(plan.nurses)}
+        self.shifts = {shift: number for number, shift in enumerate(plan.scenario.shift_types, 1)}
+        self._starts, self._base = pricing.starts, pricing.base
+        self._graphs = pricing.graphs
+        graphs = zip(pricing.graphs, pricing.starts)
+        members = [Member(nurse, graph.arrays, start) for nurse, (graph, start) in enumerate(graphs) if graph.arrays]
+        self._blocks = [_CaseBlock(block) for block in blocks_of(members, plan.days)]
+        self.crew = numpy.array(crews.of)
+        self._wishes = numpy.zeros(self.crew.shape, dtype=numpy.int64)
+        for nurse, wishes in enumerate(pricing.wishes):
+            for day, costs in wishes.items():
+                self._wishes[nurse, day] = costs
+        self._missing = plan.missing_cost * POINT
+
+    def limits(self, case: Case) -> CaseLimits:
+        """The limits of a case."""
+        return CaseLimits(self.crews, case, self.numbers, self.shifts)
+
+    def counted(self, nurse: int, row: NurseWeek) -> Optional[PricedRow]:
+        """A row with its cost and its charges; None if a hard rule forbids it."""
+        node, cost, number = self._starts[nurse], self._base[nurse], 0
+        for at, (day, choice) in enumerate(zip(self._graphs[nurse].days, row)):
+            if day.costs[choice][node] >= NEVER // 2 or self._wishes[nurse, at, choice] >= NEVER // 2:
+                return None
+            step, runs = _split(day.costs[choice][node])
+            cost, number = cost + step + int(self._wishes[nurse, at, choice]), number + runs
+            node = day.heads[choice][node]
+        return PricedRow(nurse, row, cost // POINT + SHIFT_RUN * number, number)
+
+    def price(self, limits: CaseLimits, prices: Prices, surcharge: int) -> Optional[Found]:
+        """The cheapest rows of a case at these prices, and its bound; None if it has no roster. A surcharge below 0 is for charges of shift
+        runs that are due, one above 0 for those that are too many; without such a limit there is none."""
+        if limits.is_empty:
+            return None
+        limit = limits.most if surcharge > 0 else limits.least
+        surcharge = surcharge if limit else 0
+        pay = self._pay(prices, limits.forbidden)
+        weight = NEVER if limits.most and limits.most.number == 0 else SHIFT_RUN * POINT + surcharge
+        values: List[int] = [0] * len(self._starts)
+        found: List[PricedRow] = []
+        for block in self._blocks:
+            least, rows = block.cheapest(pay, weight)
+            for nurse, value, row in zip(block.nurses, least.tolist(), rows):
+                priced = self.counted(nurse, row.tobytes()) if value < NEVER // 2 else None
+                if priced is None:
+                    return None
+                found.append(priced)
+                values[nurse] = value + self._base[nurse]
+        return Found(found, values, sum(values) + self._places_cost(limits, prices) - surcharge * (limit.number if limit else 0))
+
+    def _pay(self, prices: Prices, forbidden: Dict[int, Set[Tuple[int, int]]]) -> Any:
+        """What each choice costs each nurse beside the costs of her row."""
+        pay = self._wishes - numpy.array(self.crews.gains(prices), dtype=numpy.int64)[self.crew]
+        for nurse, choices in forbidden.items():
+            for day, choice in choices:
+                pay[nurse, day, choice] = NEVER
+        return pay
+
+    def _places_cost(self, limits: CaseLimits, prices: Prices) -> int:
+        """What all places cost at least, if they pay these prices to their nurses."""
+        asked = zip(limits.minimum, limits.optimal, prices)
+        return self._missing * limits.given_up + sum(
+            least * price + (best - least) * min(self._missing, price) for least, best, price in asked
+        )
+
+    def bound(self, case: Case, leaf: Leaf) -> Optional[int]:
+        """What no roster of a case costs less than by a leaf, in points; None if it has no roster."""
+        limits = self.limits(case)
+        found = self.price(limits, leaf.prices, surcharge_of(limits, leaf))
+        return None if found is None else limits.in_steps(found.bound)
+
+
+def surcharge_of(limits: CaseLimits, leaf: Leaf) -> int:
+    """The surcharge of a leaf for a charge of a shift run: below 0 if charges are due."""
+    of = leaf.surcharges
+    most, least = (of[limit.at] if limit and limit.at < len(of) else 0 for limit in (limits.most, limits.least))
+    return most - least
+
+
+def leaf_of(limits: CaseLimits, prices: Prices, surcharge: int) -> Leaf:
+    """The leaf with these prices and this surcharge."""
+    limit = limits.most if surcharge > 0 else limits.least
+    if not (surcharge and limit):
+        return Leaf(prices)
+    return Leaf(prices, (*[0] * limit.at, abs(surcharge)))

@@ -1,0 +1,137 @@
+"""The linear program over known rows for one case after another: rows are added to it, and a case changes its bounds."""
+
+from typing import Dict, Iterable, List, NamedTuple, Set, Tuple
+
+from ..programs.clock import Clock
+from ..solvers.answers import SolverFault
+from ..solvers.resident_program import DUAL, OPTIMAL, PRIMAL, STOPPED, Column, LinearProgram
+from .case_limits import CaseLimits
+from .case_pricing import CasePricing, PricedRow
+from .plan import POINT
+from .pricing import MAX_PRICE, Prices, NurseWeek
+from .row_program import BELOW_MINIMUM
+
+# The cost of what makes each program feasible: a nurse without a row, and charges of shift runs that are due or too many.
+_ARTIFICIAL = 20_000.0
+_ANY = 1e30
+# A share no greater than this is none.
+EXACT = 1e-6
+
+
+class CaseSolution(NamedTuple):
+    """A solution: its value in points, prices of places and of nurses and the surcharge of shift runs in thousandths, the shares of rows,
+    and the nurses that are missing at places. `is_real` says whether its rows keep the minimums and the limits of the case."""
+
+    value: float
+    prices: Prices
+    nurses: List[int]
+    surcharge: int
+    shares: Dict[int, float]
+    missing: Dict[int, float]
+    is_real: bool
+
+
+class CaseProgram:
+    """The known rows of all nurses as columns of a linear program that stays in a solver."""
+
+    def __init__(self, pricing: CasePricing, program: LinearProgram) -> None:
+        self.rows: Dict[int, PricedRow] = {}
+        # The steps of the simplex method until now.
+        self.iterations = 0
+        self._pricing, self._crews, self._program = pricing, pricing.crews, program
+        self._limits = pricing.limits(())
+        self._known: Set[Tuple[int, NurseWeek]] = set()
+        self._of: List[List[int]] = [[] for _ in pricing.plan.nurses]
+        nurses, places = len(pricing.plan.nurses), len(self._crews.places)
+        self._cover = range(nurses, nurses + places)
+        shared = [crew for crew, at in enumerate(self._crews.members) if len(at) > 1]
+        self._links = {crew: nurses + places + at for at, crew in enumerate(shared)}
+        self._runs = nurses + places + len(shared)
+        program.add_rows([(1.0, 1.0)] * nurses + [(float(best), _ANY) for best in self._crews.optimal])
+        program.add_rows([(0.0, _ANY)] * len(shared) + [(-_ANY, _ANY)])
+        self._missing, self._fixed = self._add_fixed()
+
+    def _add_fixed(self) -> Tuple[Dict[int, int], List[int]]:
+        """Adds the columns that are no rows of nurses. Returns those of nurses that are missing at places, and of what no roster has."""
+        program, crews, cost = self._program, self._crews, float(self._pricing.plan.missing_cost)
+        asked = zip(self._cover, crews.minimum, crews.optimal)
+        first = program.add_columns([Column(cost, 0.0, float(best - least), [(row, 1.0)]) for row, least, best in asked])
+        flows = [(crew, at) for crew in self._links for at in crews.members[crew]]
+        program.add_columns([Column(0.0, 0.0, _ANY, [(self._links[crew], -1.0), (self._cover[at], 1.0)]) for crew, at in flows])
+        below = program.add_columns([Column(float(BELOW_MINIMUM), 0.0, _ANY, [(row, 1.0)]) for row in self._cover])
+        last = program.add_columns(
+            [Column(_ARTIFICIAL, 0.0, 1.0, [(nurse, 1.0)]) for nurse in range(self._cover.start)]
+            + [Column(_ARTIFICIAL, 0.0, _ANY, [(self._runs, sign)]) for sign in (1.0, -1.0)]
+        )
+        return {at: first + at for at in range(len(self._cover))}, list(range(below, last + self._cover.start + 2))
+
+    def add(self, found: Iterable[PricedRow]) -> int:
+        """Adds the rows that are new. Returns their number."""
+        new = [of for of in found if (of.nurse, of.row) not in self._known]
+        first = self._program.add_columns([self._column(of) for of in new])
+        for number, of in enumerate(new, first):
+            self._known.add((of.nurse, of.row))
+            self.rows[number] = of
+            self._of[of.nurse].append(number)
+        return len(new)
+
+    def _column(self, of: PricedRow) -> Column:
+        entries = {of.nurse: 1.0}
+        for crews, choice in zip(self._crews.of[of.nurse], of.row):
+            places = self._crews.members[crews[choice]]
+            if places:
+                entries[self._links[crews[choice]] if len(places) > 1 else self._cover[places[0]]] = 1.0
+        if of.runs:
+            entries[self._runs] = float(of.runs)
+        forbidden = self._limits.forbidden.get(of.nurse, ())
+        return Column(float(of.cost), 0.0, 0.0 if _is_forbidden(of.row, forbidden) else _ANY, list(entries.items()))
+
+    def take(self, limits: CaseLimits) -> None:
+        """Goes on with the case of these limits."""
+        old, self._limits = self._limits, limits
+        rows, columns = {}, {}
+        for at, row in enumerate(self._cover):
+            if (old.minimum[at], old.optimal[at]) != (limits.minimum[at], limits.optimal[at]):
+                rows[row] = (float(limits.optimal[at]), _ANY)
+                columns[self._missing[at]] = (0.0, float(limits.optimal[at] - limits.minimum[at]))
+        least, most = limits.least.number if limits.least else -_ANY, limits.most.number if limits.most else _ANY
+        rows[self._runs] = (float(least), float(most))
+        for nurse in {*old.forbidden, *limits.forbidden}:
+            before, now = old.forbidden.get(nurse, set()), limits.forbidden.get(nurse, set())
+            for number in self._of[nurse] if before != now else ():
+                columns[number] = (0.0, 0.0 if _is_forbidden(self.rows[number].row, now) else _ANY)
+        self._program.bound_rows(rows)
+        self._program.bound_columns(columns)
+
+    def keep_basis(self) -> None:
+        """Keeps the basis of the last solution."""
+        self._program.keep_basis()
+
+    def rise(self, limits: CaseLimits, clock: Clock, iterations: int) -> float:
+        """The value in another case by the known rows, from the kept basis and after at most these steps of the dual simplex method."""
+        self.take(limits)
+        self._program.take_basis()
+        found = self._program.solve(clock, DUAL, iterations, whole=False)
+        self.iterations += found.iterations
+        return self._value(found.value)
+
+    def solve(self, clock: Clock, is_new_case: bool) -> CaseSolution:
+        """A solution of the program in the case that it has now."""
+        found = self._program.solve(clock, DUAL if is_new_case else PRIMAL)
+        if found.status not in (OPTIMAL, STOPPED):
+            found = self._program.solve(clock, PRIMAL)
+        if not found.prices:
+            raise SolverFault("a linear program that has solutions has none")
+        prices = [min(MAX_PRICE, max(0, round(found.prices[row] * POINT))) for row in self._cover]
+        nurses = [round(found.prices[nurse] * POINT) for nurse in range(self._cover.start)]
+        shares = {number: found.columns[number] for number in self.rows if found.columns[number] > EXACT}
+        missing = {at: found.columns[number] for at, number in self._missing.items() if found.columns[number] > EXACT}
+        is_real = all(found.columns[number] <= EXACT for number in self._fixed)
+        return CaseSolution(self._value(found.value), prices, nurses, -round(found.prices[self._runs] * POINT), shares, missing, is_real)
+
+    def _value(self, value: float) -> float:
+        return value + self._pricing.plan.missing_cost * self._limits.given_up
+
+
+def _is_forbidden(row: NurseWeek, forbidden: Iterable[Tuple[int, int]]) -> bool:
+    return any(row[day] == choice for day, choice in forbidden)

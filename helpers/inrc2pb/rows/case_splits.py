@@ -1,0 +1,88 @@
+"""The splits of a case that its solution suggests, and the choice among them by the known rows."""
+
+import math
+from typing import Dict, Iterator, List, NamedTuple, Sequence, Tuple, TypeVar
+
+from ..programs.clock import Clock
+from ..week.facts import SHIFT_RUNS, AtPlace, Charged, Choice, Claim, Fact
+from .case_limits import CaseLimits, NurseChoice
+from .case_pricing import CasePricing
+from .case_program import CaseProgram, CaseSolution
+from .certificate import Case
+from .plan import STEP, WEEK_DAYS
+
+_Key = TypeVar("_Key", int, NurseChoice)
+# A share this near to a whole number is one.
+WHOLE = 1e-3
+# The splits of each kind that are tried, the most steps of the dual simplex method for each case of one and for all, and the least rise
+# that counts as one.
+TRIED, STEPS, MOST_STEPS, LEAST_RISE = 5, 400, 6000, 1e-3
+# How much the higher of the two rises counts beside the lower one.
+HIGHER = 0.1
+
+
+class Rated(NamedTuple):
+    """A fact by which a case is split, and how much the value rises in the case in which it holds and in the one in which it does not."""
+
+    fact: Fact
+    rises: Tuple[float, float]
+
+    @property
+    def score(self) -> float:
+        """A split is better if the lower of its rises is higher."""
+        lower, higher = sorted(self.rises)
+        if lower < LEAST_RISE:
+            return LEAST_RISE * max(higher, LEAST_RISE)
+        return 1 + lower + HIGHER * higher
+
+
+def suggested(pricing: CasePricing, program: CaseProgram, now: CaseSolution, limits: CaseLimits) -> Iterator[Fact]:
+    """The facts by which a solution is partly in one case and partly in the other: of each kind those nearest to one half."""
+    runs = 0.0
+    off: Dict[NurseChoice, float] = {}
+    on: Dict[NurseChoice, float] = {}
+    for number, share in now.shares.items():
+        nurse, row, _, charges = program.rows[number]
+        runs += share * charges
+        for day, choice in enumerate(row):
+            counts = on if choice else off
+            counts[nurse, day, choice] = counts.get((nurse, day, choice), 0.0) + share
+    if limits.odd is not None and _is_partly(runs):
+        yield Charged(SHIFT_RUNS, None, math.floor(runs))
+    names, shifts = pricing.plan.nurses, [None, *pricing.shifts]
+    for partly in (on, off):
+        shares = {of: share for of, share in partly.items() if _is_partly(share)}
+        for nurse, day, choice in _halves(shares):
+            yield Choice(day // WEEK_DAYS + 1, names[nurse], day % WEEK_DAYS, shifts[choice])
+    there = {at: limits.optimal[at] - share for at, share in now.missing.items() if _is_partly(share)}
+    for at in _halves(there):
+        place = pricing.crews.places[at]
+        yield AtPlace(place.day // WEEK_DAYS + 1, place._replace(day=place.day % WEEK_DAYS), math.floor(there[at]))
+
+
+def _is_partly(number: float) -> bool:
+    return abs(number - round(number)) > WHOLE
+
+
+def _halves(numbers: Dict[_Key, float]) -> List[_Key]:
+    """The keys whose numbers are nearest to the middle between two whole ones."""
+    return sorted(numbers, key=lambda key: (round(abs(numbers[key] % 1 - 0.5), 3), key))[:TRIED]
+
+
+def best_split(
+    pricing: CasePricing, program: CaseProgram, now: CaseSolution, case: Case, facts: Sequence[Fact], target: int, clock: Clock
+) -> Rated:
+    """The split whose cases cost most by the known rows. What they cost above the target does not count."""
+    if len(facts) == 1:
+        return Rated(facts[0], (0.0, 0.0))
+    program.keep_basis()
+    most = pricing.limits(case).below(target) + STEP
+    tried: List[Rated] = []
+    spent = program.iterations
+    for fact in facts:
+        if program.iterations - spent > MOST_STEPS:
+            break
+        cases = [pricing.limits((*case, Claim(fact, holds))) for holds in (True, False)]
+        holds, fails = (min(float(most), program.rise(limits, clock, STEPS)) - now.value for limits in cases)
+        tried.append(Rated(fact, (holds, fails)))
+    return max(tried, key=lambda split: split.score)

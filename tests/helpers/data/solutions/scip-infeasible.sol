@@ -1,2 +1,0 @@
-solution status: infeasible
-no solution available

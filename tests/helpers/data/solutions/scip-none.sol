@@ -1,2 +1,0 @@
-solution status: time limit reached
-no solution available

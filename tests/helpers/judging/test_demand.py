@@ -1,0 +1,128 @@
+"""Tests of what `inrc2pb-check` counts before planning, of `--tell` and of `--why-none`."""
+
+import itertools
+import random
+import unittest
+from dataclasses import replace
+
+from ward import HAS_CBC, HAS_CLASP, HISTORY, ROOT, SCENARIO, WEEK, WEEK_OPTIONS, HelperTest, files, run
+
+from inrc2pb.judging.demand import asked_shifts, demand_warnings, supplied_shifts
+from inrc2pb.week.records import Absence, Contract, Limits, Nurse, Place, Requirement, Scenario, ShiftType, WeekData
+from inrc2pb.shown.telling import scenario_sentences, week_sentences
+
+WARD, DATA = files.read_scenario(SCENARIO), files.read_week(WEEK, files.read_scenario(SCENARIO))
+PAST = files.read_history(HISTORY, WARD)
+EIGHT = ROOT / "examples" / "eight"
+
+
+def needing(**numbers):
+    """The week with these minimum numbers on Tuesday, by shift type and skill."""
+    added = {Place(1, *name.split("_")): Requirement(number, number) for name, number in numbers.items()}
+    return replace(DATA, requirements={**DATA.requirements, **added})
+
+
+def can_be_filled(scenario, data, day):
+    """Whether some choice of nurses fills the places of the day: each choice is tried."""
+    places = [place for place, asked in data.requirements.items() if place.day == day for _ in range(asked.minimum)]
+    return any(
+        all(place.skill in scenario.nurses[nurse].skills for nurse, place in zip(chosen, places))
+        for chosen in itertools.permutations(scenario.nurses, len(places))
+    )
+
+
+class Demand(unittest.TestCase):
+    def test_nurses_who_are_needed_at_once(self):
+        # Three of the seven nurses have Charge.
+        wanted = ["Tue: 4 with Charge needed at once (Day 2, Night 2), and 3 have it: no roster can meet it"]
+        self.assertEqual(list(demand_warnings(WARD, PAST, needing(Day_Charge=2, Night_Charge=2))), wanted)
+        wanted = ["Tue: Day Charge, Day Nurse, Late Nurse and Night Nurse need 8 nurses at once, and 7 could do it: no roster can meet it"]
+        self.assertEqual(list(demand_warnings(WARD, PAST, needing(Day_Charge=2, Day_Nurse=2, Late_Nurse=2, Night_Nurse=2))), wanted)
+
+    def test_nurses_who_are_away_are_not_counted(self):
+        away = replace(DATA, absences=frozenset({Absence("Amara", 1, None), Absence("Bruno", 1, None), Absence("Ewa", 1, "Day")}))
+        wanted = ["Tue: 1 with Charge needed at once (Day 1), and 0 of the 3 who have it could do it: no roster can meet it and keep every absence"]
+        self.assertEqual(list(demand_warnings(WARD, PAST, away)), wanted)
+
+    def test_a_warning_says_whether_the_places_can_be_filled(self):
+        chance = random.Random(7)
+        shifts = {name: ShiftType(name, Limits(1, 9), ()) for name in ("Day", "Late")}
+        contract = Contract("Full", Limits(0, 99), Limits(1, 9), Limits(1, 9), 9, False)
+        for _ in range(150):
+            skills = ("A", "B", "C")
+            nurses = {name: Nurse(name, "Full", tuple(skill for skill in skills if chance.random() < 0.5)) for name in "uvwx"}
+            scenario = Scenario("s", 4, skills, shifts, {"Full": contract}, nurses)
+            numbers = {Place(2, shift, skill): Requirement(chance.choice((0, 0, 1, 2)), 2) for shift in shifts for skill in skills}
+            data = WeekData("s", numbers, ())
+            self.assertEqual(not list(demand_warnings(scenario, None, data)), can_be_filled(scenario, data, 2), data)
+
+    def test_shifts_that_are_asked_for_and_supplied(self):
+        # Day Charge 7, Day Nurse 5 and 10+2, Late 7, Night 7; five Full (17,21) and two Half (8,11) in four weeks.
+        self.assertEqual((asked_shifts(DATA), supplied_shifts(WARD, PAST)), ((26, 33), (25, 32)))
+        many = replace(DATA, requirements={place: Requirement(1, 1) for place in (Place(d, s, k) for d in range(7) for s in WARD.shift_types for k in WARD.skills)})
+        self.assertIn("it asks for at least 42 shifts, and the contracts supply at most 32 a week: if all weeks ask for so many, each shift above costs points", list(demand_warnings(WARD, PAST, many)))
+
+
+class Telling(HelperTest):
+    def test_a_ward_in_sentences(self):
+        found = list(scenario_sentences(WARD))
+        for line in (
+            "ward: 7 nurses, 4 weeks in a period.", "Day: 2 to 5 days in a row.", "After Night, the next day no Day and no Late.",
+            "Contract Half: Ewa and Finn.", "Half: 8 to 11 shifts in 4 weeks; 2 to 3 days of work in a row, 2 to 5 days off.",
+            "Full: at most 2 weekends with work, on both days or none.", "Charge: Amara, Bruno and Ewa.",
+        ):  # fmt: skip
+            self.assertIn(line, found)
+
+    def test_a_week_in_sentences(self):
+        data = replace(DATA, absences=frozenset({*(Absence("Chen", day, None) for day in (2, 3, 4)), *(Absence("Ewa", day, "Night") for day in range(7))}))
+        found = list(week_sentences(WARD, PAST, data))
+        for line in (
+            "Day Nurse: 1, better 2 on Mon to Fri; 0, better 1 on Sat and Sun.", "Late Nurse: 1 on all days.",
+            "The week asks for 26 to 33 shifts; the contracts supply 25 to 32 a week.", "Chen is away on Wed to Fri.", "Ewa never works Night.",
+            "Grace would rather not work Night on Tue.", "Dilek would rather be off on Fri.",
+        ):  # fmt: skip
+            self.assertIn(line, found)
+
+    def test_check_tells_held_shifts(self):
+        fix = self.solution("Grace Sat Day Nurse", "Chen Mon Late Nurse", "Grace Sun Day Nurse")
+        printed = run("check", *WEEK_OPTIONS, "--fix", fix, "--tell")[1]
+        self.assertIn("\nGrace has the shift Day Nurse for certain on Sat and Sun.\nChen has the shift Late Nurse for certain on Mon.\n", printed)
+        self.assertNotIn("for certain", run("check", *WEEK_OPTIONS, "--tell")[1])
+
+    def test_check_tells(self):
+        status, printed, said = run("check", *WEEK_OPTIONS, "--tell")
+        self.assertEqual((status, said), (0, ""))
+        for line in ("After Late, the next day no Day.", "Dilek worked Night on Sunday, 2 days in a row, with 2 days of work.", "No mistake found."):
+            self.assertIn(line, printed.splitlines())
+
+
+@unittest.skipUnless(HAS_CLASP or HAS_CBC, "needs clasp or cbc")
+class WhyNone(HelperTest):
+    def test_the_numbers_to_lower(self):
+        words = ("--sce", EIGHT / "ward.txt", "--his", EIGHT / "history-1.txt", "--week", EIGHT / "week-1.txt")
+        status, printed, _ = run("check", *words, "--why-none")
+        lines = printed.splitlines()
+        self.assertEqual((status, lines[0]), (0, "No roster meets all minimum numbers. Lower these by 1 in all; no roster can do with less:"))
+        self.assertRegex(lines[1], "^(Wed|Thu) (Early|Late|Night) HeadNurse: lower 1 to 0$")
+        self.assertEqual({line.split()[0] for line in lines[2:]}, {"Ada", "Emil"})
+
+    def test_a_week_that_has_a_roster(self):
+        self.assertEqual(run("check", *WEEK_OPTIONS, "--why-none")[:2], (0, "A roster exists that meets all minimum numbers.\n"))
+
+    def test_a_skill_that_is_away(self):
+        away = self.folder / "away.txt"
+        words = [word for nurse in ("Amara", "Bruno", "Ewa") for word in ("--away", f"{nurse}=Fri")]
+        run("wish", *WEEK_OPTIONS[:2], *WEEK_OPTIONS[4:], *words, "--out", away)
+        _, printed, _ = run("check", *WEEK_OPTIONS[:4], "--week", away, "--why-none")
+        said = "No roster meets all minimum numbers, and keeps every absence. Lower these by 1 in all; no roster can do with less:"
+        rows = ["Fri Day Charge: lower 1 to 0", "    Amara is away", "    Bruno is away", "    Ewa is away"]
+        self.assertEqual(printed.splitlines()[1:], [said, *rows])
+
+    def test_faults(self):
+        self.assert_fault(run("check", "--sce", SCENARIO, "--why-none"), "inrc2pb-check: --why-none needs the whole week: give --sce, --his and --week")
+        fix = self.solution("Chen Mon Day Nurse", "Chen Mon Late Nurse")
+        self.assertEqual(run("check", *WEEK_OPTIONS, "--fix", fix, "--why-none")[0], 1)
+
+
+if __name__ == "__main__":
+    unittest.main()

@@ -1,0 +1,434 @@
+"""Tests of `inrc2pb-plan` and of the plans of a ward's folder, on the example of `inrc2pb-ward` with two weeks."""
+
+import csv
+import datetime
+import fcntl
+import os
+import re
+import signal
+import subprocess
+import sys
+import tempfile
+import time
+import unittest
+from dataclasses import replace
+
+from ward import HAS_CBC, HELPERS, HelperTest, files, program, run
+
+from inrc2pb.commands.plan import read_sheet
+from inrc2pb.plans.few_changes import with_few_changes
+from inrc2pb.plans.plan_days import OtherPlan, PlanDays
+from inrc2pb.plans.skill_labels import with_old_skills
+from inrc2pb.plans.swaps import Swap, Swaps
+from inrc2pb.plans.ward_plan import first_plan
+from inrc2pb.plans.wording import Wording
+from inrc2pb.sheets.ward_template import EXAMPLE
+from inrc2pb.week.faults import Misuse
+from inrc2pb.week.records import Cell, KeptLimit, Request, WeekData
+
+MONDAY = datetime.date(2026, 11, 30)
+DATES = [str(MONDAY + datetime.timedelta(days=day)) for day in range(14)]
+# The files of the plan with which tests begin.
+FIRST_PLAN = {}
+DATED, BARE = PlanDays(MONDAY, 2), PlanDays(None, 2)
+
+
+class Days(unittest.TestCase):
+    def test_days_and_their_names(self):
+        for days, near, text, number, name in (
+            (DATED, 0, "Fri", 4, "Fri 4 Dec"),
+            (DATED, 5, "fri", 11, "Fri 11 Dec"),
+            (DATED, 4, "Friday", 4, "Fri 4 Dec"),
+            (DATED, 0, "Fri 1", 11, "Fri 11 Dec"),
+            (DATED, 9, "2026-12-01", 1, "Tue 1 Dec"),
+            (DATED, 9, "1.12.", 1, "Tue 1 Dec"),
+            (DATED, 0, "13.12.2026", 13, "Sun 13 Dec"),
+            (BARE, 0, "Sun 1", 13, "Sun of week 1"),
+        ):
+            with self.subTest(text):
+                self.assertEqual(days.number(text, near), number)
+                self.assertEqual(days.text(number), name)
+        self.assertEqual((DATED.head(4), BARE.head(11)), ("2026-12-04", "Fri 1"))
+
+    def test_a_date_without_its_year_after_new_year(self):
+        days = PlanDays(datetime.date(2026, 12, 28), 1)
+        self.assertEqual((days.number("31.12.", 0), days.number("2.1.", 0)), (3, 5))
+
+    def test_days_that_the_plan_does_not_have(self):
+        for text in ("2026-11-29", "2026-12-14", "Mon 2", "29.11.2026"):
+            with self.subTest(text), self.assertRaises(OtherPlan):
+                DATED.number(text, 0)
+        for days, text in ((DATED, "2026-02-30"), (DATED, "soon"), (BARE, "2026-12-01")):
+            with self.subTest(text), self.assertRaises(Misuse):
+                days.number(text, 0)
+
+
+class Words(unittest.TestCase):
+    NURSES = ("Anna_Koch", "Anna_Wolf", "Łukasz_Nowak", "Sun_Li")
+
+    def wording(self, line, first=0):
+        return Wording(line.split(), self.NURSES, DATED, first, "ill Anna Fri")
+
+    def test_names_of_several_words_and_their_beginnings(self):
+        for line, nurse, day in (
+            ("Anna Koch Fri", "Anna_Koch", 4),
+            ("anna w 4.12.", "Anna_Wolf", 4),
+            ("łuk Sat 1", "Łukasz_Nowak", 12),
+            ("Sun Li Mon 1", "Sun_Li", 7),
+        ):
+            with self.subTest(line):
+                words = self.wording(line)
+                self.assertEqual((words.nurse(), words.day()), (nurse, day))
+                words.end()
+
+    def test_faults_of_words(self):
+        for line, says in (
+            ("Anna Fri", "'Anna' may be Anna Koch, Anna Wolf: write the whole name"),
+            ("Anna_Kock Fri", "'Anna_Kock' is no nurse: did you mean Anna Koch?"),
+            ("", "a nurse is missing: write, for example, ill Anna Fri"),
+            ("Sun Li", "a day is missing: write, for example, ill Anna Fri"),
+            ("Sun Li Fri soon", "'soon' is a word too many: write, for example, ill Anna Fri"),
+        ):
+            with self.subTest(line), self.assertRaises(Misuse) as caught:
+                words = self.wording(line)
+                words.nurse()
+                words.day()
+                words.end()
+            self.assertEqual(str(caught.exception), says)
+        with self.assertRaises(Misuse) as caught:
+            self.wording("2026-12-01", first=7).open_day()
+        self.assertEqual(str(caught.exception), "Tue 1 Dec is in a week that is over: the plan goes on from Mon 7 Dec")
+
+
+class Values(HelperTest):
+    def test_few_changes_are_requests_against_all_other_shifts(self):
+        scenario = files.read_scenario(HELPERS.parent / "examples" / "ward" / "ward.txt")
+        data, old = WeekData("ward", {}, ()), [Cell("Chen", 4, "Late", "Nurse")]
+        asked = [one for one in with_few_changes(scenario, data, old, [4], points=20).requests if one.nurse in ("Chen", "Grace")]
+        chen = [Request("Chen", shift, 4) for shift in ("Day", "Night") for _ in range(2)]
+        self.assertEqual(asked, [*chen, *[Request("Grace", None, 4)] * 2])
+
+    def test_a_nurse_who_keeps_her_shift_keeps_her_skill(self):
+        scenario = files.read_scenario(HELPERS.parent / "examples" / "ward" / "ward.txt")
+        old = [Cell("Amara", 0, "Day", "Charge"), Cell("Bruno", 0, "Day", "Nurse"), Cell("Chen", 1, "Day", "Nurse")]
+        turned = [Cell("Amara", 0, "Day", "Nurse"), Cell("Bruno", 0, "Day", "Charge"), Cell("Chen", 1, "Day", "Nurse")]
+        self.assertEqual(sorted(with_old_skills(scenario, turned, old)), sorted(old))
+        # Without Amara only Bruno can be in charge.
+        new = [Cell("Bruno", 0, "Day", "Charge"), Cell("Grace", 0, "Day", "Nurse")]
+        self.assertEqual(with_old_skills(scenario, new, old), new)
+
+
+class FolderTest(HelperTest):
+    """A ward's folder with blanks in its name, whose sheets are .csv files."""
+
+    def setUp(self):
+        super().setUp()
+        self.ward = self.folder / "my wärd"
+        self.ward.mkdir()
+        self.rows = {name: [list(map(str, row)) for row in rows] for name, rows in EXAMPLE.items()}
+        self.rows["plan"] = [["nurse", *DATES], *(row[:15] for row in self.rows["plan"][1:])]
+        self.write()
+
+    def write(self):
+        """Writes the sheets."""
+        for name, rows in self.rows.items():
+            with open(self.ward / f"{name}.csv", "w", newline="") as file:
+                csv.writer(file).writerows(rows)
+
+    def does(self, *words):
+        """What the verb prints. Searches are short."""
+        searches = words[0] in ("plan", "ill", "leave", "back")
+        status, printed, said = run("plan", self.ward, *words, *(("--time", "10") if searches else ()))
+        self.assertEqual(status, 0, said)
+        return printed
+
+    def begin(self):
+        """Begins with a plan of both weeks, which the first test has made."""
+        if not FIRST_PLAN:
+            self.does("plan")
+            FIRST_PLAN.update({path.relative_to(self.ward): path.read_bytes() for path in self.ward.rglob("0*/*")})
+        for path, data in FIRST_PLAN.items():
+            (self.ward / path).parent.mkdir(parents=True, exist_ok=True)
+            (self.ward / path).write_bytes(data)
+
+    def last(self):
+        """The folder of the plan that holds."""
+        return sorted(path for path in (self.ward / "plans").iterdir() if path.name[0] == "0")[-1]
+
+    def cells(self):
+        """The assignments of the plan that holds, with days of the whole plan."""
+        found = {number: files.read_solution(self.last() / f"roster-{number}.txt").cells for number in range(2)}
+        return {(cell.nurse, 7 * number + cell.day): cell[2:] for number, cells in found.items() for cell in cells}
+
+    def points(self):
+        """The penalties of the weeks of the plan that holds, by `extend`."""
+        last, found = self.last(), []
+        history = last / "history-0.txt"
+        for number in range(2):
+            roster, target = last / f"roster-{number}.txt", self.folder / f"history-{number + 1}.txt"
+            found.append(program.penalty_of(program.WeekFiles(last / "ward.txt", history, last / f"week-{number}.txt"), roster))
+            if not number:
+                self.assertEqual(run("next", last / "ward.txt", history, roster, "--out", target)[0], 0)
+                history = target
+        return found
+
+    def texts(self):
+        """All files of all plans."""
+        return {path: path.read_bytes() for path in (self.ward / "plans").glob("0*/*")}
+
+
+@unittest.skipUnless(HAS_CBC, "cbc is not installed")
+class Verbs(FolderTest):
+    def test_a_plan_an_illness_and_the_way_back(self):
+        self.begin()
+        before, old = self.cells(), self.texts()
+        printed = self.does("ill", "Gra", "Wed", "Fri")
+        now = self.cells()
+        self.assertFalse({("Grace", day) for day in (2, 3, 4)} & set(now))
+        self.assertEqual([item for item in before.items() if item[0][1] < 2], [item for item in now.items() if item[0][1] < 2])
+        self.assertIn(f"2 weeks: {sum(self.points())} points\n", printed)
+        self.assertEqual({path: text for path, text in self.texts().items() if path in old}, old)
+        self.assertIn("the plan of plan, ", self.does("undo"))
+        self.assertEqual((self.cells(), self.texts()), (before, old))
+
+    def test_a_second_run_never_has_a_worse_plan(self):
+        self.begin()
+        before = sum(self.points())
+        printed = run("plan", self.ward, "plan", "--time", "1")[1]
+        first, second = self.points()
+        self.assertLessEqual(first + second, before)
+        self.assertIn(f"week 0: {first} points\nweek 1: {second} points\n2 weeks: {first + second} points\n", printed)
+
+    def test_a_plan_that_hangs_on_the_wall_changes_little(self):
+        self.begin()
+        for row, times in zip(self.rows["shifts"], ("times", "7:00-15:30", "14:30-23:00", "22:30-7:15")):
+            row.append(times)
+        self.write()
+        self.does("page")
+        calendars = [path.read_text() for path in (self.ward / "calendars").glob("*.ics")]
+        self.assertEqual(len(calendars), 7)
+        nurse, night = next((nurse, day) for (nurse, day), (shift, _) in sorted(self.cells().items()) if shift == "Night")
+        begins, ends = (f"{MONDAY + datetime.timedelta(days=night + later)}".replace("-", "") for later in (0, 1))
+        self.assertIn(f"DTSTART:{begins}T223000\nDTEND:{ends}T071500\n", (self.ward / "calendars" / f"{nurse}.ics").read_text())
+        before, points = self.cells(), sum(self.points())
+        self.does("plan")
+        now = self.cells()
+        changed = {key for key in {*before, *now} if before.get(key, "-")[0] != now.get(key, "-")[0]}
+        # Each change has saved at least its 20 points.
+        self.assertLessEqual(sum(self.points()) + 20 * len(changed), points)
+
+    def test_a_shift_that_is_taken_back_is_cancelled_in_the_calendar(self):
+        self.begin()
+        self.does("page")
+        nurse, day = next((nurse, day) for nurse, day in sorted(self.cells()) if day > 7)
+
+        def events():
+            text = (self.ward / "calendars" / f"{nurse}.ics").read_text()
+            return {re.search("DTSTART[^:]*:([0-9]+)", event)[1]: event for event in text.split("BEGIN:VEVENT")[1:]}
+
+        date, before = DATES[day].replace("-", ""), events()
+        self.does("ill", nurse, DATES[day])
+        now = events()
+        self.assertIn("STATUS:CANCELLED\n", now[date])
+        self.assertNotIn("STATUS", before[date])
+        uid, number = ("UID:(.*)", "SEQUENCE:([0-9]+)")
+        self.assertEqual(*(re.search(uid, one[date])[1] for one in (before, now)))
+        self.assertLessEqual(*(int(re.search(number, one[date])[1]) for one in (before, now)))
+
+    def test_needs_that_no_plan_meets(self):
+        # Amara, Bruno and Ewa have the skill.
+        self.rows["needs"][1][8] = "4"
+        self.write()
+        status, printed, said = run("plan", self.ward, "plan", "--time", "3")
+        self.assertEqual(status, 5, said)
+        says = "Lower these by 1 in all; no roster can do with less:\nweek 0: Sat Day Charge: lower 4 to 3\n$"
+        self.assertRegex(printed, f"^week 0: No roster .* {says}")
+        self.assertFalse(list((self.ward / "plans").glob("0*")))
+
+    def test_a_nurse_who_comes_and_one_who_leaves(self):
+        self.begin()
+        self.rows["nurses"].append(["Ida", "Half", "Nurse", *[""] * 8])
+        self.rows["plan"].append(["Ida", *["away"] * 7, *[""] * 7])
+        self.rows["plan"][4][8:15] = ["away"] * 7
+        self.write()
+        self.does("plan", "Mon 1")
+        nurses = {nurse for nurse, day in self.cells() if day >= 7}
+        self.assertNotIn("Dilek", nurses)
+        self.assertFalse({nurse for nurse, day in self.cells() if nurse == "Ida" and day < 7})
+        self.does("over")
+        del self.rows["nurses"][4], self.rows["plan"][4]
+        self.write()
+        status, _, said = run("plan", self.ward, "plan", "--time", "10")
+        cure = "write it again, with away in the plan from her last day on"
+        self.assertEqual((status, said), (1, f"inrc2pb-plan: Dilek worked in week 0, and has no row in the sheet nurses: {cure}\n"))
+
+    def test_swaps(self):
+        self.begin()
+        cells, before = self.cells(), sum(self.points())
+        offers = []
+        for nurse, day in sorted(cells):
+            printed = self.does("swap", nurse, DATES[day])
+            offers = [line for line in printed.splitlines() if line.endswith(" takes it")]
+            if offers:
+                break
+        for line in offers[:2]:
+            cost, other = line.split()[:2]
+            self.assertIn("nothing is written", self.does("swap", nurse, DATES[day], other))
+            self.assertEqual(self.cells(), cells)
+            self.does("swap", nurse, DATES[day], other, "--do")
+            self.assertEqual(sum(self.points()) - before, int(cost))
+            self.assertEqual(self.cells()[other, day], cells[nurse, day])
+            self.assertNotIn((nurse, day), self.cells())
+            self.does("undo")
+        self.assertTrue(offers)
+
+    def test_a_swap_above_a_limit_that_holds(self):
+        self.begin()
+        sheet = read_sheet(self.ward, None, ())
+        rows = [Cell("Chen", day, "Day", "Nurse") for day in range(5)] + [Cell("Grace", 5, "Day", "Nurse")]
+        plan = replace(first_plan(sheet), rosters={0: tuple(rows), 1: ()})
+        swap = Swap("Chen", "Grace", (5,))
+        for limits, faults in ((frozenset(), 0), (frozenset([KeptLimit("Chen", "WORK_DAYS", 0)]), 1)):
+            plan.data[0] = replace(plan.data[0], limits=limits)
+            # Chen's contract has at most five days of work in a row.
+            self.assertEqual(len(Swaps(plan).faults(swap)), faults)
+
+    def test_plans_that_were_edited_by_hand(self):
+        self.begin()
+        roster = self.last() / "roster-1.txt"
+        text = roster.read_text()
+        row = text.splitlines()[4]
+        other = f"{row.rsplit(' ', 1)[0]} Nurze"
+        for new, says in (
+            (text.replace(row, other), f"the plan has '{other}', and the spreadsheet has not all of these names: "),
+            (text.replace(f"{row}\n", "", 1), "roster-1.txt: end of file"),
+            ("", "roster-1.txt"),
+        ):
+            roster.write_text(new)
+            for verb in ("page", "over"):
+                status, printed, said = run("plan", self.ward, verb)
+                self.assertEqual((status, printed, said.count("\n")), (1, "", 1), said)
+                self.assertIn(says.split(":")[0], said)
+        (self.ward / "plans" / "0002-other").mkdir()
+        status, _, said = run("plan", self.ward, "page")
+        self.assertEqual((status, said.split(": ")[2]), (1, "this folder is no plan"))
+        self.assertIn("undone: 0002-other\n", self.does("undo"))
+
+    def test_a_swap_that_cannot_be_is_not_written(self):
+        self.begin()
+        cells = self.cells()
+        day = next(day for day in range(7, 14) if ("Finn", day) not in cells)
+        nurse = next(nurse for (nurse, on), (shift, _) in sorted(cells.items()) if on == day and shift == "Night")
+        status, printed, _ = run("plan", self.ward, "swap", nurse, DATES[day], "Finn", "--do")
+        self.assertEqual((status, self.cells()), (6, cells))
+        self.assertRegex(printed, "(?m)^not possible: Finn is away on .*, or never works Night$")
+
+    def test_the_weeks_and_the_period_are_over(self):
+        self.begin()
+        cells = self.cells()
+        worked = next(nurse for nurse, day in cells if day == 6)
+        self.does("over", worked, "Sun", "off")
+        history = (self.last() / "history-1.txt").read_text()
+        self.assertIn(" None ", next(line for line in history.splitlines() if line.startswith(worked)))
+        status, _, said = run("plan", self.ward, "ill", "Chen", "2026-12-01")
+        line = "Tue 1 Dec is in a week that is over: the plan goes on from Mon 7 Dec"
+        self.assertEqual((status, said), (1, f"inrc2pb-plan: {line}\n"))
+        self.assertIn("the period is over\n", self.does("over"))
+        status, _, said = run("plan", self.ward, "plan")
+        self.assertEqual((status, said.split(":")[1]), (1, " a period is over"))
+        later = [str(MONDAY + datetime.timedelta(days=14 + day)) for day in range(7)]
+        self.rows["plan"] = [["nurse", *later], *([row[0]] for row in self.rows["plan"][1:])]
+        self.write()
+        self.does("plan")
+        last = next(nurse for nurse, day in cells if day == 13)
+        past = next(line.split() for line in (self.last() / "history-0.txt").read_text().splitlines() if line.startswith(f"{last} "))
+        self.assertEqual((past[1:3], past[3]), (["0", "0"], cells[last, 13][0]))
+
+    def test_ctrl_c_leaves_a_whole_plan_or_none(self):
+        for seconds in (0.2, 0.6, 1.5):
+            command = [sys.executable, str(HELPERS / "inrc2pb-plan"), str(self.ward), "plan", "--time", "60"]
+            begun = subprocess.Popen(command, stdout=subprocess.DEVNULL, stderr=subprocess.DEVNULL)
+            time.sleep(seconds)
+            begun.send_signal(signal.SIGINT)
+            begun.wait(timeout=60)
+            names = [path.name for path in (self.ward / "plans").glob("*") if path.name != "lock"] if (self.ward / "plans").exists() else []
+            self.assertFalse([name for name in names if not name[0] == "0"])
+            for path in (self.ward / "plans").glob("0*"):
+                self.assertTrue((path / "roster-1.txt").exists() and (path / "plan.txt").exists())
+
+
+class Refused(FolderTest):
+    def assert_refused(self, says, *words, status=1):
+        ran = run("plan", *words)
+        self.assertEqual((ran[0], ran[1], ran[2].count("\n")), (status, "", 1), ran)
+        self.assertIn(says, ran[2])
+
+    def test_the_ward_in_sentences(self):
+        printed = self.does("check")
+        self.assertIn("After Late, the next day no Day.\n", printed)
+        self.assertIn("Chen would rather be off on Sat.\n", printed)
+        self.assertFalse((self.ward / "plans").exists())
+
+    def test_wrong_verbs_and_options(self):
+        for says, *words in (
+            ("'plna' is no verb: did you mean plan?", "plna"),
+            ("'Chen' is a word too many: page has none", "page", "Chen"),
+            ("--do is for swap: leave it out", "plan", "--do"),
+            ("--free is for plan: leave it out", "page", "--free"),
+            ("--time has to be a number of seconds above 0", "plan", "--time", "0"),
+            ("has no plan yet: type inrc2pb-plan FOLDER plan", "swap", "Chen", "Fri"),
+            ("has no plan yet", "page"),
+            ("there is nothing to undo", "undo"),
+            ("'soon' is no day: ", "plan", "soon"),
+        ):
+            with self.subTest(words):
+                self.assert_refused(says, self.ward, *words)
+                self.assertFalse(list((self.ward / "plans").glob("0*")))
+
+    def test_times_of_some_shifts_only(self):
+        for row, times in zip(self.rows["shifts"], ("times", "7:00-15:30", "", "22:30-25:00")):
+            row.append(times)
+        self.write()
+        status, _, said = run("plan", self.ward, "check")
+        self.assertEqual(status, 1)
+        self.assertRegex(said, "row 3, column E: Late: '' has no times: .*\n.*row 4, column E: Night: 25:00 is no time of a day")
+
+    def test_folders_that_are_no_ward(self):
+        empty, missing = self.folder / "empty", self.folder / "missing"
+        empty.mkdir()
+        self.assert_refused(f"{empty} has no spreadsheet: put the ward's .ods or .xlsx file into it", empty, "plan")
+        self.assert_refused(f"{missing} is no folder: give the folder that has the ward's spreadsheet", missing, "plan")
+        for name in ("one.ods", "two.xlsx"):
+            (self.ward / name).touch()
+        self.assert_refused("has several spreadsheets, one.ods, two.xlsx: leave one of them in it", self.ward, "plan")
+        self.assertEqual(list(empty.iterdir()), [])
+
+    def test_no_program(self):
+        ran = run("plan", self.ward, "plan", environment={"INRC2PB": "/none"})
+        self.assertEqual((ran[0], ran[2].count("\n")), (127, 1))
+        self.assertFalse((self.ward / "plans").exists())
+
+    def test_a_folder_that_cannot_be_written(self):
+        (self.ward / "plans").write_text("")
+        self.assert_refused("plans", self.ward, "plan", status=3)
+
+    def test_a_second_run_waits(self):
+        (self.ward / "plans").mkdir()
+        with open(self.ward / "plans" / "lock", "w") as lock, tempfile.TemporaryFile("w+") as said:
+            fcntl.flock(lock, fcntl.LOCK_EX)
+            command = [sys.executable, str(HELPERS / "inrc2pb-plan"), str(self.ward), "undo"]
+            second = subprocess.Popen(command, stderr=said, env=dict(os.environ))
+            self.addCleanup(second.kill)
+            line = f"another run works in {self.ward}: this one waits for its end, Ctrl-C ends it\n"
+            limit = time.monotonic() + 30
+            while time.monotonic() < limit and os.fstat(said.fileno()).st_size < len(line.encode()):
+                time.sleep(0.05)
+            self.assertIsNone(second.poll())
+            fcntl.flock(lock, fcntl.LOCK_UN)
+            self.assertEqual(second.wait(timeout=30), 1)
+            said.seek(0)
+            self.assertTrue(said.read().startswith(line))
+
+
+if __name__ == "__main__":
+    unittest.main()

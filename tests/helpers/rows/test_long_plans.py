@@ -1,0 +1,211 @@
+"""Tests of plans of several weeks: costs, bounds and cheapest rows, beside inrc2pb.rules and random rows."""
+
+import random
+import shutil
+import subprocess
+import sys
+import threading
+import unittest
+from unittest import mock
+
+from ward import HAS_CBC, HELPERS, ROOT, THIRTY_FILES, HelperTest, files, records
+
+from inrc2pb.programs.clock import Clock, TimeIsOver
+from inrc2pb.rows.first_rows import matched_rows
+from inrc2pb.solvers.answers import SolverFault
+from inrc2pb.solvers.linear_solvers import LinearSolvers
+from inrc2pb.judging.next_history import next_history
+from inrc2pb.rows.plan import POINT, WEEK_DAYS, Plan
+from inrc2pb.rows.pricing import Crews, Pricing
+from inrc2pb.programs.processes import Processes
+from inrc2pb.rows.row_parts import RowParts
+from inrc2pb.rows.row_search import RowSearch
+from inrc2pb.judging.rules import costs, first_broken, nurse_costs
+from inrc2pb.rows.skills import staffed
+
+MONTH = ROOT / "examples" / "month"
+TESTS = ROOT / "tests" / "helpers"
+SCENARIO = files.read_scenario(MONTH / "ward.txt")
+HISTORY = files.read_history(MONTH / "history-0.txt", SCENARIO)
+WEEKS = [files.read_week(MONTH / f"week-{number}.txt", SCENARIO) for number in range(4)]
+
+# Prints whether NumPy finds the rows that plain Python finds, for the prices of some nurses.
+BY_NUMPY = """
+import random, sys
+sys.path[:0] = sys.argv[1:]
+import test_long_plans as tests
+from inrc2pb.rows import row_graph
+pricing = tests.month(4)
+assert all(graph.arrays for graph in pricing.graphs)
+found = tests.cheapest(pricing)
+gains = pricing.crews.gains(tests.random_prices(pricing, 5))
+together = pricing.cheapest_of(range(30), gains)
+row_graph.numpy = None
+plain = tests.month(4)
+assert not any(graph.arrays for graph in plain.graphs)
+print(found == together == tests.cheapest(plain) == plain.cheapest_of(range(30), gains))
+"""
+
+
+def month(count):
+    """The pricing of the month's first weeks."""
+    plan = Plan.of(SCENARIO, HISTORY, WEEKS[:count])
+    return Pricing(plan, Crews(plan), lambda: None)
+
+
+def random_prices(pricing, seed):
+    chance = random.Random(seed)
+    return [chance.choice((0, 0, 7_123, 30_000)) for _ in pricing.crews.places]
+
+
+def cheapest(pricing):
+    """The cheapest rows at random prices."""
+    gains = pricing.crews.gains(random_prices(pricing, 5))
+    return [pricing.cheapest(nurse, gains) for nurse in range(len(pricing.plan.nurses))]
+
+
+def random_row(pricing, nurse, chance):
+    """A row that no hard rule forbids, with runs of random lengths."""
+    names = list(SCENARIO.shift_types)
+    forbidden = [()] + [[names.index(name) + 1 for name in SCENARIO.shift_types[shift].forbidden_next] for shift in names]
+    last = HISTORY.nurses[pricing.plan.nurses[nurse]].last_shift
+    row = [0 if last is None else names.index(last) + 1]
+    while len(row) <= pricing.plan.days:
+        choice = row[-1] if chance.random() < 0.6 else chance.randrange(len(names) + 1)
+        if choice not in forbidden[row[-1]]:
+            row.append(choice)
+    return bytes(row[1:])
+
+
+def costs_by_rules(rows):
+    """What the nurses pay for these rows week by week, by inrc2pb.rules."""
+    names, history, paid = list(SCENARIO.shift_types), HISTORY, dict.fromkeys(SCENARIO.nurses, 0)
+    for number, data in enumerate(WEEKS):
+        cells = [
+            records.Cell(nurse, day, names[row[WEEK_DAYS * number + day] - 1], SCENARIO.nurses[nurse].skills[0])
+            for nurse, row in zip(SCENARIO.nurses, rows)
+            for day in range(WEEK_DAYS)
+            if row[WEEK_DAYS * number + day]
+        ]
+        for nurse, by_rule in nurse_costs(records.Week(SCENARIO, history, data), cells).items():
+            paid[nurse] += sum(by_rule.values())
+        history = next_history(SCENARIO, history, cells) if number < 3 else history
+    return list(paid.values())
+
+
+class FourWeeks(unittest.TestCase):
+    @classmethod
+    def setUpClass(cls):
+        cls.pricing = month(4)
+        cls.nurses = range(len(cls.pricing.plan.nurses))
+
+    def test_rows_cost_the_sum_of_their_weeks(self):
+        chance = random.Random(1)
+        for _ in range(5):
+            rows = [random_row(self.pricing, nurse, chance) for nurse in self.nurses]
+            self.assertEqual([self.pricing.cost(nurse, row) for nurse, row in enumerate(rows)], costs_by_rules(rows))
+
+    def test_no_row_costs_less_than_the_cheapest(self):
+        chance, prices = random.Random(2), random_prices(self.pricing, 5)
+        gains, crews = self.pricing.crews.gains(prices), self.pricing.crews.of
+        for nurse, found in enumerate(cheapest(self.pricing)):
+            self.assertEqual(found.cost, self.pricing.cost(nurse, found.row))
+            for row in (found.row, *(random_row(self.pricing, nurse, chance) for _ in range(20))):
+                earned = sum(gains[crews[nurse][day][choice]] for day, choice in enumerate(row))
+                self.assertLessEqual(found.value, POINT * self.pricing.cost(nurse, row) - earned)
+
+    def test_numpy_finds_the_same_rows(self):
+        for python in (sys.executable, "/usr/bin/python3"):
+            if shutil.which(python) and subprocess.run([python, "-c", "import numpy"], stderr=subprocess.DEVNULL).returncode == 0:
+                ran = subprocess.run([python, "-c", BY_NUMPY, *map(str, (HELPERS, TESTS, TESTS / "rows"))], stdout=subprocess.PIPE, check=True)
+                self.assertEqual(ran.stdout, b"True\n")
+                return
+        self.skipTest("needs NumPy")
+
+
+@unittest.skipUnless(HAS_CBC, "needs cbc")
+class Parts(HelperTest):
+    def test_two_threads_find_the_best_roster(self):
+        week = files.read_files(THIRTY_FILES.scenario, THIRTY_FILES.history, THIRTY_FILES.week)
+        plan = Plan.of(week.scenario, week.history, [week.data])
+        solver = LinearSolvers(["cbc"], Processes(), self.folder, self.fail, resident=True)
+        self.addCleanup(solver.close)
+        kept = []
+
+        def offer(rows, finder):
+            cells = staffed(plan, search.pricing.crews, rows).cells
+            self.assertIsNone(first_broken(week, cells))
+            kept.append(sum(costs(week, cells).values()))
+            return kept[-1]
+
+        search = RowSearch(Pricing(plan, Crews(plan), lambda: None), solver, Clock(60), offer, lambda: None)
+        search.begin(matched_rows(plan, search.pricing.crews, lambda: None), None)
+        search.generate(search.clock)
+        RowParts(search, [solver, solver.beside(1)]).run(search.clock)
+        # docs/solvers.md has this penalty as the best.
+        self.assertEqual((search.penalty, search.lower_bound), (605, 605))
+        self.assertEqual(kept, sorted(set(kept), reverse=True))
+
+    def test_a_proof_ends_the_other_threads(self):
+        week = files.read_files(THIRTY_FILES.scenario, THIRTY_FILES.history, THIRTY_FILES.week)
+        plan = Plan.of(week.scenario, week.history, [week.data])
+        solver = LinearSolvers(["cbc"], Processes(), self.folder, self.fail)
+        search = RowSearch(Pricing(plan, Crews(plan), lambda: None), solver, Clock(60), lambda rows, finder: search.value_of(rows), lambda: None)
+        search.begin(matched_rows(plan, search.pricing.crews, lambda: None), None)
+        parts = RowParts(search, [solver, solver.beside(1)])
+
+        def improve(part, solver, clock):
+            if solver is parts._solvers[1]:
+                words = ["sh", "-c", "echo ready; exec sleep 60"]
+                ended.append(solver._processes.run(words, 60, self.folder, hear=lambda data: ready.set()).status)
+            ready.wait()
+            search.bound, search.penalty = 0, 0
+            return True, 0
+
+        ended, ready = [], threading.Event()
+        with mock.patch.object(parts, "improve", improve):
+            parts.run(search.clock)
+        self.assertEqual(ended, [-9])
+
+    def test_without_a_solver_that_fails_the_others_go_on(self):
+        plan, warnings = Plan.of(SCENARIO, HISTORY, WEEKS[:1]), []
+        solver = LinearSolvers(["cbc"], Processes(), self.folder, warnings.append)
+        search = RowSearch(Pricing(plan, Crews(plan), lambda: None), solver, Clock(60), lambda rows, finder: search.value_of(rows), lambda: None)
+        search.begin(matched_rows(plan, search.pricing.crews, lambda: None), None)
+        parts, failed = RowParts(search, [solver, solver.beside(1)]), threading.Event()
+
+        def improve(part, used, clock):
+            if used is solver:
+                failed.set()
+                raise SolverFault("cbc wrote an empty answer")
+            failed.wait()
+            while not warnings:
+                clock.check()
+            search.bound, search.penalty = 0, 0
+            return True, 0
+
+        with mock.patch.object(parts, "improve", improve):
+            parts.run(search.clock)
+        self.assertEqual(warnings, ["cbc wrote an empty answer: the search goes on with 1 of 2 threads"])
+
+        def fails(part, used, clock):
+            raise SolverFault("cbc wrote an empty answer")
+
+        search.bound, search.penalty = None, 10_000
+        with mock.patch.object(parts, "improve", fails), self.assertRaises(SolverFault):
+            parts.run(search.clock)
+
+    def test_parts_that_the_time_does_not_end_get_smaller(self):
+        plan = Plan.of(SCENARIO, HISTORY, WEEKS[:1])
+        solver = LinearSolvers(["cbc"], Processes(), self.folder, self.fail)
+        for ended, grows in ((True, True), (False, False)):
+            search = RowSearch(Pricing(plan, Crews(plan), lambda: None), solver, Clock(60), lambda rows, finder: search.value_of(rows), lambda: None)
+            search.begin(matched_rows(plan, search.pricing.crews, lambda: None), None)
+            parts = RowParts(search, [solver])
+            first = parts._sizes[7]
+            with mock.patch.object(RowParts, "improve", return_value=(ended, 1000)), self.assertRaises(TimeIsOver):
+                parts.run(Clock(1.0))
+            self.assertEqual(parts._sizes[7] > first, grows)
+
+if __name__ == "__main__":
+    unittest.main()

@@ -1,0 +1,127 @@
+"""Tests of the neighborhoods of a search over rows: their days, their rows, and which one comes next."""
+
+import itertools
+import random
+import unittest
+
+from ward import ROOT, files
+
+from inrc2pb.programs.clock import Clock
+from inrc2pb.rows.first_rows import matched_rows
+from inrc2pb.rows.plan import POINT, Plan
+from inrc2pb.rows.pricing import Crews, Pricing
+from inrc2pb.rows.row_parts import Part, RowParts, _with
+from inrc2pb.rows.row_search import RowSearch
+
+MONTH = ROOT / "examples" / "month"
+SCENARIO = files.read_scenario(MONTH / "ward.txt")
+HISTORY = files.read_history(MONTH / "history-0.txt", SCENARIO)
+WEEKS = [files.read_week(MONTH / f"week-{number}.txt", SCENARIO) for number in range(2)]
+CHOICES = range(len(SCENARIO.shift_types) + 1)
+OFF, EARLY = (bytes([choice] * 7) for choice in (0, 1))
+
+
+def search_of(weeks):
+    """A search over the rows of the first weeks of the month, with a first roster, and without a solver."""
+    plan = Plan.of(SCENARIO, HISTORY, WEEKS[:weeks])
+    search = RowSearch(Pricing(plan, Crews(plan), lambda: None), None, Clock(60), lambda rows, _finder: search.value_of(rows), lambda: None)
+    search.begin(matched_rows(plan, search.pricing.crews, lambda: None), None)
+    return search
+
+
+class DaysOfParts(unittest.TestCase):
+    def test_rows_change_on_the_days_of_a_part_only(self):
+        rows = [b"\1\1\1", b"\2\2\2", b"\0\0\0"]
+        self.assertEqual(_with(rows, Part((0, 2), range(1, 2)), [b"\3\3\3", b"\4\4\4"]), [b"\1\3\1", b"\2\2\2", b"\0\4\0"])
+        self.assertEqual(_with(rows, Part((1,), range(3)), [b"\4\0\4"]), [b"\1\1\1", b"\4\0\4", b"\0\0\0"])
+
+    def test_the_cheapest_rows_on_two_days(self):
+        whole, chance = search_of(1), random.Random(3)
+        gains = whole.pricing.crews.gains([chance.choice((0, 7_123, 30_000)) for _ in whole.pricing.crews.places])
+        part = whole.pricing.on_days(range(4, 6), whole.rows)
+        for nurse, row in enumerate(whole.rows):
+            values = []
+            for two in itertools.product(CHOICES, repeat=2):
+                other = row[:4] + bytes(two) + row[6:]
+                cost, crews = whole.pricing.cost(nurse, other), whole.pricing.crews.of[nurse]
+                if cost is not None:
+                    values.append(POINT * cost - sum(gains[crews[day][choice]] for day, choice in enumerate(other)))
+            found = part.cheapest(nurse, gains)
+            self.assertEqual((found.value, found.row[:4], found.row[6:]), (min(values), row[:4], row[6:]))
+
+    def test_a_part_begins_with_the_cheapest_known_rows(self):
+        whole = search_of(1)
+        for row in (EARLY, OFF, bytes([2] * 7)):
+            whole.add_row(3, row)
+        costs = {row: whole.pricing.cost(3, row) for row in (EARLY, OFF, bytes([2] * 7), whole.rows[3])}
+        whole.prices = [0] * len(whole.prices)
+        known = whole.cheapest_known(2)
+        self.assertEqual([costs[row] for row in known[3]], sorted(costs.values())[:2])
+        self.assertEqual(known[4], [whole.rows[4]])
+
+    def test_a_choice_that_must_change(self):
+        whole = search_of(1)
+        part = whole.pricing.on_days(range(2, 5), whole.rows)
+        part.forbid(6, 3, whole.rows[6][3])
+        gains = whole.pricing.crews.gains(whole.prices)
+        self.assertNotEqual(part.cheapest(6, gains).row[3], whole.rows[6][3])
+        self.assertEqual(part.cheapest(6, gains), part.cheapest_of(range(30), gains)[6])
+        self.assertEqual(whole.pricing.cost(6, whole.rows[6]) is None, False)
+
+    def test_rows_of_the_same_cost(self):
+        whole = search_of(1)
+        rows, whole.rows = whole.rows, [OFF] * 30
+        whole.penalty = whole.value_of(rows)
+        self.assertTrue(whole.swap(rows))
+        self.assertEqual(whole.rows, rows)
+        self.assertFalse(whole.swap(list(rows)))
+        whole.penalty += 5
+        self.assertFalse(whole.swap([OFF] * 30))
+
+    def test_the_demand_of_a_part(self):
+        parts = RowParts(search_of(2), [])
+        asked = parts._search.plan.demand
+        of_all = parts._pricing(Part(tuple(range(30)), range(3, 8)), parts._search.rows).plan
+        self.assertEqual(of_all.demand, {place: asked[place] for place in asked if 3 <= place.day < 8})
+        of_one = parts._pricing(Part((4,), range(3, 8)), parts._search.rows).plan
+        self.assertEqual(of_one.nurses, tuple(SCENARIO.nurses)[4:5])
+        self.assertTrue(all(3 <= place.day < 8 and left.optimal <= asked[place].optimal for place, left in of_one.demand.items()))
+
+
+class NextParts(unittest.TestCase):
+    def test_days_of_all_nurses_come_once_until_there_is_a_better_roster(self):
+        parts = RowParts(search_of(2), [])
+        # 0.35, 0.5 and 0.75 of 14 days, rounded up, and all of them.
+        self.assertEqual(list(parts._sizes), [5, 7, 11, 14])
+        parts._sizes = dict.fromkeys(parts._sizes, 30)
+        seen = []
+        # There are 10, 8, 4 and 1 of these lengths.
+        for _ in range(23):
+            part = parts._next()
+            self.assertEqual(part.nurses, tuple(range(30)))
+            seen.append(part.days)
+            parts._learn(part._replace(changed=()), True, 1000, False)
+        self.assertEqual(len(set(seen)), 23)
+        self.assertEqual({len(days) for days in seen[:4]}, {5, 7, 11, 14})
+        # The only one of 14 days has had less work than the others, and is open again.
+        parts._learn(part, True, 1000, True)
+        self.assertEqual(len(parts._next().days), 14)
+
+    def test_lengths_share_the_work(self):
+        parts = RowParts(search_of(1), [])
+        for days, work in ((3, 2000), (4, 5000), (6, 1000), (7, 3000)):
+            parts._learn(Part((0, 1), range(days)), True, work, False)
+        self.assertEqual(len(parts._next().days), 6)
+        parts._learn(Part((0, 1), range(6)), False, 1500, False)
+        self.assertEqual(len(parts._next().days), 3)
+
+    def test_sizes_follow_the_work(self):
+        parts = RowParts(search_of(1), [])
+        for ended, work, size in ((True, 1000, 23.0), (True, 5000, 20.0), (False, 10_000, 16.0)):
+            parts._sizes[7] = 20.0
+            parts._learn(Part((0, 1), range(7)), ended, work, False)
+            self.assertAlmostEqual(parts._sizes[7], size)
+
+
+if __name__ == "__main__":
+    unittest.main()

@@ -1,0 +1,203 @@
+"""Tests of the search over rows: proofs of the example weeks, weeks that no roster meets, and solvers that fail or lie."""
+
+import os
+import shutil
+import sys
+import time
+import unittest
+from pathlib import Path
+from unittest import mock
+
+from ward import HAS_CBC, ROOT, HelperTest, files, records
+
+from inrc2pb.rows import row_generation, row_program
+from inrc2pb.programs.clock import Clock, TimeIsOver
+from inrc2pb.solvers.answers import Chosen, SolverFault
+from inrc2pb.solvers.linear_solvers import LinearSolver, LinearSolvers
+from inrc2pb.rows.first_rows import matched_rows
+from inrc2pb.rows.plan import Plan
+from inrc2pb.rows.pricing import Crews, Pricing
+from inrc2pb.programs.processes import Processes
+from inrc2pb.rows.row_run import RowRun
+from inrc2pb.rows.row_search import RowSearch
+from inrc2pb.judging.rules import costs, first_broken
+from inrc2pb.rows.skills import staffed
+
+FAKE = Path(__file__).resolve().parents[1] / "fake_cbc.py"
+# The penalties that other solvers proved: docs/solvers.md.
+OPTIMA = {"n005w4": 320, "last12": 435, "thirty": 605}
+
+
+def week_of(name):
+    """An example week."""
+    folder = ROOT / "examples" / name
+    return files.read_files(folder / "ward.txt", min(folder.glob("history-*")), min(folder.glob("week-*")))
+
+
+class Says(LinearSolver):
+    """A solver with one answer to each integer program."""
+
+    name, chooses = "says", True
+
+    def __init__(self, names, proved):
+        self.answer = Chosen(names, proved)
+
+    def choose(self, model, clock, cutoff, step, nodes=0):
+        return self.answer
+
+
+class RowSearches(HelperTest):
+    def run_rows(self, week, names=("cbc",), seconds=300.0, held=(), early=False):
+        """A search over the rows of a week. `rules` judge each roster."""
+        self.plan = Plan.of(week.scenario, week.history, [week.data], early, held)
+        self.warnings, self.penalties = [], []
+        solver = LinearSolvers(list(names), Processes(), self.folder, self.warnings.append) if names else None
+
+        def offer(rows, _finder):
+            roster = staffed(self.plan, run.crews, rows).cells
+            if first_broken(week, roster, held):
+                return None
+            self.penalties.append(sum(costs(week, roster, early).values()))
+            return self.penalties[-1]
+
+        run = RowRun(self.plan, solver, Clock(seconds), offer, lambda: None)
+        try:
+            run.run()
+        except SolverFault as fault:
+            self.warnings.append(str(fault))
+        return run
+
+    @unittest.skipUnless(HAS_CBC, "needs cbc")
+    def test_known_optima_are_proved(self):
+        for name, optimum in OPTIMA.items():
+            with self.subTest(name):
+                search = self.run_rows(week_of(name)).search
+                self.assertEqual((search.penalty, search.lower_bound, search.is_proved), (optimum, optimum, True))
+
+    @unittest.skipUnless(HAS_CBC, "needs cbc")
+    def test_columns_that_were_dropped_come_back(self):
+        with mock.patch.multiple(row_generation, KEPT=2, MOST_USED=3, LEAST_USED=0):
+            search = self.run_rows(week_of("thirty")).search
+        self.assertEqual((search.penalty, search.lower_bound), (605, 605))
+
+    @unittest.skipUnless(shutil.which("glpsol"), "needs glpsol")
+    def test_glpsol_proves_too(self):
+        search = self.run_rows(week_of("last12"), ["glpsol"]).search
+        self.assertEqual((search.penalty, search.is_proved), (435, True))
+
+    @unittest.skipUnless(HAS_CBC, "needs cbc")
+    def test_held_rows_and_early_charges(self):
+        week = week_of("ward")
+        held = [records.Cell("Grace", 5, "Day", "Nurse")]
+        search = self.run_rows(week, held=held, early=True).search
+        self.assertTrue(search.is_proved)
+
+    @unittest.skipUnless(HAS_CBC, "needs cbc")
+    def test_prices_prove_that_no_roster_exists(self):
+        run = self.run_rows(week_of("eight"))
+        self.assertEqual((run.search.penalty, self.penalties), (None, []))
+        places, prices = run.minimums
+        self.assertEqual(len(places), len(prices))
+        # Two head nurses cannot be at three places on two days, with a rest after the night.
+        self.assertEqual({place.skill for place, price in zip(places, prices) if price}, {"HeadNurse"})
+
+    def test_contradictory_held_rows(self):
+        week = week_of("ward")
+        held = [records.Cell("Grace", 5, shift, "Nurse") for shift in ("Day", "Late")]
+        run = self.run_rows(week, held=held)
+        self.assertEqual((run.without_row, run.search.penalty), ("Grace", None))
+
+    def test_without_a_solver_there_is_a_first_roster(self):
+        search = self.run_rows(week_of("thirty"), ()).search
+        self.assertEqual((search.penalty, search.lower_bound), (min(self.penalties), None))
+        self.assertLess(search.penalty, 2000)
+
+    def test_the_time_is_over(self):
+        for seconds in (0.0, 0.05, 0.3):
+            began = time.monotonic()
+            self.run_rows(week_of("thirty"), seconds=seconds)
+            self.assertLess(time.monotonic() - began, 60)
+
+    @unittest.skipUnless(HAS_CBC, "needs cbc")
+    def test_solvers_that_fail_or_lie(self):
+        week, cbc = week_of("last12"), shutil.which("cbc")
+        rows = {
+            "crash": "cbc wrote no answer and ended with status -11",
+            "empty": "cbc wrote an empty answer",
+            "cut": "the answer of cbc is cut",
+            "nan": "cbc wrote 'nan' for a number",
+            "unknown": "the answer has an unknown column v999999",
+            "hang": None, "wrong": None, "takes_none": None, "denies": None,
+        }  # fmt: skip
+        for how, fault in rows.items():
+            with self.subTest(how):
+                self.script("cbc", f'exec {sys.executable} {FAKE} {how} {cbc} "$@"\n')
+                with mock.patch.dict(os.environ, PATH=f"{self.folder}:{os.environ['PATH']}"):
+                    search = self.run_rows(week, seconds=120.0 if fault else 4.0).search
+                self.assertGreaterEqual(min(self.penalties), 435)
+                self.assertLessEqual(search.lower_bound or 0, 435)
+                self.assertEqual(len(self.warnings), int(fault is not None), self.warnings)
+                if fault:
+                    self.assertIn(fault, self.warnings[0])
+
+    @unittest.skipUnless(HAS_CBC, "needs cbc")
+    def test_a_program_begins_at_the_solution_of_the_last_one(self):
+        search = self.run_rows(week_of("last12")).search
+        solver, models = LinearSolvers(["cbc"], Processes(), self.folder, self.fail), []
+        used = range(len(search.program.columns))
+        for count in (len(used) - 10, len(used)):
+            models.append(search.program.text(used[:count]))
+        values = [solver.relax(model, Clock(60)).value for model in models]
+        self.assertEqual(solver.relax(models[0], Clock(60), True).value, values[0])
+        self.assertEqual(solver.relax(models[1], Clock(60), True).value, values[1])
+        basis = self.folder / "rows.bas"
+        for text in (basis.read_text()[:200], basis.read_text().replace(" v1", " x1"), "", "nonsense\n"):
+            basis.write_text(text)
+            self.assertEqual(solver.relax(models[1], Clock(60), True).value, values[1])
+
+    @unittest.skipUnless(HAS_CBC, "needs cbc")
+    def test_fixing_that_its_time_ends(self):
+        week = week_of("thirty")
+        plan = Plan.of(week.scenario, week.history, [week.data])
+        solver = LinearSolvers(["cbc"], Processes(), self.folder, self.fail, resident=True)
+        self.addCleanup(solver.close)
+        pricing = Pricing(plan, Crews(plan), lambda: None)
+        search = RowSearch(pricing, solver, Clock(60), lambda rows, finder: search.value_of(rows), lambda: None)
+        search.begin(matched_rows(plan, search.pricing.crews, lambda: None), None)
+        search.generate(search.clock)
+        before = search.penalty
+        with mock.patch.object(RowSearch, "_dive", side_effect=TimeIsOver):
+            self.assertIsNone(search.dive(Clock(60)))
+        self.assertLess(search.penalty, before)
+        cells = staffed(plan, search.pricing.crews, search.rows).cells
+        self.assertEqual((first_broken(week, cells), sum(costs(week, cells).values())), (None, search.penalty))
+
+    def chosen(self, names, proved):
+        """What a search makes of this answer to a program whose only rows are those of nurses who are always off."""
+        week = week_of("ward")
+        plan = Plan.of(week.scenario, week.history, [week.data])
+        search = RowSearch(Pricing(plan, Crews(plan), lambda: None), Says(names, proved), Clock(60), lambda rows, finder: None, lambda: None)
+        for nurse in range(len(plan.nurses)):
+            search.add_row(nurse, bytes(7))
+        return search.choose(range(len(search.program.columns)), Clock(60), "test")
+
+    def test_an_optimal_answer_below_minimums_claims_nothing(self):
+        off = [f"v{number}" for number in range(len(week_of("ward").scenario.nurses))]
+        for names, proved, claims in ((None, True, True), (None, False, False), (off, True, False), (off[1:], True, False), ([], True, False)):
+            self.assertEqual(self.chosen(names, proved), claims)
+
+    def test_a_program_with_some_places_of_each_row_claims_nothing(self):
+        with mock.patch.object(row_program, "MOST_LINKS", -1):
+            self.assertEqual(self.chosen(None, True), False)
+
+    @unittest.skipUnless(HAS_CBC and shutil.which("glpsol"), "needs cbc and glpsol")
+    def test_another_solver_goes_on(self):
+        self.script("cbc", "exit 3\n")
+        with mock.patch.dict(os.environ, PATH=f"{self.folder}:{os.environ['PATH']}"):
+            search = self.run_rows(week_of("last12"), ["cbc", "glpsol"]).search
+        self.assertTrue(search.is_proved)
+        self.assertEqual(self.warnings, ["cbc wrote no answer and ended with status 3: the search goes on with glpsol"])
+
+
+if __name__ == "__main__":
+    unittest.main()

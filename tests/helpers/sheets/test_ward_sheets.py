@@ -1,0 +1,384 @@
+"""Tests of `inrc2pb-ward`: the files that it makes of sheets, and wrong cells."""
+
+import copy
+import csv
+import io
+import os
+import unittest
+from pathlib import Path
+
+from example_sheets import DATA, SHEETS, changed, made, texts
+from ward import HelperTest, files, run
+
+from inrc2pb.commands import ward
+from inrc2pb.judging.absences import absences_of
+from inrc2pb.judging.given import with_given
+from inrc2pb.week.facts import Charged, Claim, read_facts
+from inrc2pb.week.faults import FileFault, FileFaults
+from inrc2pb.sheets.plan_sheets import read_days
+from inrc2pb.week.records import Absence, Place, Requirement
+from inrc2pb.sheets.sheet_files import Book
+
+NAMES = ["ward.txt", "history-0.txt", "facts.txt", "reasons.txt", "week-0.txt", "fix-0.txt", "week-1.txt", "fix-1.txt"]
+
+
+class Contents(unittest.TestCase):
+    def read(self, sheets, reasons=()):
+        found = texts(sheets, reasons)
+        scenario = files.read_scenario("ward.txt", found["ward.txt"])
+        claims = read_facts("g", scenario, text=found["facts.txt"])
+        return scenario, files.read_history("h", scenario, found["history-0.txt"]), [
+            with_given(scenario, files.read_week("w", scenario, found[f"week-{number}.txt"]), claims, number) for number in (0, 1)
+        ], [files.read_solution("f", scenario, found[f"fix-{number}.txt"]).cells for number in (0, 1)]
+
+    def test_the_example(self):
+        scenario, history, weeks, held = self.read(SHEETS)
+        self.assertEqual((scenario.name, scenario.weeks, scenario.skills, len(scenario.nurses)), ("ward", 2, ("Charge", "Nurse"), 8))
+        self.assertEqual(scenario.shift_types["Night"].forbidden_next, ("Day", "Late"))
+        self.assertEqual(scenario.contracts["Half"].complete_weekends, False)
+        self.assertEqual((history.nurses["Dilek"].last_shift, history.nurses["Dilek"].working_days), ("Night", 3))
+        place = Place(0, "Day", "Nurse")
+        self.assertEqual([week.requirements[place] for week in weeks], [Requirement(1, 2), Requirement(0, 1)])
+        always = {Absence("Finn", 2, None), *(Absence("Ewa", day, "Night") for day in range(7))}
+        self.assertEqual(absences_of(weeks[0]), always)
+        self.assertEqual(absences_of(weeks[1]), {*always, Absence("Amara_Koch", 0, None), Absence("Amara_Koch", 1, None)})
+        self.assertEqual([row.row() for row in held[1]], ["Grace Mon Day Nurse"])
+        self.assertEqual([(one.nurse, one.shift, one.day) for one in weeks[0].requests if one.nurse in ("Chen", "Grace")], [("Chen", None, 5), ("Grace", "Night", 1)])
+
+    def test_leave_counts_as_work_if_it_is_said(self):
+        # Full asks for 8 shifts in 14 days: two days are 1.1 shifts.
+        for reasons, shifts in (((), 0), (("ill",), 0), (("leave",), 2)):
+            self.assertEqual(self.read(SHEETS, reasons)[1].nurses["Amara_Koch"].assignments, shifts)
+
+    def test_empty_limits_are_none(self):
+        sheets = copy.deepcopy(SHEETS)
+        sheets["contracts"][1] = ["Full"]
+        contract = self.read(sheets)[0].contracts["Full"]
+        self.assertEqual((contract.assignments, contract.working_days, contract.max_weekends), ((0, 9999), (0, 9999), 9999))
+
+    def test_numbers_of_the_needs(self):
+        for text, wanted in (("", (0, 0)), ("-", (0, 0)), ("3", (3, 3)), ("2+1", (2, 3)), ("2..4", (2, 4)), ("(1,2)", (1, 2)), ("2,0", (2, 2)), ("2.0", (2, 2))):
+            if text != "2,0":
+                data = self.read(changed("needs", 2, 3, text))[2][0]
+                self.assertEqual(data.requirements[Place(0, "Day", "Charge")], Requirement(*wanted), text)
+
+    def test_wrong_cells(self):
+        for sheet, row, column, text, said in (
+            ("shifts", 1, 1, "min in row", "row 1, column B: 'min in row' is no column of this sheet: did you mean 'min in a row'?"),
+            ("shifts", 1, 0, "type", "no row has the head 'shift': write shift into the first row"),
+            ("shifts", 2, 0, "Any", "row 2, column A: 'Any' has a meaning of its own in the ward's files: use another name"),
+            ("shifts", 3, 0, "day", "row 3, column A: the shift type 'day' is there already: use another name"),
+            ("shifts", 2, 0, "", "row 2, column A: the cell is empty: write the name of the shift type, or delete the row"),
+            ("shifts", 2, 0, "D (long)", "row 2, column A: 'D (long)' has one of the signs ( ) , =: write the name without it"),
+            ("shifts", 3, 3, "Dya", "row 3, column D: 'Dya' is no shift type: did you mean Day?"),
+            ("shifts", 2, 1, "7", "row 2, column B: the minimum 7 is above the maximum 5: correct one of the two"),
+            ("contracts", 2, 1, "9.5", "row 2, column B: '9.5' is no whole number: shifts are counted, not hours"),
+            ("contracts", 2, 1, "O", "row 2, column B: 'O' is no whole number: write the digit 0"),
+            ("contracts", 2, 8, "maybe", "row 2, column I: 'maybe' is neither yes nor no: write yes or no"),
+            ("nurses", 2, 1, "Ful", "row 2, column B: 'Ful' is no contract: did you mean Full?"),
+            ("nurses", 2, 2, "", "row 2, column C: the cell is empty: write the nurse's skills, such as Charge, Nurse"),
+            ("nurses", 3, 0, "Amara Koch", "row 3, column A: the nurse 'Amara Koch' is there already: use another name"),
+            ("nurses", 1, 4, "off days", "row 1, column E: 'off days' is no column of this sheet: did you mean 'always off'?"),
+            ("nurses", 1, 3, "nights", "row 1, column D: 'nights' is no column of this sheet: delete it, or begin its head with #"),
+            ("nurses", 2, 2, "Charge Nurse", "row 2, column C: 'Charge Nurse' is no skill of the sheet needs, and has several in it: write commas between skills"),
+            ("nurses", 2, 2, "charge+Nurse", "row 2, column C: 'charge+Nurse' is no skill of the sheet needs, and has several in it: write commas between skills"),
+            ("nurses", 2, 2, "Nurse, Chrage", "row 2, column C: no row of the sheet needs has the skill 'Chrage': write Charge if you mean it, else add a row for it"),
+            *(("nurses", 2, 4, text, f"row 2, column E: '{text}' is no day of the week: write days with commas between, such as Mon, Tue")
+              for text in ("W", "Monday and Tue", "Mon Tue", "Mon-Wed", "Mon+Tue", "Sunrise")),
+            ("needs", 1, 3, "Mo", "row 1, column D: 'Mo' is no column of this sheet: did you mean 'mon'?"),
+            ("needs", 2, 3, "46083", "row 2, column D: 46083 is more than 9999: a spreadsheet makes such a number of 2-3 or 2/3, so write 2+1 for 2 at least and better 3"),
+            *(("needs", 2, 3, text, f"row 2, column D: '{text}' is no whole number: write one, or {pair}")
+              for text, pair in (
+                  ("2-3", "2+1 for 2 at least and better 3"), ("1 \u2013 4", "1+3 for 1 at least and better 4"), ("0/2", "0+2 for 0 at least and better 2"),
+                  *((text, "2+1 for 2 at least and better 3") for text in ("4-4", "3-2", "2026-03-02", "02.03.2026", "3-Feb", "2.5", "two")),
+              )),
+            ("contracts", 2, 3, "3-5", "row 2, column D: '3-5' is no whole number: write one"),
+            ("contracts", 2, 3, "46145", "row 2, column D: 46145 is more than 9999: a spreadsheet makes such a number of 2-3 or 2/3, so write one number"),
+            ("needs", 2, 3, "3..2", "row 2, column D: at least 3 are needed, and 2 are best: write the smaller number first"),
+            ("needs", 2, 2, "Char", "row 2, column C: 'Char' is no skill of the sheet nurses: did you mean Charge?"),
+            ("needs", 4, 1, "Day", "row 4, column B: Day Nurse has a row already: delete one, or write its week"),
+            ("needs", 2, 0, "2", "row 2, column A: 2 is more than 1: weeks are counted from 0, so write 1 for the last one"),
+            ("plan", 2, 0, "Amara", "row 2, column A: 'Amara' is no nurse of the sheet nurses: did you mean Amara Koch?"),
+            ("plan", 3, 0, "Amara Koch", "row 3, column A: Amara Koch has a row already: put everything into one row"),
+            ("plan", 2, 1, "Dya", "row 2, column B: 'Dya' is no shift type: did you mean Day?"),
+            ("plan", 2, 1, "trainin", "row 2, column B: 'trainin' is no shift type: did you mean training?"),
+            ("plan", 2, 1, "Xyz", "row 2, column B: 'Xyz' is no shift type: write one of Day, Late, Night, wish, away, ill, leave, unpaid, training, no Day"),
+            ("plan", 2, 1, "Day", "row 2, column B: Amara Koch has more than one skill for it: write Day/Charge, for example"),
+            ("plan", 4, 1, "Day/Charge", "row 4, column B: 'Charge' is no skill of Chen: write one of Nurse"),
+            ("plan", 4, 1, "Day", "row 4, column B: Chen may not work Day on the day after Late: change one of the two"),
+            ("plan", 6, 3, "Night/Nurse", "row 6, column D: Ewa never works this shift or is always off on this day, by the sheet nurses: change one of the two"),
+            ("plan", 1, 14, "", "it has 13 days: plan whole weeks, from Monday to Sunday"),
+            ("plan", 1, 13, "", "row 1, column O: the column before this one is no day: delete it, or move it after the last day"),
+            ("plan", 1, 13, "# Sat", "row 1, column O: the column before this one is no day: delete it, or move it after the last day"),
+            ("plan", 1, 1, "Sun 0", "row 1, column B: 'Sun 0' should be a Mon: the plan begins on a Monday, and has each day once"),
+            ("plan", 1, 1, "2026-12-01", "row 1, column B: '2026-12-01' should be a Mon: the plan begins on a Monday, and has each day once"),
+            ("plan", 1, 1, "2026-02-30", "row 1, column B: there is no day 2026-02-30: write a date such as 2026-11-30"),
+            ("plan", 1, 1, "30.11.", "row 1, column B: '30.11.' is no day of the week: write one of Mon,Tue,Wed,Thu,Fri,Sat,Sun, or whole dates such as 2026-11-30, or begin the head with #"),
+            *(("plan", 1, 1, text, f"row 1, column B: '{text}' may have the day or the month first: write {dates}")
+              for text, dates in (("30/11/2026", "2026-11-30"), ("11-30-2026", "2026-11-30"), ("1/12/2026", "2026-12-01 or 2026-01-12"))),
+            ("plan", 1, 1, "1900-01-29",
+             "row 1, column B: a spreadsheet makes 1900-01-29 of the number of a day: write whole dates, such as 2026-11-30"),
+            ("contracts", 2, 2, "1,000", "row 2, column C: '1,000' is no whole number: write 1 or 1000"),
+            ("needs", 2, 0, "25.12.2026", "row 2, column A: '25.12.2026' is a date: write the number, its week from 0"),
+            *(("contracts", 2, 2, text, f"row 2, column C: '{text}' is no whole number: write one, or leave the cell empty") for text in ("-", "n/a")),
+            ("contracts", 2, 2, "0",
+             "row 2, column B: the minimum 8 is above the maximum 0: correct one of the two; for no limit leave the cell empty"),
+            ("nurses", 2, 1, "", "row 2, column B: the cell is empty: write a contract, or delete the row"),
+            ("plan", 1, 15, "Total", "row 1, column P: 'Total' is no day of the week: write one of Mon,Tue,Wed,Thu,Fri,Sat,Sun, or begin the head with #"),
+            ("plan", 1, 2, "2026-12-01", "row 1, column C: '2026-12-01' has a date, unlike the first day: write dates for all days or for none"),
+        ):
+            with self.subTest(sheet=sheet, row=row, text=text), self.assertRaises(FileFault) as caught:
+                texts(changed(sheet, row, column, text))
+            where = f"sheet {sheet}" + (", " if said.startswith("row") else ": ")
+            self.assertEqual(str(caught.exception), f"ward.ods: {where}{said}")
+
+    def test_sheets_and_columns_that_are_missing(self):
+        sheets = {name: rows for name, rows in SHEETS.items() if name != "needs"}
+        with self.assertRaises(FileFault) as caught:
+            texts(sheets)
+        self.assertEqual(caught.exception.message, "there is no sheet 'needs': it has shifts, contracts, nurses, plan; --template writes an example")
+        for sheet, column, name in (("nurses", 2, "skills"), ("needs", 9, "sun")):
+            with self.assertRaises(FileFault) as caught:
+                texts(changed(sheet, 1, column, ""))
+            self.assertEqual(caught.exception.message, f"sheet {sheet}, row 1: there is no column '{name}': add it")
+        for sheet, kind, most in (("shifts", "shift types", 16), ("contracts", "contracts", 64)):
+            with self.assertRaises(FileFault) as caught:
+                texts({**SHEETS, sheet: SHEETS[sheet][:1] + [[f"n{number}"] for number in range(most + 1)]})
+            self.assertEqual(caught.exception.message, f"sheet {sheet}: it has {most + 1} {kind}, and a ward has 1 to {most}: correct the rows")
+
+    def test_cells_without_a_head(self):
+        for sheet, row, column, place in (
+            ("plan", 3, 15, "row 3, column P"), ("plan", 4, 6, "row 4, column G"), ("shifts", 3, 3, "row 3, column D"),
+            ("contracts", 2, 8, "row 2, column I"), ("nurses", 9, 12, "row 9, column M"), ("needs", 6, 0, "row 6, column A"),
+        ):
+            sheets = changed(sheet, row, column, "Late")
+            sheets[sheet][0][column : column + 1] = [" "]
+            with self.subTest(place), self.assertRaises(FileFault) as caught:
+                texts(sheets)
+            said = "'Late' has no head above it: write one into row 1, or # to leave the column out"
+            self.assertEqual(caught.exception.message, f"sheet {sheet}, {place}: {said}")
+
+    def test_the_first_cell_of_each_column_without_a_head_is_reported(self):
+        sheets = changed("plan", 5, 17, "x")
+        for row, column in ((3, 16), (6, 16), (7, 17)):
+            sheets["plan"][row - 1] += [""] * (column + 1 - len(sheets["plan"][row - 1]))
+            sheets["plan"][row - 1][column] = "Late"
+        with self.assertRaises(FileFaults) as caught:
+            texts(sheets)
+        self.assertEqual([one.message.split(" has")[0] for one in caught.exception.faults], ["sheet plan, row 3, column Q: 'Late'", "sheet plan, row 5, column R: 'x'"])
+        sheets["plan"][0] += ["", "# late", "Note"]
+        self.assertEqual(texts(sheets), texts(SHEETS))
+
+    def test_all_mistakes_of_a_sheet_are_reported(self):
+        for sheet, cells, places in (
+            ("shifts", ((2, 3, "Dya"), (3, 1, "9")), ("row 2, column D", "row 3, column B")),
+            ("contracts", ((2, 1, "9.5"), (3, 8, "maybe")), ("row 2, column B", "row 3, column I")),
+            ("nurses", ((1, 3, "nevr"), (1, 4, "off days")), ("row 1, column D", "row 1, column E")),
+            ("nurses", ((2, 4, "Mon-Wed"), (3, 2, "Charge Nurse"), (4, 1, "Ful")), ("row 2, column E", "row 3, column C", "row 4, column B")),
+            ("needs", ((2, 3, "x"), (3, 1, "Dya")), ("row 2, column D", "row 3, column B")),
+            ("plan", ((2, 1, "Dya"), (2, 3, "trainin"), (3, 0, "Brno")), ("row 3, column A", "row 2, column B", "row 2, column D")),
+        ):
+            sheets = copy.deepcopy(SHEETS)
+            for row, column, text in cells:
+                sheets[sheet][row - 1][column] = text
+            with self.subTest(sheet), self.assertRaises(FileFaults) as caught:
+                texts(sheets)
+            self.assertEqual([one.message.split(": ")[0] for one in caught.exception.faults], [f"sheet {sheet}, {place}" for place in places])
+
+    def test_days_on_which_a_nurse_is_always_off(self):
+        for text in ("Mon,Tue", "monday, TUESDAY", "Mon; Tuesday", "Mon / Tue"):
+            absences = absences_of(self.read(changed("nurses", 9, 4, text))[2][0])
+            self.assertEqual({one.day for one in absences if one.nurse == "Hana"}, {0, 1}, text)
+
+    def test_skills(self):
+        # A skill with a blank, one of two skills with a blank between, and one that nobody needs.
+        sheets = changed("needs", 2, 2, "Charge Nurse")
+        for row in (2, 3, 6, 9):
+            sheets["nurses"][row - 1][2] = "Charge Nurse, Nurse"
+        self.assertEqual(self.read(sheets)[0].skills, ("Charge_Nurse", "Nurse"))
+        sheets["nurses"][1][2] = "Nurse Charge Nurse"
+        with self.assertRaises(FileFault) as caught:
+            texts(sheets)
+        self.assertIn("row 2, column C: 'Nurse Charge Nurse' is no skill", caught.exception.message)
+        book = Book(Path("ward.ods"), changed("nurses", 2, 2, "Charge, Nurse, Wound care"))
+        found = ward.ward_files(book, "ward", read_days(book), 2, ())
+        self.assertIn("sheet nurses: no row of the sheet needs has the skill Wound_care", found.warnings)
+
+    def test_more_absences_than_a_file_has_rows(self):
+        sheets = copy.deepcopy(SHEETS)
+        for number in range(300):
+            sheets["nurses"].append([f"n{number}", "Full", "Nurse", "Day"])
+        self.assertIn("week-0.txt", texts(sheets))
+        for row in sheets["nurses"][9:]:
+            row[3] = "Day, Late"
+        sheets["nurses"] += [[f"m{number}", "Full", "Nurse", "Day"] for number in range(150)]
+        with self.assertRaises(FileFault) as caught:
+            texts(sheets)
+        # 300 nurses with 28 absences, 150 with 14, Ewa with 14, Finn with 2, and 2 days of leave.
+        self.assertIn("they have 10518 days away, and a file 9999 facts at most", caught.exception.message)
+
+    def test_absences_as_requests(self):
+        found = made(SHEETS, requests=True).texts
+        scenario = files.read_scenario("ward.txt", found["ward.txt"])
+        # Ewa never works Night, and Finn is off on Wednesdays: 8 absences with 200 requests, beside 5 wishes.
+        data = files.read_week("w", scenario, found["week-0.txt"])
+        self.assertEqual((len(data.requests), len(absences_of(data))), (1605, 8))
+        self.assertEqual(len(files.read_week("w", scenario, texts(SHEETS)["week-0.txt"]).requests), 5)
+
+    def test_limits_that_hold(self):
+        def limits(sheets):
+            found = texts(sheets)
+            scenario = files.read_scenario("ward.txt", found["ward.txt"])
+            return scenario, {claim for claim in read_facts("g", scenario, text=found["facts.txt"]) if isinstance(claim.fact, Charged)}
+
+        sheets = changed("contracts", 3, 2, "6!")
+        scenario, found = limits(sheets)
+        self.assertEqual((scenario.contracts["Half"].assignments.maximum, found), (6, {Claim(Charged("SHIFTS", nurse, 0)) for nurse in ("Ewa", "Finn")}))
+        # A default for all contracts, and an empty cell.
+        sheets["contracts"][0] = [head.replace("weekends", "Weekends !", head == "weekends") for head in sheets["contracts"][0]]
+        sheets["contracts"][1][7] = ""
+        self.assertEqual(limits(sheets)[1] - found, {Claim(Charged("WEEKENDS", nurse, 0)) for nurse in ("Ewa", "Finn")})
+        # Finn has worked more shifts than his contract allows before the plan.
+        sheets["nurses"][6][5] = "9"
+        self.assertIn(Claim(Charged("SHIFTS", "Finn", 3)), limits(sheets)[1])
+        for row, column, text, said in (
+            (2, 2, "!", "row 2, column C: there is no number before the sign !: write one, such as 10!"),
+            (2, 1, "8!", "row 2, column B: '8!' is no whole number: the sign ! is for shifts max, work max and weekends"),
+            (1, 5, "off min!", "row 1, column F: the sign ! is for shifts max, work max, weekends: delete it here"),
+        ):
+            with self.assertRaises(FileFault) as caught:
+                texts(changed("contracts", row, column, text))
+            self.assertEqual(caught.exception.message, f"sheet contracts, {said}")
+
+    def test_reasons_of_absences(self):
+        self.assertEqual(texts(SHEETS)["reasons.txt"], "REASONS\nward\n\nROWS = 2\n2 Amara_Koch Mon leave\n2 Amara_Koch Tue leave\n")
+        self.assertIn("HOLDS CHOICE 2 Amara_Koch Mon None\n", texts(SHEETS)["facts.txt"])
+
+    def test_an_empty_cell_of_a_week_is_the_cell_of_all_weeks(self):
+        data = self.read(changed("needs", 6, 4, ""))[2][1]
+        # Week 1 has 0+1 on Monday, and nothing on Tuesday: all weeks have 1+1 there.
+        self.assertEqual([data.requirements[Place(day, "Day", "Nurse")] for day in (0, 1)], [Requirement(0, 1), Requirement(1, 2)])
+
+    def test_the_date_of_a_bank_holiday(self):
+        sheets = changed("needs", 6, 0, "2026-12-08")
+        sheets["plan"][0] = ["nurse", *(f"2026-{'11-30' if not day else f'12-{day:02}'}" for day in range(14))]
+        with self.assertRaises(FileFault) as caught:
+            texts(sheets)
+        self.assertEqual(caught.exception.message, "sheet needs, row 6, column A: '2026-12-08' is a date: write 1, its week from 0")
+
+    def test_signs_without_a_width(self):
+        self.assertEqual(texts(changed("plan", 4, 0, "Chen\u200b")), texts(SHEETS))
+
+    def test_no_shift_without_a_blank(self):
+        for text in ("nonight", "no-Night", "NO NIGHT", "not night"):
+            requests = self.read(changed("plan", 8, 2, text))[2][0].requests
+            self.assertEqual([(one.shift, one.day) for one in requests if one.nurse == "Grace"], [("Night", 1)], text)
+
+    def test_what_the_ward_seems_to_mean(self):
+        night = copy.deepcopy(SHEETS)
+        night["shifts"][1:] = [["Day", "2", "5", "Late, Night"], ["Late", "2", "4", "Night"], ["Night", "2", "4", ""]]
+        missing = copy.deepcopy(SHEETS)
+        del missing["plan"][3]
+        for sheets, line in (
+            (changed("nurses", 7, 3, "Day, Late, Night"), "sheet nurses: Finn never works: nobody can plan her"),
+            (night, "sheet shifts: Night may not follow Day, and each shift type may follow Night: is 'not followed by' the other way round?"),
+            (missing, "sheet plan: Chen has no row: she has no wishes and no absences"),
+        ):
+            self.assertIn(line, made(sheets).warnings)
+            self.assertNotIn(line, made(SHEETS).warnings)
+
+    def test_best_numbers_above_what_contracts_supply(self):
+        sheets = changed("contracts", 2, 2, "8")
+        # Day Charge 14, Day Nurse 12 and 11, Late and Night 14 each; six nurses have 8 shifts, and two have 6.
+        asks = "sheet needs: the best numbers ask for 65 shifts, the minimum numbers for 51, and the contracts supply at most 60 beside absences"
+        self.assertIn(f"{asks}: each shift above costs 20 points, and a nurse below a best number 30: lower best numbers", made(sheets).warnings)
+        sheets["contracts"][0][2] = "shifts max!"
+        self.assertIn(f"{asks}: 5 will be missing, for 30 points each: lower best numbers", made(sheets).warnings)
+        sheets["contracts"][1][1:3] = ["4", "6"]
+        few = asks.replace("at most 60", "at most 48")
+        self.assertIn(f"{few}: 3 too many to keep the limits that hold: lower minimum numbers", made(sheets).warnings)
+        self.assertFalse([line for line in made(SHEETS).warnings if "supply at most" in line])
+
+
+class Command(HelperTest):
+    def test_the_template_is_a_ward(self):
+        book, out = self.folder / "ward.ods", self.folder / "out"
+        status, printed, said = run("ward", "--template", book)
+        self.assertEqual((status, said, "change its rows" in printed), (0, "", True))
+        status, printed, said = run("ward", book, "--out", out)
+        self.assertEqual((status, said), (0, ""))
+        names = [*NAMES, "week-2.txt", "fix-2.txt", "week-3.txt", "fix-3.txt"]
+        self.assertEqual(printed, f"{out}: {', '.join(names)}\nChen: 3 days away count as 2 shifts in history-0.txt\n")
+        words = ("--sce", out / "ward.txt", "--his", out / "history-0.txt", "--week", out / "week-0.txt", "--fix", out / "fix-0.txt")
+        status, printed, _ = run("check", *words)
+        self.assertEqual((status, printed.splitlines()[-1]), (0, "No mistake found."))
+        again = f"inrc2pb-ward: --template {book}: there is such a file, perhaps with your ward: give another name"
+        self.assert_fault(run("ward", "--template", book), again)
+
+    def test_a_longer_period_and_warnings(self):
+        out = self.folder / "out"
+        self.assertEqual(run("ward", DATA / "libreoffice.ods", "--out", out, "--weeks", "4")[0], 0)
+        self.assertIn("WEEKS = 4\n", (out / "ward.txt").read_text())
+        self.assertIn("SCENARIO = libreoffice\n", (out / "ward.txt").read_text())
+
+    def test_later_histories_without_the_credit_of_leave(self):
+        out = self.folder / "out"
+        words = ("ward", DATA / "libreoffice.ods", "--out", out, "--weeks", "4", "--credit", "none")
+        said = f"{out}: warning: history-0.txt has new numbers of Amara Koch, and {{}} the old ones: make {{}} again with inrc2pb-next or inrc2pb-period"
+        self.assertEqual(run(*words)[0], 0)
+        (out / "history-1.txt").write_text("")
+        self.assertNotIn("again", run(*words)[1])
+        # Two days of leave in week 1.
+        self.assertEqual(run(*words[:-2])[1].splitlines()[-1], said.format("history-1.txt", "it"))
+        self.assertNotIn("again", run(*words[:-2])[1])
+        (out / "history-3.txt").write_text("")
+        self.assertEqual(run(*words)[1].splitlines()[-1], said.format("history-1.txt and history-3.txt", "them"))
+
+    def test_days_on_which_too_few_are_there(self):
+        sheets = copy.deepcopy(SHEETS)
+        for row in sheets["plan"][1:]:
+            row[3] = "ill"
+        book = Book(Path("ward.ods"), sheets)
+        warnings = ward.ward_files(book, "ward", read_days(book), 2, ()).warnings
+        self.assertEqual([line for line in warnings if line.startswith("sheet needs, week 0: Wed: ")][0].rsplit(": ", 1)[1], "no roster can meet it and keep every absence")
+
+    def test_faults(self):
+        book, out = DATA / "libreoffice.ods", self.folder / "out"
+        for words, said in (
+            ((), "give a spreadsheet and --out with a folder for the ward's files, or --template alone, with the .ods file to write"),
+            ((book, "--out", out, "--weeks", "1"), "--weeks 1: the plan has 2 weeks, and a period 52 at most: give a number from 2 to 52"),
+            ((book, "--out", out, "--credit", "holiday"), "--credit holiday: 'holiday' is no reason to be away: give some of away,ill,leave,unpaid,training, or none"),
+            (("--template", "ward.xls"), "--template ward.xls: the example is an .ods file, which Excel opens too: end its name with .ods"),
+        ):
+            self.assert_fault(run("ward", *words), f"inrc2pb-ward: {said}")
+        self.assertFalse(out.exists())
+        missing = self.folder / "none.ods"
+        self.assert_fault(run("ward", missing, "--out", out), f"inrc2pb-ward: {missing}: No such file or directory: look at its name and folder", 3)
+
+    def test_many_faults(self):
+        folder = self.folder / "sheets"
+        folder.mkdir()
+        for name, rows in SHEETS.items():
+            wrong = [[cell if not column or not number else "x" for column, cell in enumerate(row)] for number, row in enumerate(rows)]
+            text = io.StringIO()
+            csv.writer(text).writerows(wrong if name == "plan" else rows)
+            (folder / f"{name}.csv").write_text(text.getvalue())
+        status, printed, said = run("ward", folder, "--out", self.folder / "out")
+        lines = said.splitlines()
+        self.assertEqual((status, printed, len(lines), lines[-1]), (1, "", 21, "inrc2pb-ward: and 92 more such faults"))
+        self.assertTrue(lines[19].startswith(f"inrc2pb-ward: {folder}: sheet plan, row 3, column G: 'x' is no shift type"), lines[19])
+
+    def test_no_file_is_half_written(self):
+        out = self.folder / "out"
+        (out / "fix-1.txt").mkdir(parents=True)
+        line = f"inrc2pb-ward: {out / 'fix-1.txt'}: Is a directory: this is a folder: name a file in it"
+        self.assert_fault(run("ward", DATA / "libreoffice.ods", "--out", out), line, 3)
+        self.assertEqual(os.listdir(out), ["fix-1.txt"])
+        file = self.folder / "file"
+        file.write_text("")
+        status, _, said = run("ward", DATA / "libreoffice.ods", "--out", file)
+        self.assertEqual((status, said), (3, f"inrc2pb-ward: {file}: File exists: choose another name, or remove this file\n"))
+
+
+if __name__ == "__main__":
+    unittest.main()

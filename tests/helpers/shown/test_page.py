@@ -1,0 +1,298 @@
+"""Tests of `inrc2pb-table --html` and `--ics`, of the totals, and of the mark of a nurse who works while she is away."""
+
+import csv
+import io
+import re
+import unittest
+import xml.etree.ElementTree as ElementTree
+from collections import Counter
+
+from ward import HISTORY, ROSTER, SCENARIO, WARD, WEEK, WEEK_OPTIONS, HelperTest, files, run
+
+from inrc2pb.shown.calendars import file_names
+from inrc2pb.shown.markup import element, hidden
+from inrc2pb.shown.roster_text import COLORS
+
+MONDAY = ("--monday", "2026-11-30")
+# Names that would be markup, a path, or a second line, and one whose accent is a letter of its own.
+HOSTILE = {"Amara": "<b>\"&'</b>", "Chen": "../../x", "Grace": "Jose\u0301;\\n\x07", "Night": "</td><script>"}
+
+
+def words(part):
+    """The text of an element, with single blanks."""
+    return " ".join("".join(part.itertext()).split())
+
+
+class PageTest(HelperTest):
+    def page(self, *given):
+        """The page of a command without a fault."""
+        status, printed, said = run("table", "--html", *given)
+        self.assertEqual((status, said), (0, ""))
+        self.assertTrue(printed.startswith("<!DOCTYPE html>\n<html lang=\"en\">"))
+        return ElementTree.fromstring(printed)
+
+    def caption(self, page, begin):
+        """The only table whose caption begins so, as rows of texts."""
+        found = [one for one in page.iter("table") if words(one.find("caption")).startswith(begin)]
+        self.assertEqual(len(found), 1, begin)
+        return [[words(cell) for cell in row] for row in found[0].iter("tr")]
+
+    def hostile(self, path, name):
+        """The file with hostile names."""
+        text = path.read_text()
+        for old, new in HOSTILE.items():
+            text = re.sub(rf"\b{old}\b", lambda _, new=new: new, text)
+        target = self.folder / name
+        target.write_text(text)
+        return target
+
+    def hostile_week(self):
+        paths = [self.hostile(path, path.name) for path in (SCENARIO, HISTORY, WEEK, ROSTER)]
+        return "--sce", paths[0], "--his", paths[1], "--week", paths[2], paths[3]
+
+
+class Markup(unittest.TestCase):
+    def test_elements(self):
+        self.assertEqual(element("td", "a<b", hidden("&"), class_="x\"y"), '<td class="x&quot;y">a&lt;b<span class="hidden">&amp;</span></td>')
+        self.assertEqual(element("meta", charset="utf-8", name=None), '<meta charset="utf-8"/>')
+        self.assertEqual(element("p", "\x00\x1b\udce4"), "<p>\ufffd\ufffd\ufffd</p>")
+
+
+class Page(PageTest):
+    def test_each_table_can_be_heard(self):
+        page = self.page(*WEEK_OPTIONS, *MONDAY, "--old", ROSTER, self.changed(ROSTER, "Grace Mon Day Nurse", "Chen Mon Late Nurse"))
+        tables = list(page.iter("table"))
+        self.assertEqual(len(tables), 5)
+        for one in tables:
+            self.assertTrue(words(one.find("caption")))
+            self.assertTrue(all(head.get("scope") in ("col", "colgroup", "row") for head in one.iter("th")))
+            self.assertTrue(all(row[0].get("scope") == "row" for row in one.find("tbody")))
+        self.assertEqual([part.tag for part in page.iter() if part.get("src") or part.get("href") or part.tag in ("script", "link", "img")], [])
+        self.assertNotIn("url(", page.find("head/style").text)
+        # A mark for eyes has its words next to it.
+        marks = [part for part in page.iter("td") if any(inner.get("class") == "mark" for inner in part)]
+        self.assertGreater(len(marks), 3)
+        self.assertTrue(all(any(inner.get("class") == "hidden" for inner in part) for part in marks))
+
+    def test_the_roster_and_its_dates(self):
+        page = self.page(*WEEK_OPTIONS, *MONDAY, "--times", "Late=13:00-21:15", "--times", "Day=6:00-14:15", "--times", "Night=22:00-06:15", ROSTER)
+        self.assertEqual(words(page.find(".//h1")), "ward, 30 Nov to 6 Dec 2026")
+        rows = self.caption(page, "Shifts")
+        self.assertEqual(rows[0], ["nurse", "Mon 30 Nov", "Tue 1 Dec", "Wed 2 Dec", "Thu 3 Dec", "Fri 4 Dec", "Sat 5 Dec", "Sun 6 Dec"])
+        chen = next(row for row in rows if row[0] == "Chen")
+        refused = "Night Nurse!, a request to be off was not granted"
+        self.assertEqual(chen[1:], ["", "", "Late Nurse", "Late Nurse", "Night Nurse", refused, "Night Nurse"])
+        self.assertIn("Day, 06:00 to 14:15", [words(item) for item in page.iter("li")])
+
+    def test_totals_coverage_wishes_and_charges(self):
+        page = self.page(*WEEK_OPTIONS, ROSTER)
+        rows = self.caption(page, "Totals")
+        self.assertEqual(rows[0], "nurse,shifts,contract,difference,Day,Late,Night,weekends,at most,wishes,granted,missed,cost".split(","))
+        self.assertIn("Chen,5,17 to 21,12 to 16 left,0,2,3,1,2,1,0,1,10".split(","), rows)
+        self.assertIn(["Grace", "Tue no Night", ""], self.caption(page, "Wishes"))
+        self.assertIn(["Dilek", "", "Fri off"], self.caption(page, "Wishes"))
+        covered = self.caption(page, "Nurses at each place")
+        self.assertEqual(covered[2][:3], ["Day Nurse", "2 1\u20132minimum 1, best 2", "2 1\u20132minimum 1, best 2"])
+        folds = [words(part) for part in page.iter("details")]
+        self.assertEqual(folds, ["Chen: 10 (S4 10)10 (S4) Sat: on Night, and asked to be off", "Dilek: 10 (S4 10)10 (S4) Fri: on Day, and asked to be off"])
+
+    def test_places_with_too_few_and_too_many(self):
+        roster = self.changed(ROSTER, "Amara Mon Day Charge", "Amara Mon Day Nurse")
+        page = self.page(*WEEK_OPTIONS, roster)
+        rows = self.caption(page, "Nurses at each place")
+        self.assertEqual((rows[1][1], rows[2][1]), (
+            "0 \u22121!1 too few, below the minimum 1\u20131minimum 1, best 1", "3 +11 too many 1\u20132minimum 1, best 2"))  # fmt: skip
+        self.assertIn("the roster breaks H2: Mon Day Charge has 0 nurses and needs at least 1", [words(part) for part in page.iter("p")])
+        self.assertEqual(list(page.iter("details")), [])
+
+    def test_changes(self):
+        other = self.changed(ROSTER, "Grace Mon Day Nurse", "Chen Mon Late Nurse")
+        page = self.page(*MONDAY, "--old", ROSTER, other)
+        self.assertEqual(self.caption(page, "2 changes")[1:], [["Chen", "Mon 30 Nov", "off", "Late Nurse"], ["Grace", "Mon 30 Nov", "Day Nurse", "off"]])
+        grace = next(row for row in self.caption(page, "Shifts") if row[0] == "Grace")
+        self.assertEqual(grace[1], "off\u0394 changed since the older roster, before: Day Nurse")
+        self.assertIn("Nothing is changed since the older roster.", [words(part) for part in self.page("--old", ROSTER, ROSTER).iter("p")])
+
+    def test_only_the_table(self):
+        page = self.page(*WEEK_OPTIONS, "--fix", ROSTER, "--only-table", "--old", self.changed(ROSTER, "Grace Mon", "Chen Mon"), ROSTER)
+        self.assertEqual([words(one) for one in page.iter("caption")], ["Shifts of each nurse"])
+        self.assertEqual([words(one) for one in page.iter("p")], ["7 nurses, 33 shifts"])
+        self.assertEqual([words(one) for one in page.iter("li")], ["\u0394 = changed since the older roster"])
+
+    def test_absences_show_without_the_days_that_are_kept(self):
+        ill, kept, old = (self.folder / name for name in ("ill.txt", "kept.txt", "old.txt"))
+        self.assertEqual(run("wish", "--sce", SCENARIO, "--week", WEEK, "--away", "Amara=Thu", "--away", "Chen=Tue", "--out", ill)[0], 0)
+        self.assertEqual(run("keep", "--sce", SCENARIO, "--keep", "Mon,Tue", "--off-in", ill, ROSTER, "--out", kept)[0], 0)
+        old.write_text(ROSTER.read_text().replace("Bruno Thu", "Amara Thu"))
+        for week, monday in ((ill, ""), (kept, "away")):
+            page = self.page("--sce", SCENARIO, "--his", HISTORY, "--week", week, "--old", old, ROSTER)
+            rows = {row[0]: row for row in self.caption(page, "Shifts")}
+            self.assertEqual((rows["Chen"][1:3], rows["Amara"][4][:4], rows["Amara"][5]), ([monday, "away"], "away", ""))
+            # The older roster breaks the absence, so its penalty is left out.
+            self.assertEqual(words(next(page.iter("p"))), "7 nurses, 33 shifts, penalty 20")
+
+    def test_absences_in_tables_of_text(self):
+        self.assertEqual(run("wish", "--sce", SCENARIO, "--week", WEEK, "--away", "Amara=Thu", "--out", self.folder / "ill.txt")[0], 0)
+        self.assertRegex(run("table", "--sce", SCENARIO, "--week", self.folder / "ill.txt", ROSTER)[1], r"(?m)^Amara  (Day..... +){3}away +\.  ")
+        later = self.changed(ROSTER, "0 ward", "1 ward", "later.txt")
+        printed = run("table", "--sce", SCENARIO, "--week", self.folder / "ill.txt", "--week", WARD / "week-1.txt", ROSTER, later)[1]
+        self.assertRegex(printed, r"(?m)^Amara  D  D  D  -  \.  \| D  D   \|\|  D  D  D! \.  \.  \|")
+        self.assertIn("\n- = away\n", printed)
+
+    def test_colors_are_printed(self):
+        style = self.page(ROSTER).find("head/style").text
+        printed = style[style.index("@media print {"):]
+        self.assertIn("print-color-adjust: exact", printed)
+        self.assertNotIn("background", printed[: printed.index("\n}\n")])
+        self.assertIn(f".s0 {{ background: {COLORS[0]}; color: #000000 }}", style)
+
+    def test_several_weeks(self):
+        later = self.changed(ROSTER, "0 ward", "1 ward", "later.txt")
+        two = ("--sce", SCENARIO, "--his", HISTORY, "--week", WEEK, "--week", WARD / "week-1.txt")
+        page = self.page(*two, *MONDAY, ROSTER, later)
+        rows = self.caption(page, "Shifts")
+        self.assertEqual((rows[0], rows[1][8], len(rows[2])), (["", "week 0", "week 1"], "Mon 7 Dec", 15))
+        self.assertEqual(rows[2][1], "DcDay Charge")
+        self.assertIn("c = Charge", [words(item) for item in page.iter("li")])
+        self.assertIn("Amara,10,17 to 21,7 to 11 left,10,0,0,2,2,1,0,1,10".split(","), self.caption(page, "Totals"))
+        # A table of the roster has four weeks, and one of the coverage has two.
+        page = self.page(*[ROSTER] * 5)
+        self.assertEqual([len(one.find("thead")[0]) for one in page.iter("table")], [5, 2])
+
+    def test_hostile_names(self):
+        page = self.page(*self.hostile_week(), *MONDAY)
+        names = [words(head) for head in page.iter("th")]
+        self.assertIn("<b>\"&'</b>", names)
+        self.assertIn("</td><script>", names)
+        self.assertEqual(list(page.iter("script")), [])
+        self.assertIn("Jose\u0301;\\n\ufffd", names)
+        # In the page and in the picture a name is no markup.
+        picture = run("table", "--svg", *self.hostile_week())[1]
+        ElementTree.fromstring(picture)
+
+    def test_faults(self):
+        week = (*WEEK_OPTIONS, ROSTER)
+        none = self.folder / "none" / "page.html"
+        for given, line in (
+            (("--html", *MONDAY, "--out", none), f"{none}: No such file or directory: look at its name and folder"),
+            (("--html", "--out", self.folder), f"{self.folder}: Is a directory: this is a folder: name a file in it"),
+            (("--html", "--out", ROSTER), f"{ROSTER} is read, so the table cannot be written to it: choose another file"),
+            (("--html", "--monday", "2026-12-01"), "--monday 2026-12-01: this is a Tuesday: give a Monday, such as 2026-11-30"),
+            (("--html", "--monday", "30.11.2026"), "--monday 30.11.2026: this is no date: give year, month and day, such as 2026-11-30"),
+            (("--html", "--monday", "2026-13-01"), "--monday 2026-13-01: this is no date: give year, month and day, such as 2026-11-30"),
+            (("--html", "--monday", "9999-12-27"), "--monday 9999-12-27: give a date of this century, such as 2026-11-30"),
+            (MONDAY, "--monday is for --html and --ics: give one of them"),
+            (("--times", "Day=06:00-14:00"), "--times is for --html and --ics: give one of them"),
+            (("--ics", self.folder), "--ics needs --monday: give the date of the first Monday, such as 2026-11-30"),
+            (("--only-table",), "--only-table is for --html: give both"),
+            (("--html", "--times", "Day"), "--times Day: give a shift type, its start and its end, such as Early=06:00-14:15"),
+            (("--html", "--times", "Day=6-14"), "--times Day=6-14: give a shift type, its start and its end, such as Early=06:00-14:15"),
+            (("--html", "--times", "Day=06:00-24:30"), "--times Day=06:00-24:30: 24:30 is no time of a day: give hours from 0 to 24 and minutes from 00 to 59"),
+            (("--html", "--times", "Day=06:60-14:00"), "--times Day=06:60-14:00: 06:60 is no time of a day: give hours from 0 to 24 and minutes from 00 to 59"),
+            (("--html", "--times", "Dy=06:00-14:00"), "--times Dy=06:00-14:00: 'Dy' is no shift type: did you mean Day?"),
+            (("--html", *["--times", "Day=06:00-14:00"] * 2), "--times Day=06:00-14:00: Day has two times: give one"),
+            (("--html", "--times", "Day=06:00-14:00"), "--times has no times of Late, Night: give them too, such as --times Late=06:00-14:15"),
+        ):
+            with self.subTest(given):
+                self.assertEqual(run("table", *week, *given)[1:], ("", f"inrc2pb-table: {line}\n"))
+        self.assertEqual(list(self.folder.iterdir()), [])
+
+    def test_an_older_page_stays_after_a_fault(self):
+        page = self.folder / "page.html"
+        page.write_text("older")
+        self.assertEqual(run("table", *WEEK_OPTIONS, "--html", "--out", page, self.folder / "none.txt")[0], 3)
+        self.assertEqual(page.read_text(), "older")
+        self.assertEqual(run("table", *WEEK_OPTIONS, "--html", "--out", page, ROSTER), (0, "", ""))
+        ElementTree.fromstring(page.read_text())
+
+
+class Totals(PageTest):
+    def test_the_table_the_spreadsheet_and_the_picture(self):
+        printed = run("table", *WEEK_OPTIONS, ROSTER)[1]
+        self.assertRegex(printed, r"(?m)^Chen .*  0 2 3  5/17-21  1/2       0/1       10  S4 10$")
+        self.assertNotIn("weekends", run("table", "--sce", SCENARIO, ROSTER)[1])
+        chen = next(row for row in csv.reader(io.StringIO(run("table", *WEEK_OPTIONS, "--csv", ROSTER)[1])) if row[0] == "Chen")
+        self.assertEqual(chen[8:], ["10", "S4 10", "5", "17", "21", "1", "2", "1", "0", "0", "2", "3"])
+        picture = run("table", *WEEK_OPTIONS, "--svg", ROSTER)[1]
+        self.assertEqual(picture.count(">5/17-21</text>"), 5)
+
+    def test_the_last_week_says_what_is_missed(self):
+        ward = self.changed(SCENARIO, "WEEKS = 4", "WEEKS = 1", "ward.txt")
+        ward.write_text(ward.read_text().replace("Half (8,11)", "Half (2,4)"))
+        rows = self.caption(self.page("--sce", ward, "--his", HISTORY, "--week", WEEK, ROSTER), "Totals")
+        self.assertEqual({row[0]: row[3] for row in rows}, {
+            "nurse": "difference", "Amara": "12 too few", "Bruno": "12 too few", "Chen": "12 too few", "Dilek": "12 too few", "Ewa": "within",
+            "Finn": "1 too many", "Grace": "12 too few"})  # fmt: skip
+
+    def test_on_duty_while_away(self):
+        asked = "Chen Any Sat\n" * 30 + "Amara Any Thu\n" * 30 + "Grace Day Mon\n" * 30
+        week = self.changed(WEEK, "SHIFT_OFF_REQUESTS = 5\n", f"SHIFT_OFF_REQUESTS = 95\n{asked}", "week.txt")
+        given = ("--sce", SCENARIO, "--his", HISTORY, "--week", week, ROSTER)
+        printed = run("table", *given)[1]
+        self.assertIn("Night Nu#", printed)
+        self.assertIn("\n# = on duty while away\n", printed)
+        self.assertRegex(printed, r"(?m)^Grace  Day Nu#  ")
+        # An absence is no wish.
+        self.assertRegex(printed, r"(?m)^Chen .* 0 2 3  5/17-21  1/2       - ")
+        self.assertIn("Night Nurse #", run("table", *given, "--csv")[1])
+        self.assertIn("Night Nurse#<title>", run("table", *given, "--svg")[1])
+        self.assertIn("310  S4  Chen, Sat: on Night, while away (31 requests)\n", run("table", *given, "--why")[1])
+        rows = {row[0]: row for row in self.caption(self.page(*given), "Shifts")}
+        self.assertEqual((rows["Chen"][6], rows["Amara"][4]), ("Night Nurse#, on duty while away", "away"))
+
+
+class Calendars(PageTest):
+    def calendars(self, *given):
+        """The lines of each calendar, unfolded."""
+        folder = self.folder / "calendars"
+        self.assertEqual(run("table", "--csv", *MONDAY, "--ics", folder, *given)[::2], (0, ""))
+        found = {}
+        for path in sorted(folder.iterdir()):
+            data = path.read_bytes()
+            self.assertEqual(data.count(b"\n"), data.count(b"\r\n"))
+            self.assertTrue(data.endswith(b"END:VCALENDAR\r\n"))
+            self.assertTrue(all(len(line) <= 75 for line in data.split(b"\r\n")))
+            found[path.name] = data.decode().replace("\r\n ", "").split("\r\n")[:-1]
+        return found
+
+    def test_the_events_are_the_shifts(self):
+        found = self.calendars("--times", "Late=13:00-21:15", "--times", "Day=06:00-14:15", "--times", "Night=22:00-06:15", ROSTER)
+        rows = files.read_solution(ROSTER).cells
+        self.assertEqual({name: lines.count("BEGIN:VEVENT") for name, lines in found.items()}, Counter(f"{row.nurse}.ics" for row in rows))
+        chen = found["Chen.ics"]
+        for lines in (("DTSTART:20261202T130000", "DTEND:20261202T211500", "SUMMARY:Late Nurse"), ("DTSTART:20261206T220000", "DTEND:20261207T061500", "SUMMARY:Night Nurse")):
+            begin = chen.index(lines[0])
+            self.assertEqual(chen[begin : begin + len(lines)], list(lines))
+        numbers = [line for lines in found.values() for line in lines if line.startswith("UID:")]
+        self.assertEqual(len(set(numbers)), len(rows))
+        self.assertTrue(all("DTSTAMP:20261130T000000Z" in lines for lines in found.values()))
+        self.assertEqual(found, self.calendars("--times", "Late=13:00-21:15", "--times", "Day=06:00-14:15", "--times", "Night=22:00-06:15", ROSTER))
+
+    def test_a_nurse_without_shifts_and_hostile_names(self):
+        found = self.calendars(*self.hostile_week())
+        self.assertEqual(sorted(found), sorted(["_b__&'__b_.ics", "_._.._x.ics", "Jose\u0301;_n_.ics", *(f"{name}.ics" for name in ("Bruno", "Dilek", "Ewa", "Finn"))]))
+        self.assertIn("SUMMARY:</td><script> Nurse", found["Ewa.ics"])
+        roster = self.solution("Grace Mon Day Nurse", "Ben Sun Late \u00e9" + "\u00e9" * 60 + ";\\x", name="rows.txt")
+        found = self.calendars(roster)
+        self.assertIn("SUMMARY:Late " + "\u00e9" * 61 + "\\;\\\\x", found["Ben.ics"])
+        found = self.calendars("--sce", SCENARIO, self.solution(name="none.txt"))
+        event = found["Finn.ics"]
+        self.assertEqual(event[-6:-2], ["DTSTART;VALUE=DATE:20261130", "DTEND;VALUE=DATE:20261207", "TRANSP:TRANSPARENT", "SUMMARY:no shift"])
+
+    def test_names_that_differ_in_case_or_signs_only(self):
+        self.assertEqual(list(file_names(["Ann", "ann", "ANN", "a/b", "a:b", ".", "x" * 99, "x" * 98]).values()), [
+            "Ann.ics", "ann-2.ics", "ANN-3.ics", "a_b.ics", "a_b-2.ics", "_.ics", f"{'x' * 60}.ics", f"{'x' * 60}-2.ics"])  # fmt: skip
+
+    def test_a_folder_that_cannot_be_written(self):
+        blocked = self.folder / "blocked"
+        blocked.write_text("no folder")
+        ran = run("table", "--csv", *MONDAY, "--ics", blocked, ROSTER)
+        self.assert_fault(ran, f"inrc2pb-table: {blocked}: File exists: choose another name, or remove this file", 3)
+        inside = self.folder / "calendars" / "Chen.ics"
+        inside.mkdir(parents=True)
+        ran = run("table", "--csv", *MONDAY, "--ics", self.folder / "calendars", ROSTER)
+        self.assert_fault(ran, f"inrc2pb-table: {inside}: Is a directory: this is a folder: name a file in it", 3)
+
+
+if __name__ == "__main__":
+    unittest.main()

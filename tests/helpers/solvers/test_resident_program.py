@@ -1,0 +1,243 @@
+"""Tests of linear programs that stay in a solver: their solutions, by hand and by solvers that read files, and children that end."""
+
+import math
+import os
+import random
+import shutil
+import signal
+import threading
+import time
+import unittest
+from unittest import mock
+
+from test_processes import is_alive
+from ward import HAS_CBC, HelperTest
+
+from inrc2pb.programs.clock import Clock, TimeIsOver
+from inrc2pb.programs.processes import Processes
+from inrc2pb.solvers import clp_child
+from inrc2pb.solvers.answers import SolverFault
+from inrc2pb.solvers.linear_solvers import LinearSolvers
+from inrc2pb.solvers.resident_program import DUAL, INFEASIBLE, OPTIMAL, PRIMAL, STOPPED, Child, Column, LinearProgram
+
+try:
+    clp_child.load()
+    HAS_CLP = True
+except OSError:
+    HAS_CLP = False
+INF = math.inf
+
+
+def no_files(text, clock, goes_on):
+    """A solver that is not there."""
+    raise SolverFault("no solver reads files")
+
+
+class Programs(HelperTest):
+    def setUp(self):
+        super().setUp()
+        self.processes = Processes()
+        self.child = Child(self.processes, self.folder)
+        self.addCleanup(self.child.end)
+
+    def program(self, relax=no_files):
+        return LinearProgram(self.child, relax)
+
+    def small(self, relax=no_files):
+        """At least 3 of two columns of costs 2 and 3, of which the first has at most 2."""
+        program = self.program(relax)
+        program.add_rows([(3.0, INF)])
+        program.add_columns([Column(2.0, 0.0, 2.0, [(0, 1.0)]), Column(3.0, 0.0, INF, [(0, 1.0)])])
+        return program
+
+
+@unittest.skipUnless(HAS_CLP, "needs Clp's library")
+class Solutions(Programs):
+    def test_a_program_by_hand(self):
+        found = self.small().solve(Clock(60))
+        # Two of the first column and one of the second: one more would cost 3, and one more of the first saves 1.
+        self.assertEqual((found.status, found.value, list(found.columns), list(found.prices)), (OPTIMAL, 7.0, [2.0, 1.0], [3.0]))
+        self.assertEqual(list(found.rises), [-1.0, 0.0])
+
+    def test_changes(self):
+        program = self.small()
+        self.assertEqual(program.solve(Clock(60)).value, 7.0)
+        self.assertEqual(program.add_columns([Column(1.0, 0.0, 0.5, [(0, 1.0)])]), 2)
+        self.assertEqual(program.solve(Clock(60)).value, 0.5 + 4.0 + 1.5)
+        program.bound_columns({0: (0.0, 0.0), 2: (0.0, 1.0)})
+        self.assertEqual(program.solve(Clock(60), DUAL).value, 1.0 + 6.0)
+        program.set_costs({1: 5.0})
+        self.assertEqual(program.solve(Clock(60)).value, 1.0 + 10.0)
+        program.bound_rows({0: (1.0, 2.0)})
+        self.assertEqual(program.solve(Clock(60), DUAL).value, 1.0)
+        program.bound_rows({0: (9.0, INF)})
+        program.bound_columns({1: (0.0, 1.0)})
+        found = program.solve(Clock(60), DUAL)
+        self.assertEqual((found.status, found.value), (INFEASIBLE, INF))
+        program.bound_columns({1: (0.0, INF)})
+        self.assertEqual(program.solve(Clock(60)).value, 1.0 + 40.0)
+
+    def test_a_row_that_comes_later(self):
+        program = self.small()
+        program.solve(Clock(60))
+        program.add_rows([(-INF, 1.0)])
+        program.add_columns([Column(0.0, 0.0, INF, [(0, 1.0), (1, 2.0)])])
+        self.assertEqual(program.solve(Clock(60)).value, 0.5 * 0 + 2.0 * 2 + 3.0 * 0.5)
+
+    def test_two_programs_of_one_child(self):
+        one, other = self.small(), self.small()
+        other.bound_rows({0: (1.0, INF)})
+        self.assertEqual([one.solve(Clock(60)).value, other.solve(Clock(60)).value, one.solve(Clock(60)).value], [7.0, 2.0, 7.0])
+        one.close()
+        self.assertEqual(other.solve(Clock(60)).value, 2.0)
+
+    def test_only_the_value(self):
+        found = self.small().solve(Clock(60), whole=False)
+        self.assertEqual((found.value, found.prices, found.columns), (7.0, found.rises, found.rises))
+
+    def test_a_basis_that_is_kept(self):
+        program = covering(self.program(), 40)
+        first = program.solve(Clock(60))
+        program.keep_basis(1)
+        program.bound_columns({number: (0.0, 0.0) for number in range(0, 40, 3)})
+        program.solve(Clock(60))
+        program.bound_columns({number: (0.0, INF) for number in range(0, 40, 3)})
+        program.take_basis(1)
+        again = program.solve(Clock(60))
+        self.assertAlmostEqual(again.value, first.value, 6)
+        self.assertLess(again.iterations, max(3, first.iterations))
+        program.take_basis(7)
+        self.assertAlmostEqual(program.solve(Clock(60)).value, first.value, 6)
+
+    def test_a_limit_of_iterations(self):
+        program = covering(self.program(), 200)
+        self.assertEqual(program.solve(Clock(60), DUAL, iterations=2).status, STOPPED)
+        self.assertEqual(program.solve(Clock(60)).status, OPTIMAL)
+
+    @unittest.skipUnless(HAS_CBC, "needs cbc")
+    def test_other_solvers_agree(self):
+        names = [name for name in ("cbc", "clp", "glpsol") if shutil.which(name)]
+        files = [LinearSolvers([name], Processes(), self.folder, lambda text: None) for name in names]
+        for seed, how in ((1, DUAL), (2, PRIMAL)):
+            program = covering(self.program(), 30 * seed, seed)
+            found = program.solve(Clock(60), how)
+            for solver in files:
+                other = covering(solver.program(), 30 * seed, seed).solve(Clock(60))
+                self.assertAlmostEqual(found.value, other.value, 4)
+                # By duality the prices of any solver have this value, too.
+                self.assertAlmostEqual(sum(price * (1 + row % 3) for row, price in enumerate(other.prices)), found.value, 4)
+
+
+def covering(program, columns, seed=5):
+    """Adds rows that ask for 1, 2 or 3, and random columns that count in some of them; all entries are 1, and no column has a bound."""
+    chance = random.Random(seed)
+    rows = 12
+    program.add_rows([(1.0 + row % 3, INF) for row in range(rows)])
+    made = [chance.sample(range(rows), chance.randint(1, 4)) for _ in range(columns)] + [[row] for row in range(rows)]
+    program.add_columns([Column(float(chance.randint(5, 30)), 0.0, INF, [(row, 1.0) for row in of]) for of in made])
+    return program
+
+
+class Faults(Programs):
+    @unittest.skipUnless(HAS_CLP, "needs Clp's library")
+    def test_a_child_that_is_killed_starts_again(self):
+        program = self.small()
+        self.assertEqual(program.solve(Clock(60)).value, 7.0)
+        program.bound_rows({0: (4.0, INF)})
+        self.processes.end_running()
+        self.child._process.wait()
+        self.assertEqual(program.solve(Clock(60)).value, 10.0)
+        self.assertTrue(self.child.works)
+
+    @unittest.skipUnless(HAS_CLP, "needs Clp's library")
+    def test_a_child_that_hangs(self):
+        program = self.small()
+        program.solve(Clock(60))
+        os.kill(self.child._process.pid, signal.SIGSTOP)
+        began = time.monotonic()
+        with self.assertRaises(TimeIsOver):
+            program.solve(Clock(0.2))
+        self.assertLess(time.monotonic() - began, 30)
+        self.assertEqual(program.solve(Clock(60)).value, 7.0)
+
+    @unittest.skipUnless(HAS_CLP, "needs Clp's library")
+    def test_a_search_that_is_stopped(self):
+        program = self.small()
+        program.solve(Clock(60))
+        os.kill(self.child._process.pid, signal.SIGSTOP)
+        threading.Timer(0.2, self.processes.stop).start()
+        with self.assertRaises(TimeIsOver):
+            program.solve(Clock(60))
+        with self.assertRaises(TimeIsOver):
+            program.solve(Clock(60))
+
+    @unittest.skipUnless(HAS_CLP, "needs Clp's library")
+    def test_a_child_ends_with_its_parent(self):
+        reading, writing = os.pipe()
+        parent = os.fork()
+        if not parent:
+            program = LinearProgram(Child(Processes(), self.folder), no_files)
+            program.add_rows([(1.0, INF)])
+            program.add_columns([Column(1.0, 0.0, INF, [(0, 1.0)])])
+            program.solve(Clock(60))
+            os.write(writing, str(program._child._process.pid).encode())
+            os.kill(os.getpid(), signal.SIGKILL)
+        os.waitpid(parent, 0)
+        number = int(os.read(reading, 20))
+        os.close(reading)
+        os.close(writing)
+        limit = time.monotonic() + 30
+        while is_alive(number) and time.monotonic() < limit:
+            time.sleep(0.05)
+        self.assertLess(time.monotonic(), limit)
+
+    def child_that(self, script):
+        """A program in Python in place of the child."""
+        path = self.folder / "child.py"
+        path.write_text(script)
+        return mock.patch.object(clp_child, "__file__", str(path))
+
+    @unittest.skipUnless(HAS_CBC, "needs cbc")
+    def test_without_a_child_that_works(self):
+        answer = "import os, struct\nos.read(0, 1 << 20)\nos.write(1, struct.pack('<iidii5d', {}))\nos.read(0, 1)\n"
+        nan = "float('nan')"
+        children = {
+            "no library": f"import sys\nsys.exit({clp_child.NO_LIBRARY})",
+            "crash": "import os, signal\nos.kill(os.getpid(), signal.SIGSEGV)",
+            "cut": "import os\nos.read(0, 10)\nos.write(1, b'abc')",
+            "abandoned": answer.format("4, 0, 7.0, 1, 2, *[0.0] * 5"),
+            "no numbers": answer.format(f"0, 0, 7.0, 1, 2, 1.0, {nan}, 0.0, 0.0, 0.0"),
+            "no value": answer.format(f"0, 0, {nan}, 1, 2, *[0.0] * 5"),
+            "other sizes": answer.format("0, 0, 7.0, 2, 1, *[0.0] * 5"),
+        }
+        for how, script in children.items():
+            with self.subTest(how=how), self.child_that(script):
+                self.child = Child(self.processes, self.folder)
+                solver = LinearSolvers(["cbc"], Processes(), self.folder, lambda text: None)
+                program = self.small(solver.relax)
+                self.assertEqual(list(program.solve(Clock(60)).columns), [2.0, 1.0])
+                self.assertFalse(self.child.works)
+                program.bound_columns({1: (0.0, 0.5)})
+                self.assertEqual(program.solve(Clock(60)).status, INFEASIBLE)
+
+    def test_without_any_solver(self):
+        with self.child_that("import sys\nsys.exit(1)"), self.assertRaises(SolverFault):
+            self.small().solve(Clock(60))
+
+
+class Texts(Programs):
+    def test_the_text_of_a_program(self):
+        program = self.small()
+        program.add_rows([(-INF, 5.0), (1.0, 2.0), (4.0, 4.0), (-INF, INF)])
+        program.add_columns([Column(0.0, -INF, 1.5, [(2, -1.0)])])
+        words = [line.split() for line in program.text().splitlines()]
+        kinds = [["G", "c0"], ["L", "c1"], ["L", "c2"], ["E", "c3"], ["N", "c4"]]
+        self.assertEqual(words[2:8], [["N", "obj"], *kinds])
+        self.assertIn(["RNG", "c2", "1"], words)
+        self.assertIn(["MI", "BND", "v2", "-1e+30"], words)
+        for line in (["v0", "obj", "2"], ["v2", "c2", "-1"], ["RHS", "c0", "3"], ["RHS", "c2", "2"], ["UP", "BND", "v0", "2"]):
+            self.assertIn(line, words)
+
+
+if __name__ == "__main__":
+    unittest.main()
