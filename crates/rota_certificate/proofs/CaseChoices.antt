@@ -1,25 +1,20 @@
 -- The choices of a nurse in a plan of a case: the case allows each of them.
-use Rattle.std.proofs.Common.{◌≡◌, ℕ, zero, suc, ◌+◌, ◌<◌, ◌==◌, ◌&&◌, Bool, true, false, not, cond, ap, sym, ◌∙◌, inl, inr, arith, refl, add-one, List, [], ◌∷◌}
+use Rattle.std.proofs.Common.{◌≡◌, ℕ, suc, ◌<◌, ◌==◌, ◌&&◌, Bool, true, false, ap, sym, ◌∙◌, inl, inr, refl, [], ◌∷◌}
 use Rattle.std.specs.Prelude.{IfSome, Option, Some, None, slice_get, ⊤}
-use Rattle.std.specs.List.{AllByRecursion, list_all}
-use Rattle.std.specs.Option.{ForSome, option_map_or}
+use Rattle.std.specs.List.{AllByRecursion}
+use Rattle.std.specs.Option.{ForSome}
 use Rattle.std.proofs.lemmas.Bool.{cases_Bool, eqb-true, eq-eqb}
-use Rattle.rota_core.specs.Certificates.{AreConditionsFor, IsChoiceFor, IsFactFor}
+use Rattle.rota_core.specs.Certificates.{AreConditionsFor, IsFactFor}
 use Rattle.rota_core.specs.Sizes.{DAYS, Numbers}
-use Rattle.rota_core.specs.SumsBelow.{any_below}
-use Rattle.rota_core.specs.HardRules.{KeepsHardRules, KeepsOneCell, is_off, is_on, works}
+use Rattle.rota_core.specs.HardRules.{KeepsHardRules, KeepsOneCell, is_on, works}
 use Rattle.rota_core.specs.Roster.{Roster, cell}
-use Rattle.rota_core.specs.Prices.{Prices}
 use Rattle.rota_core.specs.Problem.{Problem}
-use Rattle.rota_core.specs.declared.certificate.Condition.{Condition}
 use Rattle.rota_core.specs.declared.certificate.DayChoice.{DayChoice}
 use Rattle.rota_core.specs.declared.certificate.Fact.{Fact}
 use Rattle.rota_core.specs.declared.certificate.Fact.TheVariants.{Charges, Choice, EvenShiftRuns, Nurses}
 use Rattle.rota_core.specs.declared.values.Cell.{Cell}
 use Rattle.rota_certificate.specs.Facts.{Case, IsIn, has_choice, is_fact}
-use Rattle.rota_certificate.specs.LeafBounds.{allows, is_about, is_choice, leaf_weeks, may_choose}
-use Rattle.rota_certificate.specs.NurseBounds.{LeafWeek}
-use Rattle.rota_certificate.specs.NurseCosts.{AllowsChoices, AllowsPlan}
+use Rattle.rota_certificate.specs.LeafBounds.{allows, is_about, is_choice, may_choose}
 use Rattle.rota_certificate.specs.Plans.{Plan, PlannedWeek}
 use Rattle.rota_certificate.proofs.PlacePart.{both}
 use Rattle.rota_certificate.proofs.Sums.{any-at, any-some}

@@ -1,14 +1,12 @@
 -- The bound of a certificate is at most the cost of each plan that meets the given conditions.
-use Rattle.std.proofs.Common.{◌≡◌, ℕ, zero, suc, ◌+◌, ◌*◌, ◌<◌, ◌≤◌, ◌==◌, Bool, true, false, ap, sym, ◌∙◌, refl, subst, arith, List, [], ◌∷◌, length, map, reverse, ◌++◌, slice_index_or}
-use Rattle.std.specs.Prelude.{◌%◌}
+use Rattle.std.proofs.Common.{◌≡◌, ℕ, zero, suc, ◌*◌, ◌<◌, ◌≤◌, sym, refl, subst, arith, List, [], ◌∷◌, length, map, reverse, ◌++◌, slice_index_or}
 use Rattle.std.specs.List.{AllByRecursion}
 use Rattle.std.proofs.lemmas.List.{reverse-append}
 use Rattle.rota_core.specs.Certificates.{AreConditionsFor, IsCertificateFor, IsFactFor, IsLeafFor, IsNodeFor}
 use Rattle.rota_core.specs.PriceTables.{PriceTables, prices_of}
-use Rattle.rota_core.specs.Prices.{ArePrices, Prices}
+use Rattle.rota_core.specs.Prices.{ArePrices}
 use Rattle.rota_core.specs.Problem.{Problem}
 use Rattle.rota_core.specs.Roster.{Roster}
-use Rattle.rota_core.specs.Sizes.{Numbers}
 use Rattle.rota_core.specs.declared.certificate.Certificate.{Certificate}
 use Rattle.rota_core.specs.declared.certificate.ChargeKind.TheVariants.{ShiftRuns}
 use Rattle.rota_core.specs.declared.certificate.Condition.{Condition}
@@ -16,7 +14,7 @@ use Rattle.rota_core.specs.declared.certificate.Fact.{Fact}
 use Rattle.rota_core.specs.declared.certificate.Leaf.{Leaf}
 use Rattle.rota_core.specs.declared.certificate.Node.{Node}
 use Rattle.rota_core.specs.declared.certificate.Node.TheVariants as nodes
-use Rattle.rota_certificate.specs.CertificateBounds.{AreOptimal, HaveTables, Path, bound_at, case_of, lower_bound, minimums_bound, prices_of_leaf, rounded_up, thousandths}
+use Rattle.rota_certificate.specs.CertificateBounds.{HaveTables, Path, bound_at, case_of, lower_bound, minimums_bound, prices_of_leaf, rounded_up, thousandths}
 use Rattle.rota_certificate.specs.Facts.{Case, IsIn, Meets, charges_of_all, nurses_of}
 use Rattle.rota_certificate.specs.LeafBounds.{leaf_bound}
 use Rattle.rota_certificate.specs.Plans.{ArePeriod, KeepRules, Plan, plan_cost, plan_of}

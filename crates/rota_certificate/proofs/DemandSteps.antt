@@ -1,5 +1,5 @@
 -- The demand of a place in a case, condition by condition.
-use Rattle.std.proofs.Common.{◌≡◌, ℕ, ◌+◌, ◌<◌, ◌≤◌, ap, sym, ◌∙◌, arith, List, [], ◌∷◌, length, drop, slice_index_or}
+use Rattle.std.proofs.Common.{◌≡◌, ℕ, ◌+◌, ◌<◌, ◌≤◌, ap, length, drop, slice_index_or}
 use Rattle.std.proofs.lemmas.List.{drop_all}
 use Rattle.rota_core.specs.declared.certificate.Condition.{Condition}
 use Rattle.rota_certificate.specs.Facts.{Case}

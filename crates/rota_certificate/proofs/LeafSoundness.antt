@@ -1,30 +1,29 @@
 -- The bound of a leaf is at most the cost of each plan in its case.
-use Rattle.std.proofs.Common.{◌≡◌, ℕ, ◌+◌, ◌-◌, ◌*◌, ◌<◌, ◌≤◌, Bool, true, false, ap, sym, ◌∙◌, refl, subst, inl, inr, arith, List, [], ◌∷◌, length, map, reverse, ◌++◌}
-use Rattle.std.specs.Prelude.{◌/◌, ◌%◌, if◌then◌else◌}
-use Rattle.std.specs.List.{AllByRecursion, list_any}
+use Rattle.std.proofs.Common.{◌≡◌, ℕ, ◌+◌, ◌*◌, ◌<◌, ◌≤◌, false, ap, sym, ◌∙◌, refl, subst, inl, inr, arith, List, [], ◌∷◌, length}
+use Rattle.std.specs.List.{AllByRecursion}
 use Rattle.std.proofs.lemmas.Bool.{cases_Bool}
 use Rattle.rota_core.specs.Certificates.{AreConditionsFor}
-use Rattle.rota_core.specs.Sizes.{DAYS, Numbers}
+use Rattle.rota_core.specs.Sizes.{DAYS}
 use Rattle.rota_core.specs.SumsBelow.{sum_below}
 use Rattle.rota_core.specs.Roster.{Roster}
 use Rattle.rota_core.specs.Prices.{ArePrices, Prices, max_price}
 use Rattle.rota_core.specs.Problem.{Problem}
 use Rattle.rota_core.specs.declared.certificate.ChargeKind.{ChargeKind}
 use Rattle.rota_core.specs.declared.certificate.ChargeKind.TheVariants.{Assignments, ShiftRuns, Weekends, WorkDays}
-use Rattle.rota_certificate.specs.Facts.{Case, IsIn, charges_of_all, charges_of_nurse, nurses_of}
-use Rattle.rota_certificate.specs.LeafBounds.{added_prices, bound_of_leaf, leaf_bound, leaf_place_bounds, leaf_weeks, nurse_count}
+use Rattle.rota_certificate.specs.Facts.{Case, IsIn, charges_of_nurse, nurses_of}
+use Rattle.rota_certificate.specs.LeafBounds.{bound_of_leaf, leaf_bound, leaf_place_bounds, leaf_weeks, nurse_count}
 use Rattle.rota_certificate.specs.NurseBounds.{LeafWeek, nurse_bound}
 use Rattle.rota_certificate.specs.NurseCosts.{AllowsPlan, nurse_cost, paid_in_plan}
 use Rattle.rota_certificate.specs.Plans.{ArePeriod, KeepRules, Plan, plan_after, plan_cost, plan_of}
-use Rattle.rota_certificate.specs.Tariffs.{added, gained, has_overdrawn, lost, points_of, surcharged, tariff_of, weight}
+use Rattle.rota_certificate.specs.Tariffs.{has_overdrawn, points_of, surcharged, tariff_of, weight}
 use Rattle.rota_certificate.specs.declared.surcharges.Surcharged.{Surcharged}
 use Rattle.rota_certificate.specs.declared.tariffs.Tariff.{Tariff}
 use Rattle.rota_certificate.proofs.CaseChoices.{KeepEach, begins-at}
 use Rattle.rota_certificate.proofs.LeafWeeks.{allows-plan, have-nurses, places-within, plan-keeps, prices-within, weeks-same}
-use Rattle.rota_certificate.proofs.NursePart.{HavePrices, nurse-bounded, weeks_of}
+use Rattle.rota_certificate.proofs.NursePart.{nurse-bounded, weeks_of}
 use Rattle.rota_certificate.proofs.ParityPart.{rules_tariff}
 use Rattle.rota_certificate.proofs.PlanParts.{fixed_of, nurse_cost-is, optimum_of, plan_cost-is}
-use Rattle.rota_certificate.proofs.Sums.{sum-each, sum-le, sum-plus, sum-same, sum-times, sum-zero}
+use Rattle.rota_certificate.proofs.Sums.{sum-each, sum-le, sum-plus, sum-same, sum-times}
 use Rattle.rota_certificate.proofs.SurchargeSums.{AreMet, all_terms, case-met, surcharges-within}
 
 -- the first week has the number of nurses of a leaf, and of a plan

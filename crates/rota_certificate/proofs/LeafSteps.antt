@@ -1,16 +1,14 @@
 -- The sums of a leaf.
-use Rattle.std.proofs.Common.{◌≡◌, ℕ, ◌+◌, ◌*◌, ◌<◌, ◌≤◌, Bool, true, false, ap, sym, ◌∙◌, refl, arith, List, [], ◌∷◌, length}
+use Rattle.std.proofs.Common.{◌≡◌, ℕ, ◌+◌, ◌*◌, ◌≤◌, Bool, true, false, ◌∙◌, refl, arith, List, [], ◌∷◌, length}
 use Rattle.std.specs.Prelude.{Option, Some, None, if◌then◌else◌, map}
 use Rattle.std.proofs.Common.{mul-le-mul_left, mul-le-mul_right}
 use Rattle.std.proofs.lemmas.List.{length-map}
-use Rattle.rota_core.specs.Prices.{Prices, max_price}
+use Rattle.rota_core.specs.Prices.{Prices}
 use Rattle.rota_core.specs.Problem.{Problem}
-use Rattle.rota_core.specs.Sizes.{DAYS}
 use Rattle.rota_certificate.specs.Facts.{Case}
 use Rattle.rota_certificate.specs.LeafBounds.{leaf_weeks}
 use Rattle.rota_certificate.specs.Stages.{prices_lent, week_lent, weeks_of}
 use Rattle.rota_certificate.specs.declared.stages.LentLeaf.{LentLeaf}
-use Rattle.rota_certificate.specs.declared.tariffs.Tariff.{Tariff}
 
 weeks-length : (case : Case) (w : ℕ) (problems : List Problem) (prices : List Prices) → length (leaf_weeks case w problems prices) ≡ length problems
 unfolding leaf_weeks

@@ -1,7 +1,7 @@
 -- The weeks of a leaf, and the plan of rosters for them.
-use Rattle.std.proofs.Common.{◌≡◌, ℕ, zero, suc, ◌+◌, ◌*◌, ◌<◌, ◌≤◌, true, ap, sym, ◌∙◌, refl, subst, arith, add-one, List, [], ◌∷◌, length, map}
-use Rattle.std.specs.Prelude.{IfSome, Option, Some, slice_get, ⊤}
-use Rattle.std.specs.List.{AllByRecursion, sum_by}
+use Rattle.std.proofs.Common.{◌≡◌, ℕ, ◌+◌, ◌*◌, ◌<◌, ◌≤◌, true, ap, sym, ◌∙◌, refl, subst, arith, add-one, List, [], ◌∷◌, length, map}
+use Rattle.std.specs.Prelude.{IfSome, Option, Some, slice_get}
+use Rattle.std.specs.List.{AllByRecursion}
 use Rattle.std.proofs.lemmas.List.Sums.{sum_by-cons}
 use Rattle.rota_core.specs.Certificates.{AreConditionsFor}
 use Rattle.rota_core.specs.Sizes.{DAYS, Numbers}
@@ -12,15 +12,15 @@ use Rattle.rota_core.specs.Prices.{ArePrices, Prices}
 use Rattle.rota_core.specs.Problem.{Problem}
 use Rattle.rota_items.specs.rules.OptimalCoverage.Cost.{optimum_cost}
 use Rattle.rota_certificate.specs.Facts.{Case, IsIn, has_choice}
-use Rattle.rota_certificate.specs.LeafBounds.{leaf_place_bounds, leaf_weeks, may_choose, nurse_count}
+use Rattle.rota_certificate.specs.LeafBounds.{leaf_place_bounds, leaf_weeks, may_choose}
 use Rattle.rota_certificate.specs.NurseBounds.{LeafWeek}
 use Rattle.rota_certificate.specs.NurseCosts.{AllowsPlan, paid, paid_in_plan}
 use Rattle.rota_certificate.specs.PlaceCases.{case_place_bounds}
-use Rattle.rota_certificate.specs.Plans.{AreOfOneWard, ArePeriod, Continue, History, KeepRules, Plan, PlannedWeek, after, history_after, plan_after, plan_of}
-use Rattle.rota_certificate.proofs.CaseChoices.{BeginsAt, KeepEach, all-allowed, begins-at}
+use Rattle.rota_certificate.specs.Plans.{ArePeriod, Continue, History, KeepRules, Plan, PlannedWeek, after, history_after, plan_after, plan_of}
+use Rattle.rota_certificate.proofs.CaseChoices.{BeginsAt, KeepEach, all-allowed}
 use Rattle.rota_certificate.proofs.PlacePart.{case_place_bounds-within}
 use Rattle.rota_certificate.proofs.PlanParts.{HaveNurses, optimum_of}
-use Rattle.rota_certificate.proofs.Sums.{sum-plus, sum-same, sum-zero}
+use Rattle.rota_certificate.proofs.Sums.{sum-plus}
 
 -- ---- the weeks
 
@@ -90,7 +90,7 @@ module _ (plan : Plan) (numbers : Numbers) (weeks : ℕ) (case : Case) (are_for 
   allows-plan n w (problem ∷ problems) (first ∷ prices) (planned ∷ rest) n_in begins keep =
       (choices-allowed n w planned n_in begins.0 keep.0, allows-plan n (w + 1) problems prices rest n_in (rw add-one begins.1) keep.1)
 
--- ---- the places
+  -- ---- the places
 
   -- the prices of the cells of all nurses
   abbrev pub all_paid : List LeafWeek → Plan → ℕ

@@ -1,17 +1,15 @@
 -- The penalty of a roster, and the cost of a plan, by their parts: what all nurses cost, and a multiple of 10 but for the charges of shift runs.
-use Rattle.std.proofs.Common.{◌≡◌, ℕ, zero, suc, refl, ◌+◌, ◌-◌, ◌*◌, ◌&&◌, ◌<◌, ◌≤◌, ◌∙◌, ap, sym, cond, Bool, true, false, arith, List, [], ◌∷◌}
-use Rattle.std.specs.List.{sum_by}
-use Rattle.std.proofs.lemmas.List.Sums.{sum_by-cons}
+use Rattle.std.proofs.Common.{◌≡◌, ℕ, zero, suc, refl, ◌+◌, ◌-◌, ◌*◌, ◌&&◌, ◌∙◌, ap, cond, Bool, true, false, arith}
 use Rattle.rota_core.specs.Sizes.{DAYS}
 use Rattle.rota_core.specs.SumsBelow.{sum_below}
-use Rattle.rota_core.specs.HardRules.{is_off, is_on, nurses_at, works}
-use Rattle.rota_core.specs.Roster.{Roster, cell}
+use Rattle.rota_core.specs.HardRules.{is_off, nurses_at, works}
+use Rattle.rota_core.specs.Roster.{Roster}
 use Rattle.rota_core.specs.Problem.{Problem}
-use Rattle.rota_core.specs.declared.certificate.ChargeKind.TheVariants.{Assignments, ShiftRuns, Weekends, WorkDays}
+use Rattle.rota_core.specs.declared.certificate.ChargeKind.TheVariants.{ShiftRuns}
 use Rattle.rota_items.specs.Penalty.{penalty}
-use Rattle.rota_items.specs.Runs.{run_cost, run_over, run_under}
+use Rattle.rota_items.specs.Runs.{run_cost}
 use Rattle.rota_items.specs.rules.CompleteWeekends.Cost.{complete_weekend_cost_of, exactly_one}
-use Rattle.rota_items.specs.rules.ConsecutiveAssignments.Cost.{consecutive_assignment_cost_of, history_on}
+use Rattle.rota_items.specs.rules.ConsecutiveAssignments.Cost.{consecutive_assignment_cost_of}
 use Rattle.rota_items.specs.rules.ConsecutiveDaysOff.Cost.{consecutive_day_off_cost_of}
 use Rattle.rota_items.specs.rules.OptimalCoverage.Cost.{optimum_cost}
 use Rattle.rota_items.specs.rules.ShiftOffRequests.Cost.{request_weight}

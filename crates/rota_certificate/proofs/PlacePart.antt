@@ -1,8 +1,7 @@
 -- The places of a week in a case: the bound of a place is at most the cost of the missing nurses and the prices of the nurses at the place.
-use Rattle.std.proofs.Common.{◌≡◌, ℕ, ◌+◌, ◌-◌, ◌*◌, ◌<◌, ◌≤◌, ◌==◌, ◌&&◌, Bool, true, false, cond, ap, sym, ◌∙◌, inl, inr, arith, min, max, refl, List, [], ◌∷◌}
+use Rattle.std.proofs.Common.{◌≡◌, ℕ, ◌+◌, ◌-◌, ◌*◌, ◌<◌, ◌≤◌, ◌==◌, ◌&&◌, Bool, true, false, cond, ap, sym, ◌∙◌, inl, inr, arith, max, refl, [], ◌∷◌}
 use Rattle.std.proofs.Common.{mul-le-mul_left, mul-le-mul_right}
-use Rattle.std.specs.Prelude.{Option, Some, None, nat_le, slice_get}
-use Rattle.std.specs.Option.{option_map_or}
+use Rattle.std.specs.Prelude.{Some, nat_le, slice_get}
 use Rattle.std.proofs.lemmas.Bool.{cases_Bool, cases_lt, eqb-true, lt-ltb, le-ltb}
 use Rattle.std.proofs.lemmas.Bool.Decides.{nat_tests}
 use Rattle.rota_core.specs.Sizes.{DAYS}
@@ -11,18 +10,17 @@ use Rattle.rota_core.specs.HardRules.{nurses_at, KeepsMinimum}
 use Rattle.rota_core.specs.Roster.{Roster, cell}
 use Rattle.rota_core.specs.Problem.{Problem}
 use Rattle.rota_core.specs.Prices.{Prices}
-use Rattle.rota_core.specs.declared.certificate.Condition.{Condition}
 use Rattle.rota_core.specs.declared.certificate.Fact.{Fact}
 use Rattle.rota_core.specs.declared.certificate.Fact.TheVariants.{Charges, Choice, EvenShiftRuns, Nurses}
 use Rattle.rota_core.specs.declared.certificate.NurseLimit.{NurseLimit}
 use Rattle.rota_core.specs.declared.values.Demand.{Demand}
 use Rattle.rota_items.specs.rules.OptimalCoverage.Cost.{optimum_cost, optimum_weight}
-use Rattle.rota_certificate.specs.Facts.{Case, IsIn, Meets, is_fact}
+use Rattle.rota_certificate.specs.Facts.{Case, IsIn, is_fact}
 use Rattle.rota_certificate.specs.NurseCosts.{paid}
 use Rattle.rota_certificate.specs.PlaceBounds.{place_bound, place_cost}
 use Rattle.rota_certificate.specs.PlaceCases.{case_demand, case_place_bound, case_place_bounds, is_at, lowered_by, lowered_optimal, raised_by, raised_minimum}
 use Rattle.rota_certificate.specs.Plans.{Plan, PlannedWeek}
-use Rattle.rota_certificate.proofs.Sums.{sum-same, sum-times, cube, cube-same, cube-le, cube-plus, cube-times, cube-swap}
+use Rattle.rota_certificate.proofs.Sums.{sum-same, sum-times, cube-same, cube-le, cube-plus, cube-times, cube-swap}
 
 -- a cheap place has the optimal number of nurses
 cheap_place : (weight price least best nurses : ℕ) → price < weight → least ≤ nurses →

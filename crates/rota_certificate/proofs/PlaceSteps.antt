@@ -1,5 +1,5 @@
 -- The bounds of the places of a leaf, week by week.
-use Rattle.std.proofs.Common.{◌≡◌, ℕ, ◌+◌, ◌<◌, ◌≤◌, ap, sym, ◌∙◌, refl, arith, List, [], ◌∷◌, length, drop, slice_index_or}
+use Rattle.std.proofs.Common.{◌≡◌, ℕ, ◌+◌, ◌<◌, ◌≤◌, ap, List, length, drop, slice_index_or}
 use Rattle.rota_certificate.specs.LeafBounds.{leaf_place_bounds}
 use Rattle.rota_certificate.specs.NurseBounds.{LeafWeek}
 use Rattle.rota_certificate.specs.PlaceCases.{case_place_bounds}

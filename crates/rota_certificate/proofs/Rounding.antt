@@ -1,8 +1,8 @@
 -- The rounded bound of a case is at most the cost of each plan in it: the cost is a multiple of 5, and the parity of the charges of shift runs
 -- says which.
-use Rattle.std.proofs.Common.{◌≡◌, ℕ, ◌+◌, ◌-◌, ◌*◌, ◌<◌, ◌≤◌, ◌==◌, ◌||◌, Bool, true, false, ap, sym, ◌∙◌, refl, inl, inr, ◌⊎◌, arith, List, [], ◌∷◌}
+use Rattle.std.proofs.Common.{◌≡◌, ℕ, ◌+◌, ◌*◌, ◌≤◌, ◌==◌, ◌||◌, Bool, true, false, sym, ◌∙◌, refl, inl, inr, ◌⊎◌, arith, [], ◌∷◌}
 use Rattle.std.specs.Prelude.{◌/◌, ◌%◌}
-use Rattle.std.specs.List.{AllByRecursion, list_any}
+use Rattle.std.specs.List.{list_any}
 use Rattle.std.proofs.lemmas.Bool.{cases_Bool, eqb-true, eqb-false}
 use Rattle.rota_core.specs.declared.certificate.Condition.{Condition}
 use Rattle.rota_core.specs.declared.certificate.Fact.{Fact}

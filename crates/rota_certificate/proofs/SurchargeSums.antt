@@ -1,9 +1,9 @@
 -- The surcharges of a leaf: what they add to the charges of a plan of the case is at most what the bound loses, and what they take off is at
 -- least what it gains.
-use Rattle.std.proofs.Common.{◌≡◌, ℕ, zero, suc, ◌+◌, ◌-◌, ◌*◌, ◌<◌, ◌≤◌, ◌==◌, ◌&&◌, ◌||◌, ◌≢◌, ◌⊎◌, Bool, true, false, cond, ap, sym, ◌∙◌, inl, inr, arith, refl, subst, List, [], ◌∷◌}
+use Rattle.std.proofs.Common.{◌≡◌, ℕ, zero, suc, ◌+◌, ◌-◌, ◌*◌, ◌<◌, ◌≤◌, ◌==◌, ◌&&◌, ◌||◌, ◌⊎◌, Bool, true, false, cond, ap, sym, ◌∙◌, inl, inr, arith, refl, subst, List, [], ◌∷◌}
 use Rattle.std.proofs.Common.{mul-le-mul_left}
-use Rattle.std.specs.Prelude.{IfSome, Option, Some, None, nat_le, nat_lt, ◌%◌}
-use Rattle.std.specs.List.{AllByRecursion, list_any, sum_by}
+use Rattle.std.specs.Prelude.{Option, Some, None, ◌%◌}
+use Rattle.std.specs.List.{AllByRecursion}
 use Rattle.std.specs.Option.{ForSome, option_map_or}
 use Rattle.std.proofs.lemmas.Bool.{cases_Bool, eqb-true, eq-eqb, ne_eqb}
 use Rattle.std.proofs.lemmas.Bool.Decides.{nat_tests}
@@ -14,17 +14,14 @@ use Rattle.rota_core.specs.SumsBelow.{any_below, sum_below}
 use Rattle.rota_core.specs.declared.certificate.ChargeKind.{ChargeKind}
 use Rattle.rota_core.specs.declared.certificate.ChargeKind.TheVariants.{Assignments, ShiftRuns, Weekends, WorkDays}
 use Rattle.rota_core.specs.declared.certificate.ChargeLimit.{ChargeLimit}
-use Rattle.rota_core.specs.declared.certificate.Condition.{Condition}
 use Rattle.rota_core.specs.declared.certificate.Fact.{Fact}
 use Rattle.rota_core.specs.declared.certificate.Fact.TheVariants.{Charges, Choice, EvenShiftRuns, Nurses}
 use Rattle.rota_certificate.specs.Facts.{Case, IsIn, charges_counted, charges_of_all, charges_of_nurse, is_fact, nurses_of}
-use Rattle.rota_certificate.specs.Minimums.{not_allowed}
 use Rattle.rota_certificate.specs.Plans.{Plan}
 use Rattle.rota_certificate.specs.Tariffs.{added, added_by, counts, forbidden_by, gained, gained_by, has_overdrawn, is_forbidden, is_kind, is_overdrawn}
 use Rattle.rota_certificate.specs.Tariffs.{limit_of, lost, lost_by, over_limits, points_of, surcharged, taken, taken_by, weight}
 use Rattle.rota_certificate.specs.declared.surcharges.Surcharged.{Surcharged}
 use Rattle.rota_certificate.specs.declared.limits.Limit.{Limit}
-use Rattle.rota_certificate.specs.declared.limits.Limit.TheVariants.{AtMost, MoreThan}
 use Rattle.rota_certificate.proofs.PlacePart.{both}
 use Rattle.rota_certificate.proofs.Sums.{any-at, sum-at, sum-le, sum-plus, sum-same, sum-times, sum-zero, last_or_before}
 
@@ -132,8 +129,13 @@ module _ (plan : Plan) where
 
   no-terms : (f : ChargeKind → ℕ → ℕ) → ((kind : ChargeKind) (n : ℕ) → f kind n ≡ 0) → all_terms f ≡ 0
   no-terms f none =
-      sum-zero N (terms_of f) (λ n _. omega (arith, ap (λ (x : ℕ). x * c ShiftRuns n) (none ShiftRuns n), ap (λ (x : ℕ). x * c WorkDays n) (none WorkDays n),
-      ap (λ (x : ℕ). x * c Assignments n) (none Assignments n), ap (λ (x : ℕ). x * c Weekends n) (none Weekends n)))
+      sum-zero N (terms_of f) (λ n _. omega (
+        arith,
+        ap (λ (x : ℕ). x * c ShiftRuns n) (none ShiftRuns n),
+        ap (λ (x : ℕ). x * c WorkDays n) (none WorkDays n),
+        ap (λ (x : ℕ). x * c Assignments n) (none Assignments n),
+        ap (λ (x : ℕ). x * c Weekends n) (none Weekends n),
+      ))
 
   module _ (numbers : Numbers) (weeks : ℕ) (count : numbers.nurses ≡ N) where
     few : (limit : ChargeLimit) → ForSome limit.nurse (λ n. n < numbers.nurses) → ForSome limit.nurse (λ n. n < N)
@@ -183,8 +185,13 @@ module _ (plan : Plan) where
         let split : (kind : ChargeKind) (n : ℕ) → over_limits (f kind n) (one ∷ charges) ≡ here kind n + later kind n =
         λ kind n. sum_by-cons (λ (two : Surcharged). option_map_or (f kind n two.surcharge) (limit_of two.condition.fact two.condition.holds) 0) one charges in
         sum-same N _ (λ n. terms_of here n + terms_of later n)
-        (λ n _. omega (arith, ap (λ (x : ℕ). x * c ShiftRuns n) (split ShiftRuns n), ap (λ (x : ℕ). x * c WorkDays n) (split WorkDays n),
-        ap (λ (x : ℕ). x * c Assignments n) (split Assignments n), ap (λ (x : ℕ). x * c Weekends n) (split Weekends n))) ∙
+        (λ n _. omega (
+          arith,
+          ap (λ (x : ℕ). x * c ShiftRuns n) (split ShiftRuns n),
+          ap (λ (x : ℕ). x * c WorkDays n) (split WorkDays n),
+          ap (λ (x : ℕ). x * c Assignments n) (split Assignments n),
+          ap (λ (x : ℕ). x * c Weekends n) (split Weekends n),
+        )) ∙
         sum-plus N (terms_of here) (terms_of later)
 
     pub added-within : (charges : List Surcharged) → AreMet charges → all_terms (added charges) ≤ lost charges

@@ -1,6 +1,6 @@
 -- A tree of cases covers all plans: the minimum of its leaves' bounds is at most the cost of each plan, if the bound of each leaf is at most
 -- the cost of each plan in its case.
-use Rattle.std.proofs.Common.{◌≡◌, ℕ, ◌+◌, ◌≤◌, Bool, true, false, ap, sym, ◌∙◌, refl, inl, inr, ◌⊎◌, arith, cond, min, List, [], ◌∷◌}
+use Rattle.std.proofs.Common.{ℕ, ◌≤◌, Bool, true, false, inl, inr, ◌⊎◌, arith, cond, min, List, [], ◌∷◌}
 use Rattle.std.specs.Prelude.{Option, Some, None}
 use Rattle.std.specs.Option.{MatchOption, option_map_or}
 use Rattle.std.specs.List.{AllByRecursion}

@@ -70,12 +70,7 @@ fn added_prices(leaf: &LentLeaf<'_>) -> u64
 }
 
 // The bound of the leaf with these surcharges of its conditions.
-fn bound_of_leaf(
-    unit: u64,
-    leaf: &LentLeaf<'_>,
-    charges: &[Surcharged],
-    known: &mut Known,
-) -> u64
+fn bound_of_leaf(unit: u64, leaf: &LentLeaf<'_>, charges: &[Surcharged], known: &mut Known) -> u64
     requires unit_in { unit ≤ thousandths }
     requires leaf { IsLeaf leaf.now }
     requires case { IsLimitedCase leaf.now.case.now }

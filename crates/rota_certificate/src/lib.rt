@@ -1,4 +1,7 @@
-//! The lower bound that a certificate proves.
+//! The lower bound that a certificate proves: a tree of cases of the plans of one or more weeks, with prices for each case.
+//!
+//! The laws say what it means. `leaf_bound` is the bound of one case, `first_unmet` finds the first condition that a plan
+//! does not meet.
 #![tactic(auto, using(crate::proofs::Sums::looping))]
 
 // What a nurse's days are charged and cost, her rebates, and the choices that a case allows her.
@@ -31,9 +34,9 @@ mod tariffs;
 mod conditions;
 mod counted;
 
-pub use conditions::first_unmet;
-pub use leaves::leaf_bound;
 /// The laws of the bound.
 pub mod laws;
 
+pub use conditions::first_unmet;
+pub use leaves::leaf_bound;
 pub use stages::{LentLeaf, LentWeek};

@@ -58,13 +58,7 @@ fn place_bound(unit: u64, demand: Demand, price: u32) -> u64
 }
 
 // The bound of the place in the case, with the cost of the nurses that are missing in any event.
-fn case_place_bound(
-    unit: u64,
-    case: &[Condition],
-    place: Place,
-    demand: Demand,
-    price: u32,
-) -> u64
+fn case_place_bound(unit: u64, case: &[Condition], place: Place, demand: Demand, price: u32) -> u64
     requires unit_in { unit ≤ thousandths }
     requires limited { IsLimitedCase case.now }
     requires price_in { price ≤ max_price }

@@ -1,5 +1,5 @@
 use Rattle.std.proofs.Common.{◌≡◌, drop}
-use Rattle.rota_certificate.specs.LeafBounds.{allows, may_choose}
+use Rattle.rota_certificate.specs.LeafBounds.{may_choose}
 use Rattle.rota_certificate.proofs.allowed.may_choose.Given as goal
 
 -- the case allows the choice if the conditions that are left do

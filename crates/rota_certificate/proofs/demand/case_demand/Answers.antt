@@ -1,8 +1,6 @@
-use Rattle.std.proofs.Common.{rules, ◌≡◌, ℕ, ap, sym, ◌∙◌, arith, ◌+◌, ◌≤◌, drop, length}
-use Rattle.rota_core.specs.declared.values.Demand.{Demand}
+use Rattle.std.proofs.Common.{ℕ, ap, sym, ◌∙◌, arith, ◌+◌, ◌≤◌, drop, length}
 use Rattle.rota_certificate.specs.PlaceCases.{lowered_optimal, raised_minimum}
 use Rattle.rota_certificate.proofs.DemandSteps.{lowered-end, lowered-more, raised-end, raised-more}
-use Rattle.rota_certificate.proofs.ListSteps.{each-at}
 use Rattle.rota_certificate.proofs.demand.case_demand.Goals as goal
 
 pub loop-index-preserved : goal.loop-index-preserved

@@ -1,8 +1,6 @@
 use Rattle.std.proofs.Common.{arith, refl, ◌*◌, ◌≤◌, length}
 use Rattle.rota_core.specs.Prices.{max_price}
 use Rattle.rota_core.specs.Sizes.{DAYS}
-use Rattle.rota_certificate.specs.LeafBounds.{nurse_count}
-use Rattle.rota_certificate.specs.Stages.{weeks_of}
 use Rattle.rota_certificate.proofs.LeafSteps.{leaf-length, product-small}
 use Rattle.rota_certificate.proofs.leaves.added_prices.Goals as goal
 

@@ -1,4 +1,4 @@
-use Rattle.std.proofs.Common.{◌≡◌, ◌<◌, ap, arith, ◌∙◌, sym, ℕ, ◌≤◌}
+use Rattle.std.proofs.Common.{◌≡◌, ◌<◌, ap, arith, ◌∙◌, ℕ}
 use Rattle.rota_core.specs.SumsBelow.{sum_below}
 use Rattle.rota_certificate.specs.LeafBounds.{nurse_count}
 use Rattle.rota_certificate.specs.NurseBounds.{nurse_bound}

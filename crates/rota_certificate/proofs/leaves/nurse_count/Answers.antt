@@ -1,6 +1,4 @@
-use Rattle.std.proofs.Common.{ap, slice_index_or, ◌∙◌, sym}
-use Rattle.rota_certificate.specs.Stages.{week_lent}
-use Rattle.rota_certificate.specs.declared.stages.LentWeek.{LentWeek}
+use Rattle.std.proofs.Common.{◌∙◌, sym}
 use Rattle.rota_certificate.proofs.LeafStages.{count-first}
 use Rattle.rota_certificate.proofs.leaves.nurse_count.Goals as goal
 

@@ -1,4 +1,4 @@
-use Rattle.std.proofs.Common.{◌≡◌, ap, sym, ◌∙◌, arith, ◌++◌, ◌∷◌, [], List, drop, subst, ℕ, ◌+◌}
+use Rattle.std.proofs.Common.{ap, sym, ◌∙◌, arith, ◌++◌, ◌∷◌, [], List, drop, subst, ℕ, ◌+◌}
 use Rattle.std.proofs.lemmas.List.{append-nil, append_assoc}
 use Rattle.rota_certificate.specs.CaseLimits.{AreLimited}
 use Rattle.rota_certificate.specs.Tariffs.{surcharged}
