@@ -17,7 +17,7 @@ from ..week.writing import write_text
 # The part of the time in which prices are proved that may still become better.
 LAST_SHARE = 0.3
 # Seconds for the proof of a certificate if no time is left.
-PROOF_SECONDS = 5.0
+PROOF_SECONDS = 20.0
 # Seconds of a wait for a proof; a longer one is reported.
 WAIT_SECONDS = 1.0
 
