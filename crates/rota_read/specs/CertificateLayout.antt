@@ -1,5 +1,5 @@
 -- The slots of a certificate's file.
-use Rattle.std.specs.Prelude.{◌≡◌, ◌-◌, ◌||◌, bytes_eq, nat_lt, if◌then◌else◌}
+use Rattle.std.specs.Prelude.{◌≡◌, ◌-◌, ◌||◌, bytes_eq, nat_lt, if◌then◌else◌, ◌+◌, ◌*◌, ◌==◌, ◌&&◌, [], ◌∷◌, ◌++◌}
 use Rattle.rota_core.specs.Certificates.{IsCertificateFor}
 use Rattle.rota_core.specs.InstanceTables.{InstanceTables, problem_of}
 use Rattle.rota_core.specs.Limits.{max_price}
@@ -12,7 +12,7 @@ use Rattle.rota_read.specs.declared.certificate.NodeWord.{NodeWord}
 use Rattle.rota_read.specs.declared.certificate.NodeWord.TheVariants as words
 use Rattle.rota_read.specs.FactsLayout.{fact, keyword}
 use Rattle.rota_read.specs.Files.{Spells}
-use Rattle.rota_read.specs.Layout.{ℕ, ◌+◌, ◌*◌, ◌==◌, ◌&&◌, Option, Some, None, List, [], ◌∷◌, ◌++◌, map, codes, max_number}
+use Rattle.rota_read.specs.Layout.{ℕ, Option, Some, None, List, map, codes, max_number}
 use Rattle.rota_read.specs.Layout.{ScenarioTables, Layout, end, ◌>>=◌, exactly, number, any_word, repeat, setting}
 use Rattle.rota_read.specs.PricesLayout.{price_table}
 

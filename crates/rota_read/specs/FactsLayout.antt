@@ -1,5 +1,5 @@
 -- The slots of facts about a plan, and of a facts' file.
-use Rattle.std.specs.Prelude.{◌-◌, bytes_eq, if◌then◌else◌, Ok, Err}
+use Rattle.std.specs.Prelude.{◌-◌, bytes_eq, if◌then◌else◌, Ok, Err, [], ◌∷◌, ◌++◌}
 use Rattle.rota_core.specs.declared.certificate.ChargeKind.{ChargeKind}
 use Rattle.rota_core.specs.declared.certificate.ChargeKind.TheVariants.{ShiftRuns, WorkDays, Assignments, Weekends}
 use Rattle.rota_core.specs.declared.certificate.ChargeLimit.{ChargeLimit}
@@ -11,7 +11,7 @@ use Rattle.rota_core.specs.declared.certificate.NurseLimit.{NurseLimit}
 use Rattle.rota_core.specs.declared.fault.Kind.TheVariants as kinds
 use Rattle.rota_read.specs.declared.facts.FactWord.{FactWord}
 use Rattle.rota_read.specs.declared.facts.FactWord.TheVariants as words
-use Rattle.rota_read.specs.Layout.{ℕ, Bool, true, false, Option, Some, None, List, [], ◌∷◌, ◌++◌, codes, option_map_or, max_number, ScenarioTables}
+use Rattle.rota_read.specs.Layout.{ℕ, Bool, true, false, Option, Some, None, List, codes, option_map_or, max_number, ScenarioTables}
 use Rattle.rota_read.specs.Layout.{Layout, end, slot, ◌>>=◌, exactly, number, any_word, known_name, none_taken, day_names, shift_or, repeat, setting}
 
 -- a token that has a meaning here; the value is this meaning
