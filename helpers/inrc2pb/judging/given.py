@@ -17,7 +17,7 @@ def read_given(path: PathLike, scenario: Scenario, text: Optional[str] = None) -
     for claim in claims:
         if not _is_kept(claim):
             words = f"{'HOLDS' if claim.holds else 'NOT'} {fact_text(claim.fact)}"
-            raise FileFault(path, 0, f"'{words}' is neither an absence nor a limit of a nurse: remove it; inrc2pb-bound alone takes it")
+            raise FileFault(path, 0, f"'{words}' is neither an absence nor a limit of a nurse: remove it")
     return claims
 
 

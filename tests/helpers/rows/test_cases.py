@@ -20,6 +20,7 @@ from inrc2pb.programs.clock import Clock, TimeIsOver
 from inrc2pb.solvers.answers import SolverFault
 from inrc2pb.solvers.linear_solvers import LinearSolvers
 from inrc2pb.rows.plan import Plan
+from inrc2pb.rows.row_arrays import numpy
 from inrc2pb.rows.pricing import MAX_PRICE
 from inrc2pb.programs.processes import Processes
 from inrc2pb.rows.row_run import RowRun
@@ -169,6 +170,7 @@ class Improve(HelperTest):
         self.assertTrue(report.endswith(lines), report)
         self.assertTrue(prices.read_text().startswith("CASES\ncases\n\nOFF = "), said)
 
+    @unittest.skipUnless(numpy is not None, "needs NumPy")
     def test_a_proof_by_a_tree_of_cases(self):
         by_file = f"for file; do :; done; grep -q SPLIT $file && echo lower bound {BEST} || echo lower bound {BY_PRICES}"
         report, said, prices = self.improve(by_file, "--proof")

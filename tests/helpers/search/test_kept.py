@@ -129,7 +129,7 @@ class Given(HelperTest):
         ):
             with self.assertRaises(FileFault) as found:
                 read_given(self.facts(claim), WARD)
-            self.assertEqual(found.exception.message, f"'{words}' is neither an absence nor a limit of a nurse: remove it; inrc2pb-bound alone takes it")
+            self.assertEqual(found.exception.message, f"'{words}' is neither an absence nor a limit of a nurse: remove it")
 
 
 class Commands(HelperTest):
@@ -175,7 +175,7 @@ class Commands(HelperTest):
         self.assert_fault(run("check", "--sce", SCENARIO, *given), "inrc2pb-check: --given needs the whole week: give --sce, --his and --week")
         self.assert_fault(run("table", *given, ROSTER), "inrc2pb-table: --given needs --sce and --week: give them too")
         wrong = self.give(Claim(Choice(2, "Chen", 4, "Day")))
-        line = f"{self.facts}: 'HOLDS CHOICE 2 Chen Fri Day' is neither an absence nor a limit of a nurse: remove it; inrc2pb-bound alone takes it"
+        line = f"{self.facts}: 'HOLDS CHOICE 2 Chen Fri Day' is neither an absence nor a limit of a nurse: remove it"
         self.assert_fault(run("improve", *WEEK_OPTIONS, *wrong, "--sol", self.folder / "r.txt", "--time", 1), f"inrc2pb-improve: {line}")
 
     @unittest.skipUnless(HAS_CBC, "needs cbc")
