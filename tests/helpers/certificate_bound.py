@@ -22,7 +22,7 @@ from inrc2pb.week.files import read_history, read_scenario, read_week  # noqa: E
 from inrc2pb.week.records import DAYS, Cell, History, Place, Requirement, Scenario, Week, WeekData  # noqa: E402
 
 POINT, MISSING, NEVER = 1000, 30, 1 << 60
-# The weight of each kind of charges, and where the rules charge them.
+# The weight of each kind of charges, and the rules that charge them.
 WEIGHTS = {"SHIFT_RUNS": 15, "WORK_DAYS": 30, "SHIFTS": 20, "WEEKENDS": 30}
 KINDS = tuple(WEIGHTS)
 CHARGED = {("S2", "shift"): "SHIFT_RUNS", ("S2", "work above"): "WORK_DAYS", ("S6", "above"): "SHIFTS", ("S7", "above"): "WEEKENDS"}

@@ -62,7 +62,7 @@ for_each_command() {
 
 # The texts in the table of faults in docs/answers.md.
 fault_texts() {
-    # shellcheck disable=SC2016  # The backquotes are those of the page.
+    # shellcheck disable=SC2016  # The page has these backquotes.
     awk -F '|' '/^\| fault \| text \|/ { inside = 1; next } inside && !/^\|/ { exit } inside { print $3 }' docs/answers.md |
         grep -oE '`[^`]+`' | tr -d '`' | sed 's/[: ]*$//'
 }

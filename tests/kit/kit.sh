@@ -53,20 +53,20 @@ begins_case() {
     checked=$((checked + 1))
 }
 
-# skips CASES WHY: so many cases are not tried.
+# skips CASES WHY: this number of cases is not tried.
 skips() {
     echo "skipped: $script: $2 ($1)"
     skipped=$((skipped + $1))
 }
 
-# has COMMAND [CASES]: the command is installed; else so many cases, or one, are skipped.
+# has COMMAND [CASES]: the command is installed; otherwise this number of cases, or one, is skipped.
 has() {
     command -v "$1" > /dev/null && return
     skips "${2:-1}" "needs $1"
     return 1
 }
 
-# Tells the cases. In a run of all scripts their numbers also go to the file that $TALLY names.
+# Prints the numbers of cases. In a run of all scripts they also go to the file that $TALLY names.
 finish() {
     echo "$script: $checked cases, $failed failed, $skipped skipped"
     [ -z "${TALLY:-}" ] || echo "$checked $failed $skipped" > "$TALLY"

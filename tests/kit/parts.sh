@@ -72,7 +72,7 @@ all_scripts() {
 
 count_of_all() { echo "$passed passed, $failed failed, $skipped skipped"; }
 
-# Prints the table, what was skipped and why, and in the last line how many cases passed, failed and were skipped.
+# Prints the table, the skipped cases with their reasons, and in the last line how many cases passed, failed and were skipped.
 print_parts() {
     printf '\n%-28s %8s %12s %8s %7s %8s\n' script 'wall s' 'processor s' passed failed skipped
     if ls "$parts"/101 > /dev/null 2>&1; then

@@ -22,7 +22,7 @@ quiet_apt() {
     DEBIAN_FRONTEND=noninteractive timeout 900 apt-get -qq -y -o Acquire::http::Timeout=20 -o Acquire::Retries=1 "$@" > /dev/null 2>&1
 }
 
-# Installs what is missing, as root, where there is apt-get. What cannot be installed is skipped later.
+# Installs the missing tools, if the user is root and has apt-get. Cases that need a missing tool are skipped later.
 install_tools() {
     local packages package
     mapfile -t packages < <(missing_packages)

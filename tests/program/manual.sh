@@ -156,7 +156,7 @@ names_the_same_of() {
 is_manual() {
     if has mandoc; then
         begins_case "the manual page $1 in mandoc"
-        # What it says of other pages depends on the machine.
+        # Its messages about other pages depend on the machine.
         mandoc -Tlint "$1" 2> /dev/null | grep -v ' STYLE: referenced manual not found' && complain 'mandoc complains'
     fi
     if ! man --version 2> /dev/null | grep -q man-db; then

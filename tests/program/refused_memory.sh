@@ -7,7 +7,7 @@
 # A refused run of the program ends as `out of memory` with nothing written. The only exceptions are growths ahead of need,
 # by std's `collect` and in clap's suggestions: such a run goes on without the room, and ends just as a run with ample
 # memory does. A test of a run, a reader, a roster, truth values or an answer always passes. Its first line says that memory
-# ran out, whatever fault comes later in the files, or, without a refusal, what the test found.
+# ran out, whatever fault comes later in the files; without a refusal it has the findings of the test.
 #
 # Also runs the tests of `run_tests` and `call_tests`, as LLVM builds them. Needs bash, the usual tools of a shell,
 # and a C compiler: $CC, else cc, else the clang of Rattle's kit.
@@ -111,7 +111,7 @@ sweeps_test() {
 }
 table() { sweeps_test "$PWD/$tables" "refused_tables::$1" "$2"; }
 
-# sweeps_runs LINE..: sweeps the test of many runs, each of which finds this.
+# sweeps_runs LINE..: sweeps the test of many runs; each run finds these lines.
 sweeps_runs() {
     printf '%s\n' "$@" > "$room/found"
     begins_case 'refused_memory::runs'

@@ -1,4 +1,4 @@
--- The words of the command line, and what they give.
+-- The words of the command line, and the job that they give, or the reason why they give none.
 use Rattle.std.specs.Prelude.{List, Result, Ok, Err, map, string_bytes}
 use Rattle.std.specs.Vec.Iter.{into_iter_items}
 use Rattle.std.specs.declared.io.Error.{Error}

@@ -39,7 +39,7 @@ period_nurse_bound unit (first ∷ later) n = least_period unit (first ∷ later
 abbrev pub period_place_bounds : ℕ → List WeekPrices → ℕ
 period_place_bounds unit weeks = sum_by (λ one. place_bounds unit one.week one.prices) weeks
 
--- the number of nurses of the first week, which is that of each
+-- the number of nurses of the first week; all weeks have the same
 abbrev pub nurse_count : List WeekPrices → ℕ
 nurse_count [] = 0
 nurse_count (first ∷ later) = first.week.nurses

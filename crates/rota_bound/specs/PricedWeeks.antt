@@ -12,7 +12,7 @@ use Rattle.rota_bound.specs.declared.periods.PricedWeek.{PricedWeek}
 abbrev pub priced_of : PricedWeek → WeekPrices
 priced_of one = record { week = problem_of one.instance; prices = prices_of one.prices }
 
--- the weeks make a period of at most as many weeks as a scenario may span, and the prices of each are for it
+-- the weeks make a period of at most `max_weeks` weeks, and the prices of each week are for it
 pub record ArePricedPeriod (weeks : List PricedWeek) : Type 0 where
   pub count : length weeks ≤ max_weeks
   pub period : ArePeriod (weeks_of (map priced_of weeks))

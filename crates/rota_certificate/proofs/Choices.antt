@@ -1,4 +1,4 @@
--- The choice of a roster that keeps the hard rules, on each day of a nurse: the recursion lets the nurse choose so.
+-- On each day of a nurse, a roster that keeps the hard rules has a choice that the recursion lets her make.
 use Rattle.std.proofs.Common.{◌≡◌, ℕ, suc, ◌+◌, ◌-◌, ◌<◌, ◌≤◌, inl, inr, Bool, true, false, not, refl, ap, sym, ◌∙◌, arith, add-one}
 use Rattle.std.proofs.Common.{◌||◌}
 use Rattle.std.specs.Prelude.{IfSome, Option, Some, None}
@@ -96,7 +96,7 @@ module _ (terms : Terms) (one : LeafWeek) (roster : Roster) (n : ℕ) (within : 
 
   -- ---- the minimum is at most the value of the roster's choice
 
-  -- what the choice costs and takes of the maximum price, and the value of the rest
+  -- the cost of the choice, its rebate, and the value of the rest
   abbrev pub chosen_value : (day : ℕ) → Past → (rest : Past → ℕ) → Option ℕ → ℕ
   chosen_value d past rest choice =
       day_cost terms.unit terms.tariff terms.charged problem n d past choice + day_rebate problem prices n d choice +

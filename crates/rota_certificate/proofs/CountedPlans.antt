@@ -26,7 +26,7 @@ use Rattle.rota_certificate.proofs.Tables.{history-near}
 abbrev charges_of : ChargeKind → (nurse : ℕ) → PlannedWeek → ℕ
 charges_of kind n one = charges_in_week kind one.week one.roster n
 
--- this sum is of the weeks before the one with this number, and this is the nurse's past before it
+-- the sum counts the charges of the weeks before week i, and the past is the nurse's before week i
 pub record CountsFrom (kind : ChargeKind) (weeks : List Problem) (rosters : List Roster) (n i sum : ℕ) (past : Past) : Type 0 where
   pub history : History
   pub here : history n ≡ past
@@ -155,7 +155,7 @@ near-begin weeks one n past some is past_is period limits =
     near-as (problem_of one).numbers (numbers_in weeks) 0 past (numbers-of weeks 0 one some is period)
     (subst (λ (p : Past). IsNear (problem_of one).shifts 0 p) (sym past_is) (history-near one limits n))
 
--- no weeks have no charges
+-- without a week there are no charges
 pub none-of-all : (kind : ChargeKind) (weeks : List InstanceTables) (rosters : List RosterTables) → length weeks ≡ 0 →
     0 ≡ charges_of_all kind (plan_from weeks rosters)
 none-of-all kind [] rosters none = sym (sum-none (charges_of_nurse kind []))
@@ -198,7 +198,7 @@ pub chosen-in : (choice : Option ℕ) (shifts : ℕ) → ForSome choice (λ s. s
 chosen-in None shifts each = tt
 chosen-in (Some s) shifts each = each s refl
 
--- a choice of a day is in the plan as in its week
+-- the plan and its week agree on a choice of a day
 pub choice-at : (plan : Plan) (w n d : ℕ) (choice : Option ℕ) (week : Problem) (roster : Roster) → IsPlannedAt plan w week roster →
     has_choice week roster n d choice ≡ week_passes plan w (λ one. has_choice one.week one.roster n d choice)
 choice-at plan w n d None week roster at =
@@ -206,7 +206,7 @@ choice-at plan w n d None week roster at =
 choice-at plan w n d (Some s) week roster at =
     sym (ap (λ (one : Option PlannedWeek). option_map_or (λ p. has_choice p.week p.roster n d (Some s)) one false) at.is)
 
--- and so is a number of nurses
+-- and on a limit of nurses
 pub nurses-in : (plan : Plan) (w d s k most : ℕ) (week : Problem) (roster : Roster) → IsPlannedAt plan w week roster →
     nat_le (nurses_at week roster d s k) most ≡ week_passes plan w (λ one. nat_le (nurses_at one.week one.roster d s k) most)
 nurses-in plan w d s k most week roster at =

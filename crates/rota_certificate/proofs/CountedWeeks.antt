@@ -112,7 +112,7 @@ module _ (week : Problem) (roster : Roster) (n : ℕ) (keeps : KeepsHardRules we
   week-counted Assignments = omega (arith, assignments-counted, sum-zero DAYS (λ d. run_charges Assignments week n (past_at d) (choice_on week roster n d)) (λ d d_in. refl))
   week-counted Weekends = omega (arith, weekends-counted, sum-zero DAYS (λ d. run_charges Weekends week n (past_at d) (choice_on week roster n d)) (λ d d_in. refl))
 
--- the same, from what is known of the nurse's history alone
+-- the same, given only this nurse's part of the history
 pub after-counted : (week : Problem) (roster : Roster) (n : ℕ) (past : Past) (history : History) → history n ≡ past →
     KeepsHardRules (after week history) roster → n < week.nurses → (kind : ChargeKind) →
     runs_on kind week roster n past DAYS + total_charges kind week n past (past_on week roster n past DAYS) ≡

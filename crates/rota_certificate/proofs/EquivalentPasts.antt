@@ -144,7 +144,7 @@ module _ (problem : Problem) (n : ℕ) (past other : Past) (equivalent : AreEqui
 
 module _ (terms : Terms) (one : LeafWeek) (n : ℕ) (past other : Past) (equivalent : AreEquivalent one.week n past other) where
   module _ (d : ℕ) (rest : Past → ℕ) (same : IsSameForEquivalent one.week n rest) where
-    -- the value of a choice that is barred or not, from the cost of the day and of what comes after it
+    -- the value of a choice that is barred or not, from the cost of the day and of the time after it
     abbrev value : Option ℕ → (barred : Bool) (cost after : ℕ) → ℕ
     value choice barred cost after = cond barred not_allowed (cost + allowed_rebate one n d choice + after)
 
@@ -201,7 +201,7 @@ same-limits-back : (one other : Problem) → HaveSameLimits one other → HaveSa
 same-limits-back one other same = record { limits = λ s. sym (same.limits s); contract = λ n. sym (same.contract n) }
 
 module _ (terms : Terms) (n : ℕ) where
-  -- the cost of what comes after a week, if it and the later weeks have the limits of the problem
+  -- the cost of the time after a week, if it and the later weeks have the limits of the problem
   pub rest_after-equivalent : (problem week : Problem) (later : List LeafWeek) → HaveSameLimits problem week →
       AllByRecursion (λ (one : LeafWeek). HaveSameLimits problem one.week) later →
       IsSameForEquivalent problem n (rest_after terms week later n)

@@ -91,7 +91,7 @@ module _ (first : Problem) (later : List Problem) (rosters : List Roster) (perio
   nurses_are : nurses_of plan ≡ nurses
   nurses_are = nurses-are first later rosters keep.count
 
-  -- what all nurses cost with tariffs, by their charges
+  -- the cost of all nurses with tariffs, by their charges
   costs-are : (tariff : ℕ → Tariff) (f : ChargeKind → ℕ → ℕ) →
       ((n : ℕ) → tariff n ≡ record { shift_runs = f ShiftRuns n; work_days = f WorkDays n; assignments = f Assignments n; weekends = f Weekends n }) →
       sum_below nurses (λ n. nurse_cost unit (tariff n) plan n) ≡ all_terms plan f + unit * sum_below nurses (fixed_of plan)

@@ -12,7 +12,7 @@ use Rattle.rota_certificate.specs.declared.stages.LentLeaf.{LentLeaf}
 use Rattle.rota_certificate.specs.declared.stages.LentWeek.{LentWeek}
 use Rattle.rota_certificate.specs.declared.stages.Stage.{Stage}
 
--- a property of each element is one of the element at an index
+-- a property of each element holds for the element at an index
 pub all-at : {X : Type 0} (P : X → Type 0) (xs : List X) (i : ℕ) (d : X) → AllByRecursion P xs → i < length xs → P (slice_index_or xs i d)
 all-at P [] i d all inside = absurd (omega arith)
 all-at P (x ∷ xs) zero d all inside = all.0
@@ -131,7 +131,7 @@ first-fit : (weeks : List LentWeek) (d : LentWeek) → 0 < length weeks → AreF
 first-fit [] d some fit = absurd (omega arith)
 first-fit (first ∷ later) d some fit = fit
 
--- the number of nurses of the leaf is that of its first week
+-- the number of nurses of the leaf, from its first week
 pub count-first : (leaf : LentLeaf) (d : LentWeek) → 0 < length leaf.weeks.now →
     nurse_count (weeks_of leaf) ≡ (week_lent (slice_index_or leaf.weeks.now 0 d)).nurses
 count-first leaf d some = ap nurse_count (drop-lent leaf 0 d some)

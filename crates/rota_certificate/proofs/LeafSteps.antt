@@ -21,7 +21,7 @@ pub leaf-length : (leaf : LentLeaf) → length (weeks_of leaf) ≡ length leaf.w
 leaf-length leaf =
     weeks-length leaf.case.now 0 (map week_lent leaf.weeks.now) (map prices_lent leaf.weeks.now) ∙ length-map leaf.weeks.now week_lent
 
--- no tariff is there only if the test is passed
+-- if no value is found, the test is passed
 pub none-passes : {X : Type 0} (test : Bool) (x : X) (found : Option X) → found ≡ (if test then None else Some x) → found ≡ None → test ≡ true
 none-passes true x found is none = refl
 none-passes false x found is none = absurd (cc (is, none))

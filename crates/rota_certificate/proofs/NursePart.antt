@@ -42,13 +42,13 @@ excess_for is_early is_last maximum before now = cond is_early (added_excess max
 abbrev with_totals : Past → (assigned worked : ℕ) → Past
 with_totals past assigned worked = record past { assignments = past.assignments + assigned; weekends = past.weekends + worked }
 
--- what the excess of a week's totals costs
+-- the cost of the excess of a week's totals
 abbrev excess_cost : (is_early is_last : Bool) → Tariff → Contract → Past → (assigned worked : ℕ) → ℕ
 excess_cost is_early is_last tariff contract past assigned worked =
     tariff.assignments * excess_for is_early is_last contract.total.max past.assignments assigned +
     tariff.weekends * excess_for is_early is_last contract.weekends past.weekends worked
 
--- what the last week pays for the excess of the past
+-- the cost of the past's excess, if the last week pays for it
 abbrev due : (is_early is_last : Bool) → Tariff → Contract → Past → ℕ
 due is_early is_last tariff contract past = totals_charged (not is_early && is_last) tariff contract past
 
@@ -56,7 +56,7 @@ due is_early is_last tariff contract past = totals_charged (not is_early && is_l
 abbrev passed : (is_early is_last : Bool) → Tariff → Contract → Past → ℕ
 passed is_early is_last tariff contract past = totals_charged (is_early || is_last) tariff contract past
 
--- with `--early`, the week pays for what passes the maximum in it
+-- with `--early`, the week pays for the excess that it adds
 excess-early : (is_last : Bool) (tariff : Tariff) (contract : Contract) (past : Past) (assigned worked : ℕ) →
     totals_above tariff contract (with_totals past assigned worked) ≡
     excess_cost true is_last tariff contract past assigned worked + totals_above tariff contract past
@@ -67,7 +67,7 @@ excess-early is_last tariff contract past assigned worked =
     added_excess contract.weekends past.weekends worked + (past.weekends - contract.weekends) = omega arith in
     omega (arith, ap (λ (c : ℕ). tariff.assignments * c) a, ap (λ (c : ℕ). tariff.weekends * c) w)
 
--- the last of the weeks pays for what is due, and for what passes the maximum in it
+-- the last of the weeks pays for the past's excess, if that is due, and for the excess that it adds
 excess-last : (is_early is_last : Bool) (tariff : Tariff) (contract : Contract) (past : Past) (assigned worked : ℕ) →
     due is_early is_last tariff contract past + passed is_early is_last tariff contract (with_totals past assigned worked) ≡
     excess_cost is_early is_last tariff contract past assigned worked + passed is_early is_last tariff contract past
@@ -75,7 +75,7 @@ excess-last true is_last tariff contract past assigned worked = omega (arith, ex
 excess-last false true tariff contract past assigned worked = omega arith
 excess-last false false tariff contract past assigned worked = omega arith
 
--- an earlier week pays with `--early`, and otherwise leaves what is due; `is_last` is of the last of the weeks
+-- an earlier week pays with `--early`, and otherwise leaves the excess due; `is_last` is about the last of the weeks
 excess-earlier : (is_early is_last : Bool) (tariff : Tariff) (contract : Contract) (past : Past) (assigned worked : ℕ) →
     due is_early is_last tariff contract past + passed is_early is_last tariff contract (with_totals past assigned worked) ≡
     excess_cost is_early false tariff contract past assigned worked + passed is_early is_last tariff contract past +
@@ -92,7 +92,7 @@ pub record IsCharged (is_early is_last : Bool) (contract : Contract) (n : ℕ) (
   pub last : week.is_last ≡ is_last
   pub contract_is : week.contract n ≡ contract
 
--- and about weeks; `is_last` is of the last of them
+-- the same facts about some weeks; `is_last` is about the last of them
 AreCharged : (is_early is_last : Bool) → Contract → ℕ → LeafWeek → List LeafWeek → Type 0
 AreCharged is_early is_last contract n one [] = IsCharged is_early is_last contract n one.week
 AreCharged is_early is_last contract n one (next ∷ later) =
@@ -154,7 +154,7 @@ module _ (unit : ℕ) (tariff : Tariff) (n : ℕ) (is_early is_last : Bool) (con
   abbrev cost_in : PlannedWeek → ℕ
   cost_in one = tariff_cost tariff one.week one.roster n + unit * fixed_cost one.week one.roster n
 
-  -- what the week charges for totals above the maximums, by the facts
+  -- the cost of the excess in the week, by the facts
   abbrev excess_of : (last_of_scenario : Bool) → Problem → Roster → ℕ
   excess_of last_of_scenario week roster =
       excess_cost is_early last_of_scenario tariff contract (week.past n) (assignments_of week roster n) (worked_weekend week roster n)

@@ -1,4 +1,4 @@
--- The penalty of a roster, and the cost of a plan, by their parts: what all nurses cost, and a multiple of 10 but for the charges of shift runs.
+-- The parts of a roster's penalty: the costs of places and nurses; and also the cost of the charges of shift runs, and a multiple of 10.
 use Rattle.std.proofs.Common.{◌≡◌, ℕ, zero, suc, refl, ◌+◌, ◌-◌, ◌*◌, ◌&&◌, ◌∙◌, ap, cond, Bool, true, false, arith}
 use Rattle.rota_core.specs.Sizes.{DAYS}
 use Rattle.rota_core.specs.SumsBelow.{sum_below}
@@ -37,7 +37,7 @@ weekend-tenth true = refl
 weekend-tenth false = refl
 
 module _ (problem : Problem) (roster : Roster) where
-  -- what the nurse costs by S2 to S7
+  -- the cost of the nurse by S2 to S7
   abbrev pub week_cost : ℕ → ℕ
   week_cost n =
       consecutive_assignment_cost_of problem roster n + consecutive_day_off_cost_of problem roster n + request_weight * requests_of problem roster n +
@@ -52,14 +52,14 @@ module _ (problem : Problem) (roster : Roster) where
       let requests = sum-times problem.nurses request_weight (requests_of problem roster) in
       omega (arith, parts, requests)
 
-  -- what the nurse costs is her fixed cost, and her charges by the tariff of the rules
+  -- the cost of the nurse is the cost of her charges by the tariff of the rules, and her fixed cost
   pub week_cost-is : (unit n : ℕ) →
       unit * week_cost n ≡ tariff_cost (rules_tariff unit) problem roster n + unit * fixed_cost problem roster n
   week_cost-is unit n =
       let parts : week_cost n ≡ tariff_cost (rules_tariff 1) problem roster n + fixed_cost problem roster n = omega arith in
       ap (λ (c : ℕ). unit * c) parts ∙ omega arith
 
-  -- a tenth of what the nurse costs without her charges of shift runs
+  -- a tenth of the nurse's cost without her charges of shift runs
   abbrev tenths_of : ℕ → ℕ
   tenths_of n =
       3 * run_cost (works problem roster n) (problem.past n).work_run (problem.contract n).work +

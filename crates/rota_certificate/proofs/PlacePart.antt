@@ -101,7 +101,7 @@ module _ (plan : Plan) (w : ℕ) (planned : PlannedWeek) (here : slice_get plan 
       raised-within case (raised_by condition.fact condition.holds w d s k minimum) is_in.1
       (raised-step condition.fact condition.holds minimum is_in.0 enough)
 
-  -- the missing nurses below a lowered optimal number, and those given up above it, are missing
+  -- the shortage below a lowered optimal number, and the number by which it is lowered, are together at most the whole shortage
   abbrev IsLowered : (optimal lowered : ℕ) → Type 0
   IsLowered optimal lowered = (lowered - nurses_here) + (optimal - lowered) ≤ optimal - nurses_here
 

@@ -18,7 +18,7 @@ use Rattle.rota_certificate.proofs.Sums.{sum-plus, sum-same, sum-times, sum-zero
 abbrev pub optimum_of : Plan → ℕ
 optimum_of plan = sum_by (λ one. optimum_cost one.week one.roster) plan
 
--- what the nurse costs in all weeks by the charges that no case limits
+-- the cost of the nurse in all weeks by the charges that no case limits
 abbrev pub fixed_of : Plan → (nurse : ℕ) → ℕ
 fixed_of plan n = sum_by (λ one. fixed_cost one.week one.roster n) plan
 

@@ -1,5 +1,5 @@
--- The rounded bound of a case is at most the cost of each plan in it: the cost is a multiple of 5, and the parity of the charges of shift runs
--- says which.
+-- The rounded bound of a case is at most the cost of each plan in it: the cost is a multiple of 5, and the parity of the charges of
+-- shift runs says whether it is a multiple of 10.
 use Rattle.std.proofs.Common.{◌≡◌, ℕ, ◌+◌, ◌*◌, ◌≤◌, ◌==◌, ◌||◌, Bool, true, false, sym, ◌∙◌, refl, inl, inr, ◌⊎◌, arith, [], ◌∷◌}
 use Rattle.std.specs.Prelude.{◌/◌, ◌%◌}
 use Rattle.std.specs.List.{list_any}

@@ -13,7 +13,7 @@ use Rattle.rota_certificate.specs.declared.stages.LentWeek.{LentWeek}
 use Rattle.rota_certificate.specs.declared.stages.Stage.{Stage}
 use Rattle.rota_certificate.proofs.EquivalentPasts.{least_days-equivalent, rest_after-equivalent}
 
--- a property of each week that is lent is one of each week of the leaf
+-- a property of each lent week holds for each week of the leaf
 leaf-all : (P : Problem → Type 0) (case : Case) (w : ℕ) (weeks : List LentWeek) → AllByRecursion (λ (one : LentWeek). P (week_lent one)) weeks →
     AllByRecursion (λ (one : LeafWeek). P one.week) (leaf_weeks case w (map week_lent weeks) (map prices_lent weeks))
 unfolding leaf_weeks

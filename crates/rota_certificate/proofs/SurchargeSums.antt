@@ -1,5 +1,5 @@
--- The surcharges of a leaf: what they add to the charges of a plan of the case is at most what the bound loses, and what they take off is at
--- least what it gains.
+-- The surcharges of a leaf: for a plan of the case, they add at most the loss of the bound to the costs of the charges, and take off at
+-- least its gain.
 use Rattle.std.proofs.Common.{◌≡◌, ℕ, zero, suc, ◌+◌, ◌-◌, ◌*◌, ◌<◌, ◌≤◌, ◌==◌, ◌&&◌, ◌||◌, ◌⊎◌, Bool, true, false, cond, ap, sym, ◌∙◌, inl, inr, arith, refl, subst, List, [], ◌∷◌}
 use Rattle.std.proofs.Common.{mul-le-mul_left}
 use Rattle.std.specs.Prelude.{Option, Some, None, ◌%◌}
@@ -25,7 +25,7 @@ use Rattle.rota_certificate.specs.declared.limits.Limit.{Limit}
 use Rattle.rota_certificate.proofs.PlacePart.{both}
 use Rattle.rota_certificate.proofs.Sums.{any-at, sum-at, sum-le, sum-plus, sum-same, sum-times, sum-zero, last_or_before}
 
--- the kinds' terms of a limit are those of its kind
+-- the sum over the kinds has only the term of the limit's kind
 of-kind : (kind : ChargeKind) (concerned : Bool) (m : ℕ) (c : ChargeKind → ℕ) →
     cond (is_kind kind ShiftRuns && concerned) m 0 * c ShiftRuns + cond (is_kind kind WorkDays && concerned) m 0 * c WorkDays +
     cond (is_kind kind Assignments && concerned) m 0 * c Assignments + cond (is_kind kind Weekends && concerned) m 0 * c Weekends ≡
@@ -35,7 +35,7 @@ of-kind WorkDays concerned m c = omega arith
 of-kind Assignments concerned m c = omega arith
 of-kind Weekends concerned m c = omega arith
 
--- the terms of the nurses that a limit concerns
+-- the sum over the nurses has only the terms of the nurses that a limit concerns
 of-nurses : (nurse : Option ℕ) (N m : ℕ) (c : ℕ → ℕ) → ForSome nurse (λ j. j < N) →
     sum_below N (λ n. cond (option_map_or (λ one. one == n) nurse true) m 0 * c n) ≡ m * option_map_or c nurse (sum_below N c)
 of-nurses None N m c inside = sum-times N m c
@@ -89,7 +89,7 @@ none-of-kind kind test none =
     let first = neither (test ShiftRuns) (test WorkDays) third.0 in
     elim kind as (λ one. test one ≡ false) [ ShiftRuns ↦ first.0 | WorkDays ↦ first.1 | Assignments ↦ third.1 | Weekends ↦ last.1 ]
 
--- a part of a sum
+-- a term is at most the sum
 sum-part : (n i : ℕ) (f : ℕ → ℕ) → i < n → f i ≤ sum_below n f
 unfolding sum_below
 sum-part zero i f below = absurd (omega arith)
@@ -267,7 +267,7 @@ module _ (plan : Plan) where
         is_overdrawn unit charges Weekends n) ≡ false = none-at nurses n _ n_in none in
         none-of-kind kind (λ one. is_overdrawn unit charges one n) here
 
-    -- what all nurses pay for their charges by the tariffs of the leaf, and by those of the rules
+    -- the costs of all charges by the leaf's tariffs, with the sums taken off, are at most the costs by the rules, with the sums added
     pub weights-within : (charges : List Surcharged) → AreMet charges → (unit : ℕ) → has_overdrawn unit charges N ≡ false →
         all_terms (weight unit charges) + all_terms (taken charges) ≤ all_terms (λ kind n. unit * points_of kind) + all_terms (added charges)
     weights-within charges met unit within =
@@ -282,7 +282,7 @@ module _ (plan : Plan) where
         let right = sum-plus N (terms_of (λ kind m. unit * points_of kind)) (terms_of (added charges)) in
         omega (arith, each, left, right)
 
-    -- the leaf's tariffs, with what the bound gains and loses, are no more than those of the rules
+    -- the costs of all charges by the leaf's tariffs, with the gain of the bound, are at most the costs by the rules, with its loss
     pub surcharges-within : (charges : List Surcharged) → AreMet charges → (unit : ℕ) → has_overdrawn unit charges N ≡ false →
         all_terms (weight unit charges) + gained charges ≤ all_terms (λ kind n. unit * points_of kind) + lost charges
     surcharges-within charges met unit within =

@@ -1,4 +1,4 @@
--- A tree of cases covers all plans: the minimum of its leaves' bounds is at most the cost of each plan, if the bound of each leaf is at most
+-- A tree of cases covers all plans: the minimum of its leaves' bounds is at most the cost of each plan, if each leaf's bound is at most
 -- the cost of each plan in its case.
 use Rattle.std.proofs.Common.{ℕ, ◌≤◌, Bool, true, false, inl, inr, ◌⊎◌, arith, cond, min, List, [], ◌∷◌}
 use Rattle.std.specs.Prelude.{Option, Some, None}
@@ -14,7 +14,7 @@ use Rattle.rota_certificate.specs.CertificateBounds.{Path, least_bound, next_pat
 use Rattle.rota_certificate.specs.Facts.{IsIn, is_fact}
 use Rattle.rota_certificate.specs.Plans.{Plan}
 
--- the facts of a split and the leaves of a tree
+-- a property of the fact of a split, or of a leaf
 abbrev pub PassesNode : (Fact → Type 0) → (Leaf → Type 0) → Node → Type 0
 PassesNode P Q (nodes.Split fact) = P fact
 PassesNode P Q (nodes.Leaf leaf) = Q leaf
@@ -47,7 +47,7 @@ module _ (plan : Plan) (P : Fact → Type 0) where
       ]
   split-covered fact path (inr later) = inr (inr later)
 
-  -- the next way covers what is later, and has the facts of the way before it
+  -- the next way covers the later cases, and has the facts of the way before it
   abbrev Next : (later facts : Type 0) → Option Path → Type 0
   Next later facts next = MatchOption next (later → ⊥) (λ one. (later → IsCovered one) × (facts → AllFacts one))
 

@@ -1,4 +1,4 @@
--- The days of a nurse's week: the minimum of a week is at most the cost of her days, and what her totals grow above their maximums.
+-- The days of a nurse's week: the minimum of a week is at most the cost of her days, with the growth of her totals above the maximums.
 use Rattle.std.proofs.Common.{◌≡◌, ℕ, zero, suc, ◌+◌, ◌-◌, ◌*◌, ◌<◌, ◌≤◌, Bool, true, false, cond, refl, ap, ◌∙◌, arith, add-one}
 use Rattle.std.proofs.Common.{◌||◌, ◌&&◌, ◌==◌, sym}
 use Rattle.std.proofs.lemmas.Bool.{cond-true, eq-eqb}
@@ -86,7 +86,7 @@ unfolding sum_below
 sum-three zero x y z a b c = omega arith
 sum-three (suc n) x y z a b c = omega (arith, sum-three n x y z a b c)
 
--- ---- what the totals grow above their maximums
+-- ---- the growth of the totals above their maximums
 
 pub weighted-most : (weight charges other : ℕ) → charges ≡ other → weighted weight charges ≤ weight * other
 weighted-most weight charges other same = omega (arith, ap (λ (c : ℕ). weight * c) same)
@@ -109,7 +109,7 @@ weekends-grow : (contract : Contract) (d : ℕ) (past : Past) (choice : Option �
 weekends-grow contract d past None = weekend-grows contract.weekends past.weekends (d == 6 && (is_some past.last || false))
 weekends-grow contract d past (Some s) = weekend-grows contract.weekends past.weekends (d == 6 && (is_some past.last || true))
 
--- what the totals above the maximums cost
+-- the cost of the totals above the maximums
 abbrev pub totals_above : Tariff → Contract → Past → ℕ
 totals_above tariff contract past =
     tariff.assignments * (past.assignments - contract.total.max) + tariff.weekends * (past.weekends - contract.weekends)
@@ -213,7 +213,7 @@ module _ (terms : Terms) (one : LeafWeek) (roster : Roster) (n : ℕ) (within : 
   abbrev first : Past
   first = problem.past n
 
-  -- what a day of the roster costs, but for the totals
+  -- the cost of a day of the roster, without the totals
   abbrev cost_on : ℕ → ℕ
   cost_on d =
       terms.tariff.shift_runs * shifts_on problem prices roster n d + terms.tariff.work_days * over_on problem prices roster n d +
@@ -235,7 +235,7 @@ module _ (terms : Terms) (one : LeafWeek) (roster : Roster) (n : ℕ) (within : 
       let totals = totals-grow terms.charged terms.tariff (problem.contract n) d past choice in
       omega (arith, shifts, over, fixed, totals)
 
-  -- before the day, with this number of days left: the minimum is at most the costs so far and the minimum of the rest, less the prices so far
+  -- with this number of days left, the minimum is at most the costs so far and the minimum of the rest, less the prices so far
   record Reached (rest : Past → ℕ) (d left : ℕ) : Type 0 where
     pub past : Past
     pub follows : Follows problem prices roster n d past

@@ -1,5 +1,5 @@
--- The bound of a certificate: the minimum of the bounds of its leaves. The nodes are a tree in preorder. The case of a node is the list of
--- the conditions on its way to the root, and of those that all plans are asked to meet.
+-- The bound of a certificate: the minimum of the bounds of its leaves. The nodes are a tree in preorder. The case of a node has the
+-- conditions on its way to the root, and the given conditions, which all plans are asked to meet.
 use Rattle.std.specs.Prelude.{ℕ, ◌+◌, ◌/◌, ◌*◌, ◌≤◌, ◌++◌, Bool, true, false, min, if◌then◌else◌, Option, Some, None, List, [], ◌∷◌, map, reverse, slice_index_or}
 use Rattle.std.specs.List.{AllByRecursion, list_any}
 use Rattle.std.specs.Option.{option_map_or}
@@ -33,8 +33,8 @@ abbrev pub says_odd : Fact → (holds : Bool) → Bool
 says_odd EvenShiftRuns false = true
 says_odd _ _ = false
 
--- each penalty is a multiple of 5 points; it is a multiple of 10 if the number of charges of shift runs is even, and otherwise 5 more than one.
--- The minimum such number that is not below this number of thousandths:
+-- the cost of a plan is a multiple of 10 points if its number of charges of shift runs is even, and otherwise 5 points more than one.
+-- This is the minimum of the costs that are possible in the case and not below the sum, which is in thousandths of a point.
 abbrev pub rounded_up : Case → (sum : ℕ) → ℕ
 rounded_up case sum =
     (if list_any (λ one. says_even one.fact one.holds) case then (sum + 9999) / 10000 * 10
@@ -68,7 +68,7 @@ least_bound bound path (nodes.Leaf leaf ∷ later) =
 
 -- ---- the certificate
 
--- the case of a way: its conditions from the root on, then those that all plans are asked to meet
+-- the case of a way: its conditions from the root on, then the given ones
 abbrev pub case_of : Path → (given : Case) → Case
 case_of path given = reverse path ++ given
 
@@ -99,7 +99,7 @@ abbrev pub minimums_bound : List Problem → (given : Case) → Certificate → 
 minimums_bound weeks given certificate =
     least_bound (λ path leaf. leaf_bound 0 weeks (case_of path given) (prices_of_leaf certificate leaf) []) [] certificate.nodes.items
 
--- no rosters that keep the hard rules of the weeks and meet the given conditions cost less than these, which do
+-- these rosters keep the hard rules of the weeks and meet the given conditions, and no others that do so cost less
 pub record AreOptimal (weeks : List Problem) (given : Case) (rosters : List Roster) : Type 0 where
   pub keep : KeepRules weeks rosters
   pub meet : IsIn (plan_of weeks rosters) given

@@ -62,7 +62,7 @@ pub record IsPlanned (weeks : List InstanceTables) (rosters : List RosterTables)
   pub shapes : HaveShapes weeks rosters
   pub keep : KeepRules (map problem_of weeks) (map set_of rosters)
 
--- the numbers of nurses, shift types and skills of the first week, as of each
+-- the numbers of nurses, shift types and skills of the first week; all weeks have the same
 abbrev pub numbers_in : List InstanceTables → Numbers
 numbers_in [] = record { nurses = 0; shifts = 0; skills = 0 }
 numbers_in (first ∷ later) = (problem_of first).numbers

@@ -22,7 +22,7 @@ is_shift choice s = option_map_or (λ shift. shift == s) choice false
 abbrev pub run_on : Past → ℕ → ℕ
 run_on past s = (if is_shift past.last s then past.shift_run else 0)
 
--- 1 if the day makes the run longer than the maximum; or the number of days that the run is shorter than the minimum, if it ended on the day before
+-- 1 if the day extends the run beyond the maximum; or the number of days by which the run is below the minimum, if it ended the day before
 abbrev pub run_charge : ℕ → Bool → Span → ℕ
 run_charge run has limits =
     (if has then (if nat_lt limits.max (run + 1) then 1 else 0) else (if nat_le 1 run then limits.min - run else 0))
@@ -46,7 +46,7 @@ weekend_charge problem n d saturday sunday =
 abbrev pub over_charge : (run : ℕ) → (works : Bool) → Span → ℕ
 over_charge run works limits = (if works && nat_lt limits.max (run + 1) then 1 else 0)
 
--- the number of days that the run of work is shorter than the minimum, if it ended on the day before
+-- the number of days by which the run of work is below the minimum, if it ended the day before
 abbrev pub under_charge : (run : ℕ) → (works : Bool) → Span → ℕ
 under_charge run works limits = (if not works && nat_le 1 run then limits.min - run else 0)
 
@@ -90,16 +90,16 @@ abbrev pub weekend_above : Contract → (day : ℕ) → Past → Option ℕ → 
 weekend_above contract d past choice =
     (if nat_le contract.weekends past.weekends then weekend_on d (is_some past.last) (is_some choice) else 0)
 
--- what this number of charges costs at this weight, but not more than `not_allowed`
+-- the cost of this number of charges at this weight, but not more than `not_allowed`
 abbrev pub weighted : (weight charges : ℕ) → ℕ
 weighted weight charges = min not_allowed (weight * charges)
 
--- what the totals of the day cost by the tariff
+-- the cost of the totals of the day by the tariff
 abbrev pub totals_cost : Tariff → Contract → (day : ℕ) → Past → Option ℕ → ℕ
 totals_cost tariff contract d past choice =
     weighted tariff.assignments (assignment_above contract past choice) + weighted tariff.weekends (weekend_above contract d past choice)
 
--- what the day costs a nurse with this past, by S2 to S7: `unit` is the value of a point, and the totals cost only if they are charged
+-- the cost of the day for a nurse with this past, by S2 to S7. `unit` is the value of a point; the totals count only if they are charged
 abbrev pub day_cost : (unit : ℕ) → Tariff → (charged : Bool) → Problem → (nurse day : ℕ) → Past → Option ℕ → ℕ
 day_cost unit tariff charged problem n d past choice =
     weighted tariff.shift_runs (shift_charges problem past choice) +
@@ -107,7 +107,7 @@ day_cost unit tariff charged problem n d past choice =
     unit * fixed_charge problem n d past choice +
     (if charged then totals_cost tariff (problem.contract n) d past choice else 0)
 
--- what the totals of the history that are above the maximum cost, for which the last week pays without `--early`
+-- the cost of the history's totals above the maximums, for which the last week pays without `--early`
 abbrev pub start_cost : Tariff → Contract → Past → ℕ
 start_cost tariff contract past =
     weighted tariff.assignments (past.assignments - contract.total.max) + weighted tariff.weekends (past.weekends - contract.weekends)

@@ -6,7 +6,7 @@ use Rattle.rota_core.specs.declared.values.Past.{Past}
 use Rattle.rota_core.specs.declared.values.Span.{Span}
 use Rattle.rota_certificate.specs.DayCharges.{run_on}
 
--- the cap of a run or a total: from it on, none is missing, and each more one is charged
+-- the cap of a run or a total: from the cap on, none is missing, and each further one is charged
 abbrev pub cap_of : Span → ℕ
 cap_of limits = max limits.min limits.max
 
@@ -39,7 +39,7 @@ pub record IsCapped (problem : Problem) (n : ℕ) (past : Past) : Type 0 where
   pub work_run : past.work_run ≤ cap_of (problem.contract n).work
   pub off_run : past.off_run ≤ cap_of (problem.contract n).off
 
--- the cost of what comes after the past is the same for equivalent pasts
+-- the cost of the time after the past is the same for equivalent pasts
 abbrev pub IsSameForEquivalent : Problem → ℕ → (rest : Past → ℕ) → Type 0
 IsSameForEquivalent problem n rest = (past other : Past) → AreEquivalent problem n past other → rest past ≡ rest other
 

@@ -1,4 +1,4 @@
--- Facts about a plan of weeks, and cases, which are made of facts that hold or do not hold.
+-- Facts about a plan of weeks, and cases: lists of facts that hold or do not hold.
 use Rattle.std.specs.Prelude.{◌≡◌, ℕ, ◌%◌, ◌==◌, Bool, false, nat_le, Option, Some, None, List, [], ◌∷◌, slice_get}
 use Rattle.std.specs.List.{AllByRecursion, sum_by}
 use Rattle.std.specs.Option.{option_map_or}
@@ -31,7 +31,7 @@ charges_in_week Weekends week roster n = above_max_weekends week roster n
 abbrev pub charges_of_nurse : ChargeKind → Plan → (nurse : ℕ) → ℕ
 charges_of_nurse kind plan n = sum_by (λ one. charges_in_week kind one.week one.roster n) plan
 
--- the number of nurses of a plan: that of its first week, as of each
+-- the number of nurses of the plan's first week; all its weeks have the same
 abbrev pub nurses_of : Plan → ℕ
 nurses_of [] = 0
 nurses_of (first ∷ later) = first.week.nurses
@@ -40,7 +40,7 @@ nurses_of (first ∷ later) = first.week.nurses
 abbrev pub charges_of_all : ChargeKind → Plan → ℕ
 charges_of_all kind plan = sum_below (nurses_of plan) (charges_of_nurse kind plan)
 
--- the number of charges that the limit is for
+-- the number of charges that the limit is about: of its nurse, or of all nurses
 abbrev pub charges_counted : ChargeLimit → Plan → ℕ
 charges_counted limit plan = option_map_or (charges_of_nurse limit.kind plan) limit.nurse (charges_of_all limit.kind plan)
 
@@ -65,11 +65,11 @@ is_fact plan (Nurses limit) =
 is_fact plan (Charges limit) = nat_le (charges_counted limit plan) limit.most
 is_fact plan EvenShiftRuns = has_even_shift_runs plan
 
--- the plan meets the condition: the fact is true if it is to hold, and false if it is not
+-- the plan meets the condition: the fact is true if the condition says that it holds, and false if it says that it does not
 abbrev pub Meets : Plan → Condition → Type 0
 Meets plan condition = is_fact plan condition.fact ≡ condition.holds
 
--- a case of plans: those that meet all its conditions
+-- a case: the conditions that its plans meet
 abbrev pub Case : Type 0
 Case = List Condition
 

@@ -25,7 +25,7 @@ first_rebate (first ∷ later) n d choice = allowed_rebate first n d choice
 abbrev pub IsRightCost : Terms → List LeafWeek → (nurse : ℕ) → KnownCost → Type 0
 IsRightCost terms weeks n known = known.cost ≡ least_left terms (drop known.week weeks) n known.left known.past
 
--- the rebate is the nurse's for the choice of the day, in the week with this number
+-- the rebate is the nurse's rebate for the choice on the day, in the week with this number
 abbrev pub IsRightRebate : List LeafWeek → (nurse : ℕ) → KnownRebate → Type 0
 IsRightRebate weeks n known = known.rebate ≡ first_rebate (drop known.week weeks) n known.day known.choice
 
@@ -35,22 +35,22 @@ pub record AreRightFor (terms : Terms) (weeks : List LeafWeek) (nurse : ℕ) (kn
   pub costs : All (λ one. IfSome one (IsRightCost terms weeks nurse)) known.costs.items
   pub rebates : All (λ one. IfSome one (IsRightRebate weeks nurse)) known.rebates.items
 
--- they are right for the nurse of the stage
+-- the entries are right for the nurse of the stage
 abbrev pub AreRight : Stage → Known → Type 0
 AreRight stage known = AreRightFor (terms_of stage) (all_of stage) stage.nurse known
 
--- the search is at a stage, and what is known is right for it
+-- the search is at a stage, and the entries are right for it
 pub record IsReady (stage : Stage) (known : Known) : Type 0 where
   pub at : IsStage stage
   pub right : AreRight stage known
 
--- the search is before the last days of the stage's week, after a past that can come there
+-- the search is before the last `left` days of the stage's week, after a past to which the days before them can lead
 pub record IsBefore (stage : Stage) (known : Known) (left : ℕ) (past : Past) : Type 0 where
   pub ready : IsReady stage known
   pub within : left ≤ DAYS
   pub near : IsNear (week_of stage).week.shifts (days_before stage (DAYS - left)) past
 
--- the search has found this cost, and what is known stays right
+-- the search has found this cost, and the entries stay right
 pub record Finds (stage : Stage) (known : Known) (cost result : ℕ) : Type 0 where
   pub found : result ≡ cost
   pub small : result ≤ not_allowed

@@ -24,7 +24,7 @@ is_choice _ _ = false
 abbrev pub is_about : DayChoice → (week nurse day : ℕ) → Bool
 is_about one w n d = one.week == w && one.nurse == n && one.day == d
 
--- whether the condition allows the nurse the choice: one about the day asks for the fact's choice, or for another
+-- whether the condition allows the nurse the choice: a condition about the day asks for the fact's choice, or for another one
 abbrev pub allows : Fact → (holds : Bool) → (week nurse day : ℕ) → Option ℕ → Bool
 allows (Choice one) true w n d choice = (if is_about one w n d then is_choice one.choice choice else true)
 allows (Choice one) false w n d choice = (if is_about one w n d then not (is_choice one.choice choice) else true)
@@ -48,7 +48,7 @@ leaf_place_bounds unit case w [] = 0
 leaf_place_bounds unit case w (one ∷ later) =
     case_place_bounds unit case w one.week one.prices + leaf_place_bounds unit case (w + 1) later
 
--- the number of nurses of the first week, which is that of each
+-- the number of nurses of the first week; all weeks have the same
 abbrev pub nurse_count : List LeafWeek → ℕ
 nurse_count [] = 0
 nurse_count (first ∷ later) = first.week.nurses
@@ -57,13 +57,13 @@ nurse_count (first ∷ later) = first.week.nurses
 abbrev pub added_prices : List LeafWeek → ℕ
 added_prices weeks = nurse_count weeks * (length weeks * (DAYS * max_price))
 
--- the bounds of all places and all nurses, with what the surcharges gain, less what was added and what they lose; 0 if that is negative
+-- the bounds of all places and all nurses and the gain from the surcharges, less the added prices and the loss; 0 if that is negative
 abbrev pub bound_of_leaf : ℕ → Case → List Surcharged → List LeafWeek → ℕ
 bound_of_leaf unit case charges weeks =
     (leaf_place_bounds unit case 0 weeks + sum_below (nurse_count weeks) (λ n. nurse_bound unit (tariff_of unit charges n) weeks n) +
     gained charges) - (added_prices weeks + lost charges)
 
--- the bound of the leaf with these prices and surcharges; it is 0 if more is taken off a weight than it has
+-- the bound of the leaf with these prices and surcharges; it is 0 if the surcharges make a weight negative
 abbrev pub leaf_bound : ℕ → List Problem → Case → List Prices → (surcharges : List ℕ) → ℕ
 leaf_bound unit weeks case prices surcharges =
     let charges = surcharged case surcharges in

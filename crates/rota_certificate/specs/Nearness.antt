@@ -9,7 +9,7 @@ use Rattle.rota_core.specs.declared.values.Past.{Past}
 abbrev pub most_days : ℕ
 most_days = DAYS * max_weeks
 
--- the numbers are at most `max_number` and one more for each day of the period before the day, and the last shift type, if any, is one of the shift types
+-- no number exceeds `max_number` by more than the number of days of the period before the day, and the last shift type, if any, exists
 pub record IsNear (shifts day : ℕ) (past : Past) : Type 0 where
   pub assignments : past.assignments ≤ max_number + day
   pub weekends : past.weekends ≤ max_number + day

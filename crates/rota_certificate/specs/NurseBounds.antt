@@ -1,5 +1,5 @@
--- The minimum cost of a nurse in the weeks of a leaf, less the prices of her cells. To keep the numbers from becoming negative, each day adds
--- the maximum price.
+-- The minimum cost of a nurse in the weeks of a leaf, less the prices of her cells. Each day adds the maximum price, so that no number is
+-- negative.
 use Rattle.std.specs.Prelude.{ℕ, zero, suc, ◌+◌, ◌-◌, ◌*◌, ◌&&◌, ◌||◌, Bool, false, not, min, if◌then◌else◌, Option, Some, None, List, [], ◌∷◌}
 use Rattle.std.specs.List.{list_any}
 use Rattle.rota_core.specs.Sizes.{DAYS}
@@ -42,7 +42,7 @@ pub record LeafWeek : Type 0 where
   pub prices : Prices
   pub may_choose : (nurse day : ℕ) → Option ℕ → Bool
 
--- the terms of a nurse in a leaf: the value of a point (1000, or 0 if the soft rules are left out), her tariff, and whether totals are charged
+-- the terms of a nurse in a leaf: the value of a point (1000, or 0 if soft rules are left out), her tariff, and whether totals are charged
 pub record Terms : Type 0 where
   pub unit : ℕ
   pub tariff : Tariff
@@ -78,7 +78,7 @@ least_days terms one n rest (suc left) past =
 abbrev pub end_cost : Terms → Problem → (nurse : ℕ) → Past → ℕ
 end_cost terms week n past = terms.unit * (assignment_weight * missing_total week.is_last (week.contract n) past)
 
--- the minimum cost after a week: the cost of the totals if no week follows, otherwise the minimum cost of the later weeks
+-- the minimum cost after a week: the cost of the missing assignments if no week follows, otherwise the minimum cost of the later weeks
 abbrev pub rest_after : Terms → (week : Problem) → (later : List LeafWeek) → (nurse : ℕ) → Past → ℕ
 rest_after terms week [] n past = end_cost terms week n past
 rest_after terms week (next ∷ later) n past = least_days terms next n (rest_after terms next.week later n) DAYS past
@@ -88,15 +88,15 @@ abbrev pub least_left : Terms → List LeafWeek → (nurse left : ℕ) → Past 
 least_left terms [] n left past = 0
 least_left terms (first ∷ later) n left past = least_days terms first n (rest_after terms first.week later n) left past
 
--- whether the weeks charge totals: each does with `--early`, without it the last week of the scenario
+-- whether any of the weeks charges totals: with `--early` each week does, without it the last week of the scenario
 abbrev pub charge_totals : List LeafWeek → Bool
 charge_totals weeks = list_any (λ one. one.week.is_early || one.week.is_last) weeks
 
--- whether a week pays for the totals of the history that are above the maximum: the last week of the scenario, without `--early`
+-- whether any of the weeks pays for the history's totals above the maximums: without `--early` the last week of the scenario does
 abbrev pub pay_for_history : List LeafWeek → Bool
 pay_for_history weeks = list_any (λ one. not one.week.is_early && one.week.is_last) weeks
 
--- the minimum for all the weeks, from the history before the first week on, with this tariff
+-- the minimum cost of the nurse in all the weeks with this tariff, after the history before the first week
 abbrev pub nurse_bound : (unit : ℕ) → Tariff → List LeafWeek → (nurse : ℕ) → ℕ
 nurse_bound unit tariff [] n = 0
 nurse_bound unit tariff (first ∷ later) n =

@@ -1,4 +1,4 @@
--- What a nurse costs in the weeks of a plan by S2 to S7, with a tariff for the charges that a case may limit.
+-- The cost of a nurse in the weeks of a plan by S2 to S7, with a tariff for the charges that a case may limit.
 use Rattle.std.specs.Prelude.{◌≡◌, ℕ, ◌+◌, ◌*◌, ◌<◌, true, if◌then◌else◌, IfSome, Option, List, [], ◌∷◌, ⊤}
 use Rattle.std.specs.List.{sum_by}
 use Rattle.rota_core.specs.Sizes.{DAYS}
@@ -24,20 +24,20 @@ abbrev pub requests_of : Problem → Roster → ℕ → ℕ
 requests_of week roster n =
     sum_below DAYS (λ d. sum_below week.shifts (λ s. sum_below week.skills (λ k. if roster (cell n d s k) then week.requests n d s else 0)))
 
--- what the nurse costs in a week by the charges that no case limits, in points
+-- the cost of the nurse in a week by the charges that no case limits, in points
 abbrev pub fixed_cost : Problem → Roster → (nurse : ℕ) → ℕ
 fixed_cost week roster n =
     work_run_weight * run_under (works week roster n) (week.past n).work_run (week.contract n).work.min +
     consecutive_day_off_cost_of week roster n + request_weight * requests_of week roster n + complete_weekend_cost_of week roster n +
     assignment_weight * below_min_total week roster n
 
--- what she costs by the charges that a case may limit
+-- her cost in a week by the charges that a case may limit
 abbrev pub tariff_cost : Tariff → Problem → Roster → (nurse : ℕ) → ℕ
 tariff_cost tariff week roster n =
     tariff.shift_runs * charges_in_week ShiftRuns week roster n + tariff.work_days * charges_in_week WorkDays week roster n +
     tariff.assignments * charges_in_week Assignments week roster n + tariff.weekends * charges_in_week Weekends week roster n
 
--- what she costs in a plan; `unit` is the value of a point
+-- her cost in a plan; `unit` is the value of a point
 abbrev pub nurse_cost : (unit : ℕ) → Tariff → Plan → (nurse : ℕ) → ℕ
 nurse_cost unit tariff plan n =
     sum_by (λ one. tariff_cost tariff one.week one.roster n + unit * fixed_cost one.week one.roster n) plan
@@ -59,7 +59,7 @@ AllowsChoices one planned n =
     (d : ℕ) (choice : Option ℕ) → d < DAYS → IfSome choice (λ s. s < planned.week.shifts) →
     has_choice planned.week planned.roster n d choice ≡ true → one.may_choose n d choice ≡ true
 
--- and in each week of the plan
+-- the case allows each choice of the nurse in each week of the plan
 unfoldable pub AllowsPlan : List LeafWeek → Plan → (nurse : ℕ) → Type 0
 AllowsPlan [] plan n = ⊤
 AllowsPlan (one ∷ later) [] n = ⊤

@@ -1,5 +1,5 @@
--- The demand of a place in a case. More than k nurses are a raised minimum. At most k nurses are a lowered optimal number, and the missing
--- nurses above it are charged.
+-- The demand of a place in a case. The condition "more than k nurses" raises the minimum. The condition "at most k nurses" lowers the
+-- optimal number, and the missing nurses above the lowered number are charged.
 use Rattle.std.specs.Prelude.{ℕ, ◌+◌, ◌-◌, ◌*◌, ◌==◌, ◌&&◌, Bool, true, false, max, min, if◌then◌else◌, [], ◌∷◌}
 use Rattle.rota_core.specs.Sizes.{DAYS}
 use Rattle.rota_core.specs.Prices.{Prices}

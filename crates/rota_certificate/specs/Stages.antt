@@ -41,7 +41,7 @@ abbrev pub AreFit : List LentWeek → Type 0
 AreFit [] = ⊤
 AreFit (first ∷ later) = AllByRecursion (Fits (week_lent first)) (first ∷ later)
 
--- the leaf has from one week to the most that a period may have, and they fit
+-- the leaf has at least one week and at most `max_weeks`, and all fit the first
 pub record IsLeaf (leaf : LentLeaf) : Type 0 where
   pub some : 0 < length leaf.weeks.now
   pub count : length leaf.weeks.now ≤ max_weeks
@@ -69,7 +69,7 @@ later_of stage = drop (stage.week + 1) (all_of stage)
 abbrev pub terms_of : Stage → Terms
 terms_of stage = record { unit = stage.unit; tariff = stage.tariff; charged = stage.charged }
 
--- what the day costs the nurse
+-- the cost of the day for the nurse
 abbrev pub day_cost_in : Stage → (day : ℕ) → Past → Option ℕ → ℕ
 day_cost_in stage d past choice = day_cost stage.unit stage.tariff stage.charged (week_of stage).week stage.nurse d past choice
 

@@ -1,5 +1,5 @@
--- What the charges of a nurse cost in a leaf. The surcharge of a condition "at most k charges" is added to the weight of these charges, and
--- the bound loses k times as much. The surcharge of a condition "more than k charges" is taken off, and the bound gains k + 1 times as much.
+-- The cost of a nurse's charges in a leaf. The surcharge of a condition "at most k charges" is added to the weight of these charges, and
+-- the bound loses k times the surcharge. The surcharge of "more than k charges" is taken off, and the bound gains k + 1 times it.
 use Rattle.std.specs.Prelude.{ℕ, ◌+◌, ◌-◌, ◌*◌, ◌==◌, ◌&&◌, Bool, true, false, nat_lt, ◌||◌, if◌then◌else◌, Option, Some, None, List, [], ◌∷◌}
 use Rattle.std.specs.List.{list_any, sum_by}
 use Rattle.std.specs.Option.{option_map_or}
@@ -19,13 +19,13 @@ use Rattle.rota_certificate.specs.declared.limits.Limit.TheVariants.{AtMost, Mor
 use Rattle.rota_certificate.specs.declared.surcharges.Surcharged.{Surcharged}
 use Rattle.rota_certificate.specs.declared.tariffs.Tariff.{Tariff}
 
--- the conditions with these surcharges, in order; a missing one is 0
+-- the conditions with these surcharges, in order; a missing surcharge is 0
 unfoldable pub surcharged : Case → (surcharges : List ℕ) → List Surcharged
 surcharged [] surcharges = []
 surcharged (condition ∷ case) [] = record { condition = condition; surcharge = 0 } ∷ surcharged case []
 surcharged (condition ∷ case) (m ∷ surcharges) = record { condition = condition; surcharge = m } ∷ surcharged case surcharges
 
--- odd is more than 0 charges of shift runs
+-- an odd number of charges of shift runs is more than 0 charges
 abbrev pub no_shift_runs : ChargeLimit
 no_shift_runs = record { kind = ShiftRuns; nurse = None; most = 0 }
 
@@ -48,27 +48,27 @@ is_kind _ _ = false
 abbrev pub counts : ChargeLimit → ChargeKind → (nurse : ℕ) → Bool
 counts limit kind n = is_kind limit.kind kind && option_map_or (λ one. one == n) limit.nurse true
 
--- what a limit with this surcharge adds to the weight of the nurse's charges of the kind
+-- the part that a limit with this surcharge adds to the weight of the nurse's charges of the kind
 abbrev pub added_by : ChargeKind → (nurse surcharge : ℕ) → Limit → ℕ
 added_by kind n m (AtMost limit) = (if counts limit kind n then m else 0)
 added_by kind n m (MoreThan limit) = 0
 
--- what it takes off
+-- the part that it takes off
 abbrev pub taken_by : ChargeKind → (nurse surcharge : ℕ) → Limit → ℕ
 taken_by kind n m (AtMost limit) = 0
 taken_by kind n m (MoreThan limit) = (if counts limit kind n then m else 0)
 
--- what the bound loses by it
+-- the loss of the bound by it
 abbrev pub lost_by : (surcharge : ℕ) → Limit → ℕ
 lost_by m (AtMost limit) = m * limit.most
 lost_by m (MoreThan limit) = 0
 
--- what the bound gains by it
+-- the gain of the bound by it
 abbrev pub gained_by : (surcharge : ℕ) → Limit → ℕ
 gained_by m (AtMost limit) = 0
 gained_by m (MoreThan limit) = m * (limit.most + 1)
 
--- whether the limit forbids the nurse's charges of the kind: there are at most 0
+-- whether the limit forbids the nurse's charges of the kind: it allows at most 0
 abbrev pub forbidden_by : ChargeKind → (nurse : ℕ) → Limit → Bool
 forbidden_by kind n (AtMost limit) = counts limit kind n && limit.most == 0
 forbidden_by kind n (MoreThan limit) = false
@@ -77,7 +77,7 @@ forbidden_by kind n (MoreThan limit) = false
 abbrev pub over_limits : ((surcharge : ℕ) → Limit → ℕ) → List Surcharged → ℕ
 over_limits f case = sum_by (λ one. option_map_or (f one.surcharge) (limit_of one.condition.fact one.condition.holds) 0) case
 
--- what all limits add to the weight, and what they take off
+-- the sums that all limits add to the weight and take off it
 abbrev pub added : List Surcharged → ChargeKind → (nurse : ℕ) → ℕ
 added case kind n = over_limits (added_by kind n) case
 
@@ -109,21 +109,21 @@ tariff_of unit case n = record {
   weekends = weight unit case Weekends n;
 }
 
--- whether more is taken off a weight of the nurse than it has
+-- whether the surcharges make the weight of the nurse's charges of the kind negative
 abbrev pub is_overdrawn : (unit : ℕ) → List Surcharged → ChargeKind → (nurse : ℕ) → Bool
 is_overdrawn unit case kind n = nat_lt (unit * points_of kind + added case kind n) (taken case kind n)
 
--- whether more is taken off a weight of the nurse than it has, for any kind
+-- whether they make any weight of the nurse negative
 abbrev pub has_overdrawn_weight : (unit : ℕ) → List Surcharged → (nurse : ℕ) → Bool
 has_overdrawn_weight unit case n =
     is_overdrawn unit case ShiftRuns n || is_overdrawn unit case WorkDays n || is_overdrawn unit case Assignments n ||
     is_overdrawn unit case Weekends n
 
--- the same for any nurse
+-- whether they make any weight of any nurse negative
 abbrev pub has_overdrawn : (unit : ℕ) → List Surcharged → (nurses : ℕ) → Bool
 has_overdrawn unit case nurses = any_below nurses (has_overdrawn_weight unit case)
 
--- what the bound of the leaf loses, and what it gains
+-- the loss and the gain of the leaf's bound
 abbrev pub lost : List Surcharged → ℕ
 lost case = over_limits lost_by case
 

@@ -12,7 +12,7 @@ fn is_about(one: DayChoice, week: usize, nurse: u16, day: u8) -> bool
     usize::from(one.week) == week && one.nurse == nurse && one.day == day
 }
 
-// Whether the condition allows the nurse the choice: one about the day asks for the fact's choice, or for another.
+// Whether the condition allows the choice: one about the day asks for its choice, or for another.
 fn allows(condition: Condition, week: usize, nurse: u16, day: u8, choice: Option<u8>) -> bool
     ensures { result ≡ allows condition.fact condition.holds week nurse day choice }
 {

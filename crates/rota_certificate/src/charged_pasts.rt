@@ -1,4 +1,4 @@
-//! The part of a past that the charges see.
+//! The part of a past on which the charges depend.
 
 ghost use Rattle.std.specs.Prelude.{◌≡◌, ℕ, ◌-◌, ◌≤◌, ◌<◌};
 ghost use Rattle.rota_certificate.specs.Nearness.{IsNear};
@@ -8,8 +8,8 @@ use crate::capped::capped;
 use crate::stages::Stage;
 use rota_core::{DAYS, Past};
 
-/// The past before the last `left` days of the week with capped numbers, and without the totals if they are not
-/// charged. The minimum cost of the nurse is the same.
+/// The past before the last `left` days of the week, with capped numbers, and without the totals if
+/// they are not charged. The minimum cost of the nurse after it is the same.
 pub fn charged_past(stage: &Stage<'_>, left: u8, past: Past) -> Past
     requires stage { IsStage stage.now }
     requires near { IsNear (week_of stage.now).week.shifts (days_before stage.now (DAYS - left)) past }

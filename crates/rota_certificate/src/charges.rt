@@ -45,7 +45,7 @@ fn going_charge(instance: &Instance, past: Past, choice: Option<u8>) -> u16
     }
 }
 
-// The charge of the run that the day ends, if any: the run on the last shift type, if the day has another one.
+// The charge of the run that the day ends, if any: on the last shift type, if the day has another.
 fn ended_charge(instance: &Instance, past: Past, choice: Option<u8>) -> u16
     requires last_in { IfSome past.last (λ s. s < (problem_of instance.now).shifts) }
     ensures { result ≡ ended_charge (problem_of instance.now) past choice }
@@ -58,7 +58,7 @@ fn ended_charge(instance: &Instance, past: Past, choice: Option<u8>) -> u16
     }
 }
 
-/// The charges of the runs on all shift types. Only the runs on the shift type of the day and on the last one charge.
+/// The charges of the runs on all shift types: of the day's run, and of the run that the day ends.
 pub fn shift_charges(instance: &Instance, past: Past, choice: Option<u8>) -> u64
     requires choice_in { IfSome choice (λ s. s < (problem_of instance.now).shifts) }
     requires last_in { IfSome past.last (λ s. s < (problem_of instance.now).shifts) }
@@ -101,7 +101,7 @@ pub fn over_charge(run: u16, works: bool, limits: Span) -> u16
     if works && limits.max <= run { 1 } else { 0 }
 }
 
-// The number of days that the run of work is shorter than the minimum, if it ended on the day before.
+// The number of days by which the run of work is below the minimum, if it ended the day before.
 fn under_charge(run: u16, works: bool, limits: Span) -> u16
     ensures charge { result ≡ under_charge run works limits }
 {

@@ -48,7 +48,7 @@ fn nurses_at(instance: &Instance, roster: &Roster, day: u8, shift: u8, skill: u8
     count
 }
 
-// The number of charges that the limit is for.
+// The number of charges that the limit is about.
 fn charges_counted(weeks: &[Instance], rosters: &[Roster], limit: ChargeLimit) -> u64
     requires plan { IsPlanned weeks.now rosters.now }
     requires limit_in { IsChargeLimitFor (numbers_in weeks.now) limit }

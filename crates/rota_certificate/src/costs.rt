@@ -1,4 +1,4 @@
-//! What a nurse's days cost by her tariff, and what her totals cost at the start and at the end.
+//! The costs of a nurse's days by her tariff, and of her totals at the start and at the end.
 
 ghost use Rattle.std.specs.Prelude.{◌≡◌, ◌+◌, ◌*◌, ◌≤◌, ◌<◌, IfSome};
 ghost use Rattle.rota_core.specs.InstanceTables.{problem_of};
@@ -17,7 +17,7 @@ use crate::tariffs::Tariff;
 use crate::weights::ASSIGNMENT_WEIGHT;
 use rota_core::{Contract, DAYS, Past};
 
-// What this number of charges costs at this weight, but not more than `NOT_ALLOWED`.
+// The cost of this number of charges at this weight, but not more than `NOT_ALLOWED`.
 fn weighted(weight: u64, charges: u64) -> u64
     ensures cost { result ≡ weighted weight charges }
     ensures small { result ≤ not_allowed }
@@ -35,7 +35,7 @@ pub fn times(unit: u64, points: u64) -> u64
     unit * points
 }
 
-// What the totals of the day cost.
+// The cost of the totals of the day.
 fn totals_cost(tariff: Tariff, contract: Contract, day: u8, past: Past, choice: Option<u8>) -> u64
     ensures cost { result ≡ totals_cost tariff contract day past choice }
     ensures small { result ≤ 2 * not_allowed }
@@ -46,7 +46,7 @@ fn totals_cost(tariff: Tariff, contract: Contract, day: u8, past: Past, choice: 
         + weighted(tariff.weekends, u64::from(weekends))
 }
 
-/// What the day costs the nurse with this past.
+/// The cost of the day for the nurse with this past.
 pub fn day_cost(stage: &Stage<'_>, day: u8, past: Past, choice: Option<u8>) -> u64
     requires stage { IsStage stage.now }
     requires day_in { day < DAYS }
@@ -70,7 +70,7 @@ pub fn day_cost(stage: &Stage<'_>, day: u8, past: Past, choice: Option<u8>) -> u
         + totals
 }
 
-/// What the totals of the history that are above the maximum cost.
+/// The cost of the history's totals above the maximums.
 pub fn start_cost(tariff: Tariff, contract: Contract, past: Past) -> u64
     ensures cost { result ≡ start_cost tariff contract past }
     ensures small { result ≤ 2 * not_allowed }
@@ -81,7 +81,7 @@ pub fn start_cost(tariff: Tariff, contract: Contract, past: Past) -> u64
         + weighted(tariff.weekends, u64::from(weekends))
 }
 
-/// What the assignments cost that are missing at the end.
+/// The cost of the assignments that are missing at the end.
 pub fn end_cost(stage: &Stage<'_>, past: Past) -> u64
     requires stage { IsStage stage.now }
     ensures cost { result ≡ end_cost (terms_of stage.now) (week_of stage.now).week stage.now.nurse past }

@@ -84,7 +84,7 @@ fn run_charges(
     }
 }
 
-// The excess over a maximum for which the week pays.
+// The excess over a maximum that the week pays for.
 fn charged_excess(instance: &Instance, maximum: u16, before: u16, now: u16) -> u64
     ensures excess { result ≡ charged_excess (problem_of instance.now) maximum before now }
     ensures small { result ≤ 131070 }

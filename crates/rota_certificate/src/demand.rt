@@ -30,7 +30,7 @@ fn is_at(limit: NurseLimit, place: Place) -> bool
         && limit.skill == place.skill
 }
 
-// The minimum, or more, if the condition is that there are more than some nurses at the place.
+// The minimum, or more if the condition asks for more than some number of nurses at the place.
 fn raised_by(condition: Condition, place: Place, minimum: u16) -> u16
     requires limited { IsLimited condition.fact }
     requires small { minimum ≤ 10000 }
@@ -43,7 +43,7 @@ fn raised_by(condition: Condition, place: Place, minimum: u16) -> u16
     }
 }
 
-// The optimal number, or less, if the condition is that there are at most some nurses at the place.
+// The optimal number, or less if the condition allows at most some number of nurses at the place.
 fn lowered_by(condition: Condition, place: Place, optimal: u16) -> u16
     requires small { optimal ≤ max_number }
     ensures optimal { result ≡ lowered_by condition.fact condition.holds place.week place.day place.shift place.skill optimal }

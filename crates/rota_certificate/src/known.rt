@@ -1,5 +1,5 @@
-//! The costs and rebates of a nurse that were computed before. Each has an entry that follows from its week, day and
-//! past. A later one with the same entry replaces it: a lost one is computed again.
+//! Costs and rebates of a nurse that were computed before. The entry of each follows from its week,
+//! day, and past or choice. A later one replaces it there, and a lost one is computed again.
 
 ghost use Rattle.std.specs.Prelude.{◌≡◌, ℕ, ◌<◌, All, IfOk, IfSome, List, None, drop, length};
 ghost use Rattle.rota_certificate.specs.KnownCosts.{AreRightFor, HasEntries, IsRightCost, IsRightRebate, first_rebate};
@@ -8,7 +8,7 @@ ghost use Rattle.rota_certificate.specs.NurseBounds.{LeafWeek, Terms, least_left
 use rota_core::Past;
 use std::alloc::{AllocError, Global};
 
-/// The minimum cost of the last `left` days of the week with this number, and of the later weeks, after the past.
+/// The minimum cost of the last `left` days of the week and of the later weeks, after the past.
 #[derive(Clone, Copy, Debug, PartialEq, Eq)]
 pub struct KnownCost {
     pub week: usize,
@@ -33,15 +33,15 @@ pub struct Known {
     rebates: Vec<Option<KnownRebate>>,
 }
 
-// The number of entries for rebates, a prime number: seven days with seventeen choices of eight weeks.
+// The number of entries for rebates, a prime: enough for eight weeks with seventeen choices a day.
 const REBATE_ENTRIES: usize = 1021;
 
-// A number that spreads the parts of a past over the entries: any large odd number that is not near a power of two.
+// A number that spreads pasts over the entries: any large odd number, not near a power of two.
 const SPREAD: usize = 1_000_003;
 
-// The number of entries for the costs of so many weeks, a prime number. A nurse has more pasts a day in a longer period,
-// with more totals; there are entries for those of a month or more, since fewer are lost too early. At most they take some
-// fifty megabytes.
+// The number of entries for the costs of this number of weeks, a prime. In a longer period a nurse
+// has more totals, and so more pasts a day. There are entries for a month of pasts or more: with
+// fewer, costs are lost too early. At most they take some fifty megabytes.
 fn cost_entries(weeks: usize) -> usize
     ensures { 0 < result }
 {

@@ -9,8 +9,8 @@ ghost use Rattle.rota_certificate.specs.CertificateBounds.{AreOptimal, HaveTable
 ghost use Rattle.rota_certificate.specs.Facts.{Case, IsIn};
 ghost use Rattle.rota_certificate.specs.Plans.{ArePeriod, KeepRules, plan_cost, plan_of};
 
-/// For all certificates with prices up to 999,999,999, no rosters of a period that keep the hard rules and meet the given
-/// conditions cost less than the certificate's lower bound.
+/// For all certificates with prices up to 999,999,999, no rosters of a period that keep the hard
+/// rules and meet the given conditions cost less than the certificate's lower bound.
 pub fn certificate_bound_is_sound()
     ensures { (first : Problem) (later : List Problem) (given : Case) (certificate : Certificate) (rosters : List Roster) →
         IsCertificateFor first (length (first ∷ later)) certificate →
@@ -36,8 +36,8 @@ pub fn certificate_bound_proves_optimality()
         AreOptimal (first ∷ later) given rosters }
 {}
 
-/// For all certificates with prices up to 999,999,999, no rosters of a period keep the hard rules and meet the given
-/// conditions if the bound without the soft rules is above 0.
+/// For all certificates with prices up to 999,999,999, no rosters of a period keep the hard rules
+/// and meet the given conditions if the bound without the soft rules is above 0.
 pub fn certificate_minimums_prove_that_no_plan_exists()
     ensures { (first : Problem) (later : List Problem) (given : Case) (certificate : Certificate) (rosters : List Roster) →
         IsCertificateFor first (length (first ∷ later)) certificate →

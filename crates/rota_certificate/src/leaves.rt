@@ -31,7 +31,7 @@ fn nurse_count(leaf: &LentLeaf<'_>) -> u16
     leaf.weeks[0].instance.nurses()
 }
 
-// The bounds of all nurses with their tariffs, unless more is taken off a weight than it has.
+// The bounds of all nurses with their tariffs, unless the surcharges make a weight negative.
 fn nurse_bounds(
     unit: u64,
     leaf: &LentLeaf<'_>,
@@ -90,7 +90,7 @@ fn bound_of_leaf(unit: u64, leaf: &LentLeaf<'_>, charges: &[Surcharged], known: 
     }
 }
 
-/// The bound of the leaf with these surcharges. It is 0 if more is taken off a weight than it has.
+/// The bound of the leaf with these surcharges. It is 0 if they make a weight negative.
 pub fn leaf_bound(
     alloc: Global,
     unit: u64,

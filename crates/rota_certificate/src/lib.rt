@@ -1,10 +1,10 @@
-//! The lower bound that a certificate proves: a tree of cases of the plans of one or more weeks, with prices for each case.
+//! The lower bound that a certificate proves: a tree of cases of plans, with prices for each case.
 //!
-//! The laws say what it means. `leaf_bound` is the bound of one case, `first_unmet` finds the first condition that a plan
-//! does not meet.
+//! The laws give its meaning. `leaf_bound` is the bound of one case, and `first_unmet` finds the
+//! first condition that a plan does not meet.
 #![tactic(auto, using(crate::proofs::Sums::looping))]
 
-// What a nurse's days are charged and cost, her rebates, and the choices that a case allows her.
+// The charges and costs of a nurse's days, her rebates, and the choices that a case allows her.
 mod allowed;
 mod charges;
 mod costs;

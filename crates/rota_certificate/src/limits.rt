@@ -8,9 +8,9 @@ use rota_core::{ChargeKind, ChargeLimit, Condition, Fact};
 /// A limit of a number of charges, which a condition of a case sets.
 #[derive(Clone, Copy)]
 pub enum Limit {
-    /// There are at most so many.
+    /// The number of charges is at most the limit's.
     AtMost(ChargeLimit),
-    /// There are more.
+    /// The number of charges is above the limit's.
     MoreThan(ChargeLimit),
 }
 
@@ -54,7 +54,7 @@ pub fn counts(limit: ChargeLimit, kind: ChargeKind, nurse: u16) -> bool
     is_kind(limit.kind, kind) && concerned
 }
 
-/// Whether the limit forbids the nurse's charges of the kind: there are at most 0.
+/// Whether the limit forbids the nurse's charges of the kind: it allows at most 0.
 pub fn forbids(limit: Limit, kind: ChargeKind, nurse: u16) -> bool
     ensures { result ≡ forbidden_by kind nurse limit }
 {

@@ -1,4 +1,4 @@
-//! The minimum cost of a nurse over the weeks of a leaf, less the prices of her cells: day by day, and week by week.
+//! The minimum cost of a nurse in the weeks of a leaf, less the prices of her cells, day by day.
 
 ghost use Rattle.std.specs.Prelude.{◌≡◌, ◌+◌, ◌-◌, ◌*◌, ◌≤◌, ◌<◌, IfSome};
 ghost use Rattle.rota_core.specs.InstanceTables.{problem_of};
@@ -134,7 +134,7 @@ pub fn least_in(stage: &Stage<'_>, known: &mut Known, left: u8, past: Past) -> u
     cost
 }
 
-// The minimum cost after the week: of the later weeks, or of what is missing if it is the last.
+// The minimum cost after the week: of the later weeks, or of missing assignments if none follows.
 #[cycle(week)]
 fn least_after(stage: &Stage<'_>, known: &mut Known, past: Past) -> u64
     requires { IsBefore stage.now known.old 0 past }
@@ -158,7 +158,7 @@ fn least_after(stage: &Stage<'_>, known: &mut Known, past: Past) -> u64
     least_in(&next, known, DAYS, past)
 }
 
-/// The minimum for all the weeks of the leaf, from the history before the first week on. What was known is forgotten.
+/// Her minimum cost in all weeks of the leaf, after her history. Forgets known costs and rebates.
 pub fn nurse_bound(
     leaf: &LentLeaf<'_>,
     known: &mut Known,

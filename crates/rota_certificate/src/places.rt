@@ -18,7 +18,7 @@ use crate::demand::{Place, case_demand};
 use crate::stages::{LentLeaf, LentWeek};
 use rota_core::{Condition, DAYS, Demand, Instance};
 
-// The price of this many nurses.
+// The price of this number of nurses.
 fn price_of(price: u32, nurses: u16) -> u64
     requires price_in { price ≤ max_price }
     requires nurses_in { nurses ≤ 10000 }
@@ -28,7 +28,7 @@ fn price_of(price: u32, nurses: u16) -> u64
     u64::from(price) * u64::from(nurses)
 }
 
-// The cost of this many nurses at a place with this demand, and their prices.
+// The cost of this number of nurses at a place with this demand, and their prices.
 fn place_cost(unit: u64, demand: Demand, price: u32, nurses: u16) -> u64
     requires unit_in { unit ≤ thousandths }
     requires price_in { price ≤ max_price }

@@ -1,4 +1,4 @@
-//! The rebates: the maximum price, less the best price that a nurse may be paid.
+//! The rebates: the maximum price, less the price of a cell that the nurse may have.
 
 ghost use Rattle.std.specs.Prelude.{◌≡◌, ◌≤◌, ◌<◌, IfSome, Some};
 ghost use Rattle.rota_core.specs.HardRules.{is_on};
@@ -47,8 +47,8 @@ pub fn may_be_off(instance: &Instance, nurse: u16, day: u8) -> bool
     true
 }
 
-/// The maximum price, less the price of the cell, if the nurse may have it. `free` says whether she may be off that
-/// day.
+/// The maximum price, less the price of the cell, if the nurse may have it. `free` says whether she
+/// may be off that day.
 pub fn rebate(instance: &Instance, prices: &Prices, free: bool, cell: Cell) -> u64
     requires cell_in { InWeek (problem_of instance.now) cell }
     requires free_is { free ≡ may_be_off (problem_of instance.now) cell.nurse cell.day }
@@ -63,7 +63,7 @@ pub fn rebate(instance: &Instance, prices: &Prices, free: bool, cell: Cell) -> u
     }
 }
 
-// The minimum rebate of the nurse's skills on the shift type.
+// The minimum rebate over the nurse's skills on the shift type.
 fn least_rebate(
     instance: &Instance,
     prices: &Prices,

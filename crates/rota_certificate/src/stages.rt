@@ -24,8 +24,8 @@ pub struct LentLeaf<'a> {
     pub case: &'a [Condition],
 }
 
-/// A week of a leaf in the search for a nurse's minimum: the week with its prices, the leaf, the number of the week
-/// there, the value of a point in units of a price, the nurse and her tariff, and whether totals are charged.
+/// A week of a leaf in the search for a nurse's minimum: the week with its prices and its number in
+/// the leaf, the value of a point, the nurse and her tariff, and whether totals are charged.
 #[derive(Clone, Copy)]
 pub struct Stage<'a> {
     pub instance: &'a Instance,

@@ -30,7 +30,7 @@ fn surcharge_at(surcharges: &[u32], index: usize) -> u32
     }
 }
 
-/// The conditions of the case with these surcharges, in order; a missing one is 0.
+/// The conditions of the case with these surcharges, in order; a missing surcharge is 0.
 pub fn with_surcharges(
     alloc: Global,
     case: &[Condition],

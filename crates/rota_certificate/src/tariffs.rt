@@ -1,4 +1,4 @@
-//! What the charges of a nurse cost in a leaf.
+//! The cost of a nurse's charges in a leaf.
 
 ghost use Rattle.std.specs.Prelude.{◌≡◌, ◌*◌, ◌+◌, ◌≤◌, ◌||◌, None, Some, false, if◌then◌else◌};
 ghost use Rattle.std.specs.Option.{option_map_or};
@@ -14,7 +14,7 @@ use crate::rebates::NOT_ALLOWED;
 use crate::surcharges::Surcharged;
 use rota_core::{ChargeKind, Condition};
 
-/// What a charge of each kind costs, in thousandths of a point.
+/// The cost of a charge of each kind, in thousandths of a point.
 #[derive(Clone, Copy)]
 pub struct Tariff {
     /// A day too many or too few in a run of a shift type.
@@ -40,7 +40,7 @@ fn points_of(kind: ChargeKind) -> u64
     }
 }
 
-// What the condition adds to the weight of the nurse's charges of the kind.
+// The part that the condition adds to the weight of the nurse's charges of the kind.
 fn added_by(one: &Surcharged, kind: ChargeKind, nurse: u16) -> u64
     ensures added { result ≡ option_map_or (added_by kind nurse one.now.surcharge) (limit_of one.now.condition.fact one.now.condition.holds) 0 }
     ensures small { result ≤ one.now.surcharge }
@@ -51,7 +51,7 @@ fn added_by(one: &Surcharged, kind: ChargeKind, nurse: u16) -> u64
     }
 }
 
-// What it takes off.
+// The part that it takes off.
 fn taken_by(one: &Surcharged, kind: ChargeKind, nurse: u16) -> u64
     ensures taken { result ≡ option_map_or (taken_by kind nurse one.now.surcharge) (limit_of one.now.condition.fact one.now.condition.holds) 0 }
     ensures small { result ≤ one.now.surcharge }
@@ -62,7 +62,7 @@ fn taken_by(one: &Surcharged, kind: ChargeKind, nurse: u16) -> u64
     }
 }
 
-// What all conditions add to the weight of the nurse's charges of the kind.
+// The sum that all conditions add to the weight of the nurse's charges of the kind.
 fn added(charges: &[Surcharged], kind: ChargeKind, nurse: u16) -> u64
     requires { AreLimited charges.now }
     ensures sum { result ≡ added charges.now kind nurse }
@@ -75,7 +75,7 @@ fn added(charges: &[Surcharged], kind: ChargeKind, nurse: u16) -> u64
     sum
 }
 
-// What all conditions take off.
+// The sum that they take off.
 fn taken(charges: &[Surcharged], kind: ChargeKind, nurse: u16) -> u64
     requires { AreLimited charges.now }
     ensures sum { result ≡ taken charges.now kind nurse }
@@ -107,7 +107,7 @@ fn is_forbidden(charges: &[Surcharged], kind: ChargeKind, nurse: u16) -> bool
         .any(|one| is_forbidden_by(one.condition, kind, nurse))
 }
 
-// The weight of the nurse's charges of the kind, unless more is taken off than it has.
+// The weight of the nurse's charges of the kind, unless the surcharges make it negative.
 fn weight(unit: u64, charges: &[Surcharged], kind: ChargeKind, nurse: u16) -> Option<u64>
     requires unit_in { unit ≤ thousandths }
     requires limited { AreLimited charges.now }
@@ -124,7 +124,7 @@ fn weight(unit: u64, charges: &[Surcharged], kind: ChargeKind, nurse: u16) -> Op
     }
 }
 
-/// The tariff of the nurse in the leaf, unless more is taken off a weight than it has.
+/// The tariff of the nurse in the leaf, unless the surcharges make a weight negative.
 pub fn tariff_of(unit: u64, charges: &[Surcharged], nurse: u16) -> Option<Tariff>
     requires unit_in { unit ≤ thousandths }
     requires limited { AreLimited charges.now }
@@ -142,7 +142,7 @@ pub fn tariff_of(unit: u64, charges: &[Surcharged], nurse: u16) -> Option<Tariff
     })
 }
 
-// What the bound loses by the condition.
+// The loss of the bound by the condition.
 fn lost_by(one: &Surcharged) -> u64
     requires limited { IsLimited one.now.condition.fact }
     requires small { one.now.surcharge ≤ max_price }
@@ -155,7 +155,7 @@ fn lost_by(one: &Surcharged) -> u64
     }
 }
 
-// What the bound gains by it.
+// The gain of the bound by it.
 fn gained_by(one: &Surcharged) -> u64
     requires limited { IsLimited one.now.condition.fact }
     requires small { one.now.surcharge ≤ max_price }
@@ -168,7 +168,7 @@ fn gained_by(one: &Surcharged) -> u64
     }
 }
 
-/// What the bound of the leaf loses.
+/// The loss of the leaf's bound.
 pub fn lost(charges: &[Surcharged]) -> u64
     requires { AreLimited charges.now }
     ensures sum { result ≡ lost charges.now }
@@ -181,7 +181,7 @@ pub fn lost(charges: &[Surcharged]) -> u64
     sum
 }
 
-/// What the bound of the leaf gains.
+/// The gain of the leaf's bound.
 pub fn gained(charges: &[Surcharged]) -> u64
     requires { AreLimited charges.now }
     ensures sum { result ≡ gained charges.now }

@@ -16,7 +16,7 @@ use Rattle.rota_core.specs.Problem.{Problem}
 use Rattle.rota_core.proofs.CellLists.{all-cells_of}
 use Rattle.rota_core.proofs.CellsByIndex.{cells_in-is, cells-at_indices}
 
--- a list of truth values has as many true ones as there are indices of true values in a list that begins with it
+-- the number of true values in a list is the number of their indices in any list that begins with it
 pub count-truths : (list truths : List Bool) (n : ℕ) → length list ≡ n → ((p : ℕ) → p < n → get_or list p false ≡ get_or truths p false) →
     count_by (λ is_in. is_in) list ≡ length (true_from truths 0 n)
 count-truths list truths n long same =

@@ -38,7 +38,7 @@ AreLimits span = (span.min ≤ max_number) × (span.max ≤ max_number)
 abbrev pub IsContract : Contract → Type 0
 IsContract c = AreLimits c.total × AreLimits c.work × AreLimits c.off × (c.weekends ≤ max_number)
 
--- words that no shift type may be called: in a history `None` stands for no shift type, in a request `Any` for each one
+-- words that no shift type may be called: in a history `None` means no shift type, in a request `Any` means each one
 abbrev pub reserved : List (List ℕ)
 reserved = codes "None" ∷ codes "Any" ∷ []
 

@@ -28,7 +28,7 @@ pub struct DayChoice {
     pub choice: Option<u8>,
 }
 
-/// A place of a week has at most so many nurses.
+/// A place of a week has at most this number of nurses.
 #[derive(Clone, Copy, Debug, PartialEq, Eq)]
 pub struct NurseLimit {
     /// The week, from 0.
@@ -43,7 +43,7 @@ pub struct NurseLimit {
     pub most: u16,
 }
 
-/// A nurse, or all nurses, have at most so many charges of a kind in all weeks.
+/// A nurse, or all nurses, have at most this number of charges of a kind in all weeks.
 #[derive(Clone, Copy, Debug, PartialEq, Eq)]
 pub struct ChargeLimit {
     /// The kind of charges.
@@ -59,9 +59,9 @@ pub struct ChargeLimit {
 pub enum Fact {
     /// A nurse has a choice on a day.
     Choice(DayChoice),
-    /// A place has at most so many nurses.
+    /// The number of nurses at a place is within a limit.
     Nurses(NurseLimit),
-    /// There are at most so many charges of a kind.
+    /// The number of charges of a kind is within a limit.
     Charges(ChargeLimit),
     /// The number of charges of runs of a shift type, of all nurses in all weeks, is even.
     EvenShiftRuns,

@@ -1,5 +1,5 @@
 -- An item's constraint holds if and only if its shortage is at most its number of true slacks. In an
--- extension as many slacks are true as the shortage, or all if it is more.
+-- extension the number of true slacks is the shortage, or all slacks are true if it is more.
 use Rattle.rota_items.proofs.Common.Imports.{map, ◌≡◌, ◌↔◌, ℕ, zero, suc, ◌+◌, ◌-◌, ◌*◌, ◌<◌, ◌≤◌, Bool, cond, List, [], ◌∷◌, refl, ap, ◌∙◌, arith}
 use Rattle.rota_items.proofs.Common.Imports.{add-zero, ltb, pos, ◌+ℤ◌, ◌-ℤ◌, ◌≤ℤ◌, All, count_by, range_with_len, sum_by-cons, recursion_from_All}
 use Rattle.rota_items.proofs.Common.Imports.{lt-ltb, le-ltb, ints, nat_tests, AllByRecursion, All-from_recursion, All-head, All-tail, mul-le-mul_left}

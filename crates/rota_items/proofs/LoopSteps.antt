@@ -1,5 +1,5 @@
--- Loops that send a taker one list at each step: step j of n sends the list f j. Before step i, the invariant says what the taker took,
--- and how the loop goes on and stops from there. So neither needs an answer that names the calls of the step.
+-- Loops that send a taker one list at each step: step j of n sends the list f j. Before step i, the invariant names the taken lists,
+-- and says how the loop goes on and stops from there. So neither needs an answer that names the calls of the step.
 use Rattle.rota_items.proofs.Common.Imports.{ℕ, ◌<◌, List, Problem, Cell, Term, Item, LinearRow, numbered_rows, numbered_list, cell_term_events}
 use Rattle.rota_items.proofs.Common.Imports.{concat_below, concat_below-zero, concat_below-more, ◌+◌, TookAll, RefusedOne}
 use Rattle.rota_items.proofs.Taking.{both, nothing, loop_refused, rows_join, items_join, terms_join}

@@ -1,4 +1,4 @@
--- What a taker took of a list: of the events of rows, of rows of the hard rules, of items, or of literals.
+-- The part that a taker took of a list: of the events of rows, of rows of the hard rules, of items, or of literals.
 use Rattle.std.specs.Prelude.{◌≡◌, Bool, List, ◌∷◌, ◌++◌, Result, MatchResult}
 use Rattle.std.specs.List.{fold}
 use Rattle.rota_core.specs.declared.values.Cell.{Cell}

@@ -47,7 +47,7 @@ pub record JudgesTheRules (problem : Problem) (assignment : ℕ → Bool) (roste
   pub first_broken : assignment (unit_number problem) ≡ true →
       KeepsHardRules problem roster ⊎ IsSomeAnd verdict.unmet (λ unmet. FirstBroken problem roster unmet.1)
   pub costs : KeepsCompetitionRules problem roster → CostsTheRules problem roster verdict
-  -- if the roster keeps H1, the costs of all soft rules but the first, S1, are those of the rules
+  -- if the roster keeps H1, the costs of all soft rules but the first, S1, agree with the rules
   pub later_costs : KeepsOneCell problem roster → drop 1 verdict.costs ≡ map (rule_cost problem roster) (drop 1 soft_rules)
 
 -- The assignment satisfies the model, and its roster keeps the hard rules at a penalty of at most the objective.

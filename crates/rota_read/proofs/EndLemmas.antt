@@ -32,7 +32,7 @@ pub read_long : {V : Type 0} (l : Layout V) (text : List ℕ) → max_file_len <
 unfolding read_text opened
 read_long l text long = rw (longer (length text) long) refl
 
--- what follows the first part may be replaced
+-- the part after the first one may be replaced
 pub then_read-same : {A B : Type 0} (r : Result A Fault) (f g : A → Result B Fault) → ((a : A) → r ≡ Ok a → f a ≡ g a) →
     then_read r f ≡ then_read r g
 then_read-same (Ok a) f g same = same a refl

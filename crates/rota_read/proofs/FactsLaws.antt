@@ -107,7 +107,7 @@ module _ (t : ScenarioTables) (weeks : ℕ) where
       let all = condition_rows-keep n (suc i) (conditions ++ condition ∷ []) h.2 last rest longer kept in
       (omega (arith, all.0), all.1)
 
-  -- conditions that are spelled: as many as a number of a file, of facts that name what exists
+  -- conditions that are spelled: at most `max_number`, of facts that name only nurses, weeks, shift types and skills that exist
   spelled-are : (text : List ℕ) (found : List Condition) → Spells (facts t weeks) text found →
       (length found ≤ max_number) × AreConditionsFor (numbers_of t) weeks found
   unfolding Fills facts
@@ -118,7 +118,7 @@ module _ (t : ScenarioTables) (weeks : ℕ) where
       let rows = condition_rows-keep count.0 0 [] _ found count.5 refl tt in
       (omega (arith, rows.0, within.1), rows.1)
 
-  -- conditions that are read are of facts that name what exists
+  -- conditions that are read are of such facts
   pub facts-read : (text : List ℕ) (found : List Condition) → read_text (facts t weeks) text ≡ Ok found →
       AreConditionsFor (numbers_of t) weeks found
   facts-read text found h = (spelled-are text found (spells-read (facts t weeks) text found h)).1

@@ -95,7 +95,7 @@ impl<'a> Cursor<'a> {
         Ok(self.long_number(u32::from(low), u32::from(high))? as u16)
     }
 
-    /// A number between the limits, which may be those of a price.
+    /// A number between the limits, which may be as large as a price.
     #[tactic(auto, unfolding(crate::specs::Layout::number, crate::specs::Reading::read_layout))]
     pub fn long_number(&mut self, low: u32, high: u32) -> Result<u32, Stop>
         requires { high ≤ MAX_PRICE }

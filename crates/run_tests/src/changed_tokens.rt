@@ -1,4 +1,4 @@
-//! Files in which each token is replaced, preceded or cut off by each of these words. No fault is called a lack of
+//! Files with each token replaced, preceded or cut off by each of these words. No fault names
 //! memory. `tests/random/changed_tokens.py` finds the same numbers of faults with the helpers' readers.
 use crate::changes::{Base, texts_of};
 use crate::file_faults::read_tables;

@@ -54,7 +54,7 @@ Ann Early Mon
     ],
 };
 
-/// The greatest numbers of shift types and skills.
+/// The maximum numbers of shift types and skills.
 const SIXTEEN: Base = Base {
     kind: jobs::Kind::Extend,
     early: false,

@@ -147,7 +147,7 @@ fn input_and_output_where_no_file_is_named(rt: HostRuntime) -> Result<(), Fail> 
     Ok(())
 }
 
-// The files of a job, of which this one is at another path.
+// The files of a job, with this one at another path.
 fn files_without(texts: &jobs::Job<'static>, number: usize) -> [MemoryFile<'static>; 5] {
     let mut files = files_of(texts);
     if let Some(moved) = files.get_mut(number) {

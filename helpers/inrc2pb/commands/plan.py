@@ -25,7 +25,7 @@ from .ward import ward_files, ward_name
 
 # The reasons of absences that count as work.
 CREDITED = tuple(word for word in AWAY if word not in ("away", "unpaid"))
-# What each verb does, in the order of the help. Those that only read need no lock.
+# The verbs and their effects, in the order of the help. Verbs that only read need no lock.
 VERBS = {
     "check": "name the mistakes of the spreadsheet, and print the ward in sentences",
     "plan [DAY]": "plan the weeks that are not over, from this day on",

@@ -8,7 +8,7 @@ from ..week.records import DAYS, Cell, KeptLimit, Week
 from .absences import joined, readable
 from .rules import SATURDAY, Charge, charges
 
-# The charges of each kind, by their rule and what they charge.
+# The kinds of charges, by their rules and their words.
 _KINDS = {("S2", "work above"): WORK_DAYS, ("S6", "above"): SHIFTS, ("S7", "above"): WEEKENDS}
 
 

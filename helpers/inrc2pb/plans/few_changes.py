@@ -6,7 +6,7 @@ from typing import Collection, Dict, Iterator, Optional, Tuple
 from ..judging.rules import REQUEST
 from ..week.records import Cell, Request, Scenario, WeekData
 
-# What a nurse's other shift costs, in points, beside what the rules charge.
+# The cost of another shift for a nurse, in points, in addition to the charges of the rules.
 POINTS = 20
 
 

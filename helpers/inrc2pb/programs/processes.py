@@ -22,7 +22,7 @@ LAST_BYTES = 200
 PIECE = 1 << 16
 # Seconds that a process has to end after its output did, and between two looks whether it has.
 EXIT_SECONDS, EXIT_PAUSE = 0.5, 0.005
-# The seconds of one wait for output. What a process printed before it ended is there after one more.
+# The seconds of one wait for output. One more wait gets the last output of a process that has ended.
 PAUSE = 0.1
 # The most seconds of one wait: the system limits them.
 MAX_WAIT = 3600.0
@@ -191,7 +191,7 @@ def _has_ended(process: "subprocess.Popen[bytes]") -> bool:
 
 def _signal_group(process: "subprocess.Popen[bytes]", number: int) -> None:
     if process.returncode is not None:
-        # Its number may be that of another process now.
+        # Another process may have its number now.
         return
     try:
         os.killpg(process.pid, number)

@@ -11,7 +11,7 @@ from .pricing import Crews, Prices, Pricing, NurseWeek
 from .row_arrays import Block, Member, blocks_of, numpy
 from .row_graph import Check
 
-# A charge of a shift run costs so many points in the graphs, so that the number of charges can be read from a cost.
+# The points that a charge of a shift run costs in the graphs, so that the number of charges can be read from a cost.
 _CODE = 10_000_000
 
 

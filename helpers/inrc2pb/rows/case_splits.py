@@ -14,10 +14,10 @@ from .plan import STEP, WEEK_DAYS
 _Key = TypeVar("_Key", int, NurseChoice)
 # A share this near to a whole number is one.
 WHOLE = 1e-3
-# The splits of each kind that are tried, the most steps of the dual simplex method for each case of one and for all, and the least rise
-# that counts as one.
+# The splits of each kind that are tried, the most steps of the dual simplex method for each case of one and for all, and the minimum
+# rise that counts as one.
 TRIED, STEPS, MOST_STEPS, LEAST_RISE = 5, 400, 6000, 1e-3
-# How much the higher of the two rises counts beside the lower one.
+# The weight of the higher of the two rises; the lower one has weight 1.
 HIGHER = 0.1
 
 

@@ -200,7 +200,7 @@ class _Batch:
                 rest = graph.arrays.after(days.stop, rows[nurse]) if days.stop < len(graph.days) else None
             members.append(Member(nurse, graph.arrays, start, rest))
         self._blocks = blocks_of(members, days.stop, days.start)
-        # The wishes and the crews of each nurse, day and choice, and what they were made of.
+        # The wishes and the crews of each nurse, day and choice, and their sources.
         self._wishes: Any = None
         self._crews: Any = None
         self._made_of: Tuple[object, object] = (None, None)

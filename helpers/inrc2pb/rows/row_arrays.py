@@ -7,9 +7,9 @@ from typing import Any, Callable, Dict, List, NamedTuple, Optional, Sequence, Tu
 from ..judging.runs import NEVER
 
 INSTALL = "NumPy is not installed: with it the search is several times faster (Debian: apt-get install python3-numpy)"
-# Graphs with fewer arcs lie side by side, each with one nurse, in blocks of about so many arcs; larger ones have a column for each nurse.
+# Graphs up to this number of arcs lie side by side, one for each nurse, in blocks of about this size; others have a column for each nurse.
 SMALL, BLOCK = 6_000, 60_000
-# From so many values on, the choices of a day are compared one after another.
+# Above this number of values, the choices of a day are compared one after another.
 _MANY = 40_000
 # The multiplier of the numbers by which equal nodes are found.
 _MULTIPLIER = 6364136223846793005

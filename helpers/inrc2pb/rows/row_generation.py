@@ -19,7 +19,7 @@ from .skills import staffed
 SMOOTHING = 0.4
 # A row is worth a column if it costs less than the known ones by more than this many thousandths.
 WORTH = 1
-# The columns in use for each nurse, after some were dropped and at most; so many are never too many.
+# The columns in use for each nurse: after some are dropped, and at most. Up to the last number in all, none are dropped.
 KEPT, MOST_USED, LEAST_USED = 4, 6, 3000
 # Numbers that differ by no more than this are equal in a solution.
 EXACT = 1e-6

@@ -29,7 +29,7 @@ LARGE = 400
 # The most of the time that goes to a first plan, week after week.
 FIRST_SHARE = 0.1
 
-# Writes rosters of all weeks, whose days count from the first one, to where they belong.
+# Writes the rosters of all weeks to their places; their days count from the first week.
 Keep = Callable[[Sequence[Cell]], None]
 
 
@@ -54,7 +54,7 @@ class PeriodSearch:
         self._cells: Sequence[Cell] = ()
         # How much of the absences and limits the best plan does not keep, and its penalty: a smaller rank is better.
         self._rank: Optional[Tuple[int, int, int]] = None
-        # What no plan that keeps all absences and limits costs less than, by plain Python.
+        # A lower bound of the cost of all plans that keep all absences and limits, by plain Python.
         self._kept_bound = 0
 
     def interrupt(self) -> None:

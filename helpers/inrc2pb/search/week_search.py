@@ -37,7 +37,7 @@ class WeekSearch:
         # limits.
         self.claimed_by = ""
         self.claims_kept = False
-        # What no roster that keeps them costs less than, by plain Python.
+        # A lower bound of the cost of all rosters that keep them, by plain Python.
         self.kept_bound = 0
 
     def interrupt(self) -> None:

@@ -14,7 +14,7 @@ from ..week.slots import MAX_NUMBER, SIGNS, closest, did_you_mean
 _SEVERAL = re.compile(r"[,;/]")
 # Signs without a width, which a text from a page or a message may have.
 _NO_WIDTH = re.compile("[\u200b-\u200d\u2060\ufeff]")
-# What a spreadsheet shows for a formula with a fault.
+# The texts that spreadsheets show for a formula with a fault.
 _BROKEN = re.compile(r"#(REF!|BEZUG!|DIV/0!|NAME\?|VALUE!|WERT!|NUM!|ZAHL!|NULL!|N/A|NV|SPILL!)|Err:[0-9]+", re.IGNORECASE)
 _SAVE = "open the file in a spreadsheet program, and save it again"
 SUM = re.compile(r"=([0-9]{1,4})\+([0-9]{1,4})")

@@ -179,7 +179,7 @@ class LinearProgram:
         self._number = child.number() if child else 0
         self._lower, self._upper = array("d"), array("d")
         self._columns: List[Column] = []
-        # What the child has not done yet, and the start of the child that has the rest.
+        # The operations that the child has not done yet, and the start of the child that has done the others.
         self._pending: List[_Operation] = []
         self._start = 0
         self._goes_on = False
@@ -287,7 +287,7 @@ class LinearProgram:
                 if not (name[1:].isdigit() and int(name[1:]) < len(target)):
                     raise SolverFault(f"the answer has an unknown column {name[:40]}")
                 target[int(name[1:])] = value
-        # How many iterations it took is not known: as many as it has rows, say.
+        # The number of iterations is unknown; the number of rows is a guess.
         return Solution(OPTIMAL, found.value, prices, columns, rises, self.rows)
 
     def text(self, names: Optional[Sequence[str]] = None, whole: str = "") -> str:

@@ -220,7 +220,7 @@ class Contents(unittest.TestCase):
     def test_absences_as_requests(self):
         found = made(SHEETS, requests=True).texts
         scenario = files.read_scenario("ward.txt", found["ward.txt"])
-        # Ewa never works Night, and Finn is off on Wednesdays: 8 absences with 200 requests, beside 5 wishes.
+        # Ewa never works Night, and Finn is off on Wednesdays: 8 absences with 200 requests each, and 5 wishes.
         data = files.read_week("w", scenario, found["week-0.txt"])
         self.assertEqual((len(data.requests), len(absences_of(data))), (1605, 8))
         self.assertEqual(len(files.read_week("w", scenario, texts(SHEETS)["week-0.txt"]).requests), 5)

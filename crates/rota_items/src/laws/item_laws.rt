@@ -15,8 +15,8 @@ pub fn item_holds_from_its_shortage_on()
         (shortage assignment item ≤ count_by assignment (slack_variables item first)) }
 {}
 
-/// If no item lacks more than its slacks, and the variables of the items' terms come before all slacks, the
-/// items hold with the slacks that they need, and these cost the weighted shortages.
+/// If no shortage is above the item's number of slacks, and all variables of terms come before all
+/// slacks, the items hold with the slacks that they need, and these cost the weighted shortages.
 pub fn extension_satisfies_items()
     ensures satisfies { (assignment : ℕ → Bool) (first : ℕ) (items : List (Item ℕ)) →
         AreBelow first items →

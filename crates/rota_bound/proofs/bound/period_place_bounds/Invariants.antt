@@ -3,7 +3,7 @@ use Rattle.rota_bound.specs.PeriodBounds.{period_place_bounds}
 use Rattle.rota_bound.specs.Stages.{lent_of}
 use Rattle.rota_bound.proofs.bound.period_place_bounds.Given as goal
 
--- the sum so far and the bounds of the weeks that are left are those of all
+-- the sum so far and the bounds of the weeks that are left make the sum for all weeks
 abbrev pub invariant-loop-one : goal.invariant-loop-one
 invariant-loop-one l =
     let weeks = map lent_of l.weeks in

@@ -3,7 +3,7 @@ use Rattle.rota_core.specs.Limits.{max_number}
 use Rattle.rota_certificate.specs.PlaceCases.{lowered_optimal, raised_minimum}
 use Rattle.rota_certificate.proofs.demand.case_demand.Given as goal
 
--- the conditions that are left make of the demand so far the demand in the case
+-- the demand so far, changed by the conditions that are left, is the demand in the case
 abbrev pub invariant-loop-index : goal.invariant-loop-index
 invariant-loop-index l =
     let p = l.place in

@@ -3,7 +3,7 @@ use Rattle.rota_certificate.specs.LeafBounds.{leaf_place_bounds}
 use Rattle.rota_certificate.specs.Stages.{weeks_of}
 use Rattle.rota_certificate.proofs.places.leaf_place_bounds.Given as goal
 
--- the sum so far and the bounds of the weeks that are left are those of all
+-- the sum so far and the bounds of the weeks that are left make the sum for all weeks
 abbrev pub invariant-loop-week : goal.invariant-loop-week
 invariant-loop-week l = record {
   sum : l.sum + leaf_place_bounds l.unit l.leaf.case.now l.week (drop l.week (weeks_of l.leaf)) ≡

@@ -3,6 +3,6 @@ use Rattle.rota_certificate.specs.NurseBounds.{charge_totals}
 use Rattle.rota_certificate.specs.Stages.{weeks_of}
 use Rattle.rota_certificate.proofs.stages.charge_totals.Given as goal
 
--- the answer for the weeks that are left is that for all
+-- the weeks that are left give the answer for all weeks
 abbrev pub invariant-loop-one : goal.invariant-loop-one
 invariant-loop-one l = charge_totals (drop l.one-index (weeks_of l.leaf)) ≡ charge_totals (weeks_of l.leaf)

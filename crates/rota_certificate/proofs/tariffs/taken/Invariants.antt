@@ -3,7 +3,7 @@ use Rattle.rota_core.specs.Limits.{max_price}
 use Rattle.rota_certificate.specs.Tariffs.{taken}
 use Rattle.rota_certificate.proofs.tariffs.taken.Given as goal
 
--- the sum so far and that of the conditions that are left are the sum of all
+-- the sum so far and the sum of the conditions that are left make the sum of all
 abbrev pub invariant-loop-one : goal.invariant-loop-one
 invariant-loop-one l = record {
   sum : l.sum + taken (drop l.one-index l.charges) l.kind l.nurse ≡ taken l.charges l.kind l.nurse;

@@ -3,7 +3,7 @@ use Rattle.std.specs.Prelude.{◌-◌}
 use Rattle.rota_items.specs.Rows.{DAYS, S1, ℕ, pos, nat_lt, List, Cell, Problem, concat_below, singleton_if, demand_cells, Item, times}
 use Rattle.rota_items.specs.rules.OptimalCoverage.Cost.{optimum_weight}
 
--- the item of a demand: its shortage is the number of nurses that lack up to the optimal number
+-- the item of a demand: its shortage is the number of nurses that are missing up to the optimal number
 abbrev pub optimum_item : Problem → (day shift skill : ℕ) → Item Cell
 optimum_item problem d s k = let demand = problem.demand d s k in record {
   rule = S1;

@@ -12,7 +12,7 @@ still_wanted problem n = (problem.contract n).total.min - (problem.past n).assig
 abbrev pub still_allowed : Problem → ℕ → ℕ
 still_allowed problem n = (problem.contract n).total.max - (problem.past n).assignments
 
--- the item whose shortage is the number of assignments that the nurse lacks for her minimum total, at most one a day
+-- the item whose shortage is the number of assignments that are missing for the nurse's minimum total, at most one a day
 abbrev pub min_total_item : Problem → ℕ → Item Cell
 min_total_item problem n = record {
   rule = S6;
