@@ -1,4 +1,4 @@
--- The choice of a roster that keeps the hard rules, on each day of a nurse: the recursion lets the nurse choose so.
+-- On each day of a nurse, a roster that keeps the hard rules has a choice that the recursion lets her make.
 use Rattle.std.proofs.Common.{◌≡◌, ℕ, suc, ◌+◌, ◌-◌, ◌*◌, ◌<◌, ◌≤◌, inl, inr, Bool, true, false, not, refl, ap, sym, ◌∙◌, arith, add-one}
 use Rattle.std.proofs.Common.{◌||◌}
 use Rattle.std.specs.Prelude.{Option, Some, None}

@@ -113,7 +113,7 @@ module _ (problem : Problem) (prices : Prices) (roster : Roster) (n : ℕ) where
     pub assignments : past.assignments ≡ start.assignments + sum_below d assigned_on
     pub weekends : past.weekends ≡ start.weekends + sum_below d weekends_on
 
-  -- the roster keeps the hard rules at the choice
+  -- the choice is open to the nurse: a day off if no cell of the day is held, or one of the shift types
   abbrev pub IsOpen : ℕ → Option ℕ → Type 0
   IsOpen d None = may_be_off problem n d ≡ true
   IsOpen d (Some s) = s < problem.shifts

@@ -85,7 +85,7 @@ module _ (problem : Problem) (n : ℕ) (past other : Past) (equivalent : AreEqui
   -- ---- the minimum over the choices of a day
 
   module _ (unit : ℕ) (prices : Prices) (d : ℕ) (rest : Past → ℕ) (same : IsSameForEquivalent problem n rest) where
-    -- the value of a choice that is barred or not, from the charge of the day and the cost of what comes after it
+    -- the value of a choice that is barred or not, from the charge of the day and the cost of the time after it
     abbrev value : Option ℕ → (barred : Bool) (charge after : ℕ) → ℕ
     value choice barred charge after = cond barred not_allowed (unit * charge + day_rebate problem prices n d choice + after)
 
@@ -139,7 +139,7 @@ same-limits-back : (one other : Problem) → HaveSameLimits one other → HaveSa
 same-limits-back one other same = record { limits = λ s. sym (same.limits s); contract = λ n. sym (same.contract n) }
 
 module _ (unit : ℕ) (problem : Problem) (n : ℕ) where
-  -- the cost of what comes after a week, if the later weeks have the limits of the problem
+  -- the cost of the time after a week, if the later weeks have the limits of the problem
   pub rest_after-equivalent : (week : Problem) (later : List WeekPrices) →
       AllByRecursion (λ (one : WeekPrices). HaveSameLimits problem one.week) later →
       IsSameForEquivalent problem n (rest_after unit week later n)

@@ -1,4 +1,4 @@
--- The first number below a number that passes a test.
+-- The first of the numbers below n that passes a test.
 use Rattle.std.proofs.Common.{◌≡◌, ℕ, zero, suc, ◌+◌, ◌<◌, inl, inr, Bool, true, false, refl, ap, sym, ◌∙◌, arith, add-one}
 use Rattle.std.specs.Prelude.{IfSome, Option, Some, None}
 use Rattle.std.proofs.lemmas.Bool.{eq-eqb, eqb-true}
@@ -60,6 +60,6 @@ inside-found : (n s : ℕ) (test : ℕ → Bool) (found : Option ℕ) → found 
 inside-found n s test None is first = absurd (cc is)
 inside-found n s test (Some i) is first = let e : i ≡ s = cc is in omega (arith, first.0)
 
--- the number found is below the number
+-- the number found is below n
 pub first-inside : (n : ℕ) (test : ℕ → Bool) (s : ℕ) → first_below n test ≡ Some s → s < n
 first-inside n test s is = inside-found n s test (first_below n test) is (first-is n test)

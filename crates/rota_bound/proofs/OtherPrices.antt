@@ -29,7 +29,7 @@ module _ (problem : Problem) (one other : Prices) (same : AreSamePrices problem 
       least-within problem.skills not_allowed (rebate problem one n d s) (rebate problem other n d s) (λ k k_in. rebate-same d s k d_in inside k_in)
 
   module _ (unit d : ℕ) (d_in : d < DAYS) (past : Past) (rest also : Past → ℕ) (rests : (after : Past) → rest after ≡ also after) where
-    -- the value of a choice, from its rebate and the cost of what comes after it
+    -- the value of a choice, from its rebate and the cost of the time after it
     abbrev value : Option ℕ → (rebate_is after : ℕ) → ℕ
     value choice rebate_is after =
         cond (is_barred problem past choice) not_allowed (unit * day_charge problem n d past choice + rebate_is + after)

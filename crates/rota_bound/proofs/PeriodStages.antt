@@ -14,7 +14,7 @@ use Rattle.rota_bound.specs.Stages.{AreFit, Fits, IsFreeOfTotals, IsStage, all_o
 use Rattle.rota_bound.specs.declared.stages.LentWeek.{LentWeek}
 use Rattle.rota_bound.specs.declared.stages.Stage.{Stage}
 
--- a property of each element is one of the element at an index
+-- a property of each element holds for the element at an index
 pub all-at : {X : Type 0} (P : X → Type 0) (xs : List X) (i : ℕ) (d : X) → AllByRecursion P xs → i < length xs → P (slice_index_or xs i d)
 all-at P [] i d all inside = absurd (omega arith)
 all-at P (x ∷ xs) zero d all inside = all.0
@@ -31,7 +31,7 @@ drop-lent weeks i d inside =
     drop_more (map lent_of weeks) i (lent_of d) (omega (arith, inside, length-map weeks lent_of)) ∙
     ap (λ (one : WeekPrices). one ∷ drop (i + 1) (map lent_of weeks)) (get_or-map lent_of weeks i d (lent_of d) inside)
 
--- weeks that fit one week fit each that fits it
+-- a week that fits one week fits each week with its numbers, limits and contracts
 fits-next : (other next : Problem) (one : LentWeek) → next.numbers ≡ other.numbers → ((s : ℕ) → next.limits s ≡ other.limits s) →
     ((n : ℕ) → next.contract n ≡ other.contract n) → Fits other one → Fits next one
 fits-next other next one numbers limits contract fits = record {

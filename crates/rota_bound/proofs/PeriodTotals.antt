@@ -48,7 +48,7 @@ pub grown-after : (week : Problem) (history : History) (roster : Roster) (n : �
     HaveGrown (week.past n) (history_after (after week history) roster n)
 grown-after week history roster n grown = record { assignments = omega (arith, grown.assignments); weekends = omega (arith, grown.weekends) }
 
--- the charges up to the week and those of the week are the charges up to its end
+-- the charges up to the week and the charges of the week make the charges up to its end
 pub charged-step : (week : Problem) (history : History) (roster : Roster) (n : ℕ) → HaveGrown (week.past n) (history n) →
     end_charge week n (history_after (after week history) roster n) ≡
     charged_before week n (history n) +

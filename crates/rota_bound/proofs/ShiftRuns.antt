@@ -13,7 +13,7 @@ differs : (a b : ℕ) → b ≢ a → (a == b) ≡ false
 differs a b other = false_from_ne_true (a == b) (λ same. other (sym (eqb-true a b same)))
 
 module _ (problem : Problem) (run : ℕ) where
-  -- the charge of a shift type that may be the last one and that of the day
+  -- the charge of a shift type, which may be the last one, the choice of the day, or both
   abbrev charge : (is_last is_choice : Bool) → ℕ → ℕ
   charge is_last is_choice s = run_charge (cond is_last run 0) is_choice (problem.limits s)
 

@@ -32,7 +32,7 @@ near-more shifts day other past more near = record {
   off_run = omega (arith, near.off_run);
 }
 
--- the history is one that the week starts from
+-- the pasts of a week's tables are near before the first day
 pub history-near : (t : InstanceTables) → IsInstance t → (n : ℕ) → IsNear (problem_of t).shifts 0 ((problem_of t).past n)
 history-near t limits n =
     let past = all-or_default (IsPast t.history.numbers.shifts) t.history.past n no_past limits.history.past.1 (search rules) in

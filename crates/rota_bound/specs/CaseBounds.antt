@@ -52,8 +52,8 @@ abbrev pub case_nurse_bound : ℕ → Problem → (off worked : NurseDays) → P
 case_nurse_bound unit problem off worked prices n =
     nurse_bound unit problem (pay problem off worked prices n) n + sum_below DAYS (bonus_on problem worked prices n)
 
--- the bound of a case, in which some nurses have days off, and some work on some days: the bounds of all places and all nurses, less what was
--- added; 0 if that is negative
+-- the bound of a case, in which some nurses have days off, and some work on some days: the bounds of all places and all nurses, less the
+-- added prices; 0 if that is negative
 abbrev pub case_bound : ℕ → Problem → (off worked : NurseDays) → Prices → ℕ
 case_bound unit problem off worked prices =
     (place_bounds unit problem prices + sum_below problem.nurses (case_nurse_bound unit problem off worked prices)) - added_prices problem

@@ -37,14 +37,14 @@ pub record IsCase (case : Case) : Type 0 where
   pub shape : IsForWeek (problem_in case) case.prices.now
   pub bonus : case.bonus ≡ bonus (problem_in case) (prices_in case)
 
--- the new table has the pay at each place of the day's shift type, and otherwise what the old one has
+-- the new table has the pay at each place of the day's shift type, and otherwise the prices of the old one
 pub record SetsShift (case : Case) (nurse day shift : ℕ) (old new : PriceTables) : Type 0 where
   pub shape : IsForWeek (problem_in case) new
   pub is_set : (k : ℕ) → k < (problem_in case).skills → prices_of new day shift k ≡ pay_in case nurse day shift k
   pub others_stay : (d s k : ℕ) → d < DAYS → s < (problem_in case).shifts → k < (problem_in case).skills → (d ≡ day → s ≡ shift → ⊥) →
       prices_of new d s k ≡ prices_of old d s k
 
--- the new table has the pay at each place of the day, and otherwise what the old one has
+-- the new table has the pay at each place of the day, and otherwise the prices of the old one
 pub record SetsDay (case : Case) (nurse day : ℕ) (old new : PriceTables) : Type 0 where
   pub shape : IsForWeek (problem_in case) new
   pub is_set : (s k : ℕ) → s < (problem_in case).shifts → k < (problem_in case).skills → prices_of new day s k ≡ pay_in case nurse day s k

@@ -37,7 +37,7 @@ pub record IsCapped (problem : Problem) (n : ℕ) (past : Past) : Type 0 where
   pub work_run : past.work_run ≤ run_cap (problem.contract n).work
   pub off_run : past.off_run ≤ run_cap (problem.contract n).off
 
--- the cost of what comes after the past is the same for equivalent pasts
+-- the cost of the time after the past is the same for equivalent pasts
 abbrev pub IsSameForEquivalent : Problem → ℕ → (rest : Past → ℕ) → Type 0
 IsSameForEquivalent problem n rest = (past other : Past) → AreEquivalent problem n past other → rest past ≡ rest other
 

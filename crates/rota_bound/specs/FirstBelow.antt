@@ -1,7 +1,7 @@
 -- The first number that passes a test.
 use Rattle.std.specs.Prelude.{ℕ, zero, suc, Bool, if◌then◌else◌, Option, Some, None}
 
--- the number found, or this one if it passes
+-- the number found before, or else this one if it passes
 abbrev pub or_this : Option ℕ → ℕ → Bool → Option ℕ
 or_this (Some found) i passes = Some found
 or_this None i passes = (if passes then Some i else None)

@@ -22,7 +22,7 @@ first_rebate (first ∷ later) n d choice = day_rebate first.week first.prices n
 abbrev pub IsRightCost : ℕ → List WeekPrices → KnownCost → Type 0
 IsRightCost unit weeks known = known.cost ≡ least_left unit (drop known.week weeks) known.nurse known.left known.past
 
--- the rebate is the nurse's for the choice of the day, in the week with this number
+-- the rebate is the nurse's rebate for the choice on the day, in the week with this number
 abbrev pub IsRightRebate : List WeekPrices → KnownRebate → Type 0
 IsRightRebate weeks known = known.rebate ≡ first_rebate (drop known.week weeks) known.nurse known.day known.choice
 

@@ -19,7 +19,7 @@ thousandths = 1000
 abbrev pub added_prices : Problem → ℕ
 added_prices problem = problem.nurses * (DAYS * max_price)
 
--- the bounds of all places and all nurses, less what was added; 0 if that is negative
+-- the bounds of all places and all nurses, less the added prices; 0 if that is negative
 abbrev pub bound : ℕ → Problem → Prices → ℕ
 bound unit problem prices =
     (place_bounds unit problem prices + sum_below problem.nurses (nurse_bound unit problem prices)) - added_prices problem

@@ -8,7 +8,7 @@ use Rattle.rota_core.specs.declared.values.Demand.{Demand}
 use Rattle.rota_core.specs.Problem.{Problem}
 use Rattle.rota_items.specs.rules.OptimalCoverage.Cost.{optimum_weight}
 
--- the cost of this many nurses at a place with this demand, and their prices
+-- the cost of this number of nurses at a place with this demand, and their prices
 abbrev pub place_cost : ℕ → Demand → (price nurses : ℕ) → ℕ
 place_cost unit demand price nurses = unit * optimum_weight * (demand.optimal - nurses) + price * nurses
 

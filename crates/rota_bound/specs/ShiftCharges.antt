@@ -1,4 +1,4 @@
--- The two charges that those of the runs on all shift types consist of.
+-- The runs on all shift types have two charges: of the run on the shift type of the day, and of the run that the day ends.
 use Rattle.std.specs.Prelude.{ℕ, true, false, if◌then◌else◌, Option, Some, None}
 use Rattle.rota_core.specs.declared.values.Past.{Past}
 use Rattle.rota_core.specs.Problem.{Problem}

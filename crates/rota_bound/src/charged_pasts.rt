@@ -1,4 +1,4 @@
-//! The part of a past that the charges see.
+//! The part of a past on which the charges depend.
 
 ghost use Rattle.std.specs.Prelude.{◌≡◌, ℕ, ◌-◌, ◌≤◌, ◌<◌};
 ghost use Rattle.rota_bound.specs.Nearness.{IsNear};

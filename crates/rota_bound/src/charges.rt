@@ -45,7 +45,7 @@ fn going_charge(instance: &Instance, past: Past, choice: Option<u8>) -> u16
     }
 }
 
-// The charge of the run that the day ends, if any: the run on the last shift type, if the day has another one.
+// The charge of the run that the day ends, if any: on the last shift type, if the day has another.
 fn ended_charge(instance: &Instance, past: Past, choice: Option<u8>) -> u16
     requires last_in { IfSome past.last (λ s. s < (problem_of instance.now).shifts) }
     ensures { result ≡ ended_charge (problem_of instance.now) past choice }
@@ -58,7 +58,7 @@ fn ended_charge(instance: &Instance, past: Past, choice: Option<u8>) -> u16
     }
 }
 
-// The charges of the runs on all shift types. Only the runs on the shift type of the day and on the last one charge.
+// The charges of the runs on all shift types: of the day's run, and of the run that the day ends.
 fn shift_charges(instance: &Instance, past: Past, choice: Option<u8>) -> u64
     requires choice_in { IfSome choice (λ s. s < (problem_of instance.now).shifts) }
     requires last_in { IfSome past.last (λ s. s < (problem_of instance.now).shifts) }
@@ -161,7 +161,7 @@ pub fn charges_totals(instance: &Instance) -> bool
     instance.early() || instance.last_week()
 }
 
-// The excess over a maximum for which the week pays.
+// The excess over a maximum that the week pays for.
 fn charged_excess(instance: &Instance, maximum: u16, before: u16, now: u16) -> u64
     ensures excess { result ≡ charged_excess (problem_of instance.now) maximum before now }
     ensures small { result ≤ 131070 }

@@ -23,7 +23,7 @@ mod stages;
 // The cheapest week of a nurse.
 mod weeks;
 
-// The bound of a week, that by cases, and that of a period.
+// The bound of a week, the bound by cases, and the bound of a period.
 mod bound;
 mod cases;
 mod pays;

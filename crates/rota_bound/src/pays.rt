@@ -123,7 +123,7 @@ fn pay_at(case: &Case<'_>, nurse: u16, day: u8, shift: u8, skill: u8) -> u32
     price + bonus_on(case, nurse, day)
 }
 
-// Sets what the nurse earns at the places of the day's shift type.
+// Sets the nurse's pay at the places of the day's shift type.
 fn set_shift(case: &Case<'_>, nurse: u16, pays: &mut Prices, day: u8, shift: u8)
     requires is { IsCase case.now }
     requires shape { IsForWeek (problem_in case.now) pays.old }
@@ -136,7 +136,7 @@ fn set_shift(case: &Case<'_>, nurse: u16, pays: &mut Prices, day: u8, shift: u8)
     }
 }
 
-// Sets what the nurse earns at the places of the day.
+// Sets the nurse's pay at the places of the day.
 fn set_day(case: &Case<'_>, nurse: u16, pays: &mut Prices, day: u8)
     requires is { IsCase case.now }
     requires shape { IsForWeek (problem_in case.now) pays.old }

@@ -21,7 +21,7 @@ pub fn times(unit: u64, number: u64) -> u64
     unit * number
 }
 
-// The price of this many nurses.
+// The price of this number of nurses.
 fn price_of(price: u32, nurses: u16) -> u64
     requires price_in { price ≤ max_price }
     requires nurses_in { nurses ≤ max_number }
@@ -31,7 +31,7 @@ fn price_of(price: u32, nurses: u16) -> u64
     u64::from(price) * u64::from(nurses)
 }
 
-// The cost of this many nurses at a place with this demand, and their prices.
+// The cost of this number of nurses at a place with this demand, and their prices.
 fn place_cost(unit: u64, demand: Demand, price: u32, nurses: u16) -> u64
     requires unit_in { unit ≤ thousandths }
     requires price_in { price ≤ max_price }

@@ -1,4 +1,4 @@
-//! The rebates: the maximum price, less the best price that a nurse may be paid.
+//! The rebates: the maximum price, less the price of a cell that the nurse may have.
 
 ghost use Rattle.std.specs.Prelude.{◌≡◌, ◌≤◌, ◌<◌, IfSome, Some};
 ghost use Rattle.rota_core.specs.HardRules.{is_on};
@@ -63,7 +63,7 @@ pub fn rebate(instance: &Instance, prices: &Prices, free: bool, cell: Cell) -> u
     }
 }
 
-// The minimum rebate of the nurse's skills on the shift type.
+// The minimum rebate over the nurse's skills on the shift type.
 fn least_rebate(
     instance: &Instance,
     prices: &Prices,

@@ -130,7 +130,7 @@ pub some-weeks : (weeks : List InstanceTables) (n : ℕ) → n < (numbers_in wee
 some-weeks [] n n_in = absurd (omega (arith, n_in))
 some-weeks (week ∷ weeks) n n_in = omega arith
 
--- the first week has the numbers of each
+-- the first week has the numbers of all weeks
 pub first-numbers : (weeks : List InstanceTables) (one : InstanceTables) → one ≡ slice_index_or weeks 0 one → (length weeks == 0) ≡ false →
     (problem_of one).numbers ≡ numbers_in weeks
 first-numbers [] one is some = absurd (cc some)

@@ -1,4 +1,4 @@
--- The first number below a number that passes a test.
+-- The first of the numbers below n that passes a test.
 use Rattle.std.proofs.Common.{◌≡◌, ℕ, zero, suc, ◌+◌, ◌<◌, inl, inr, Bool, true, false, refl, ap, sym, ◌∙◌, arith, add-one}
 use Rattle.std.specs.Prelude.{IfSome, Option, Some, None, is_some, not, ◌||◌}
 use Rattle.rota_core.specs.SumsBelow.{any_below}
@@ -61,7 +61,7 @@ inside-found : (n s : ℕ) (test : ℕ → Bool) (found : Option ℕ) → found 
 inside-found n s test None is first = absurd (cc is)
 inside-found n s test (Some i) is first = let e : i ≡ s = cc is in omega (arith, first.0)
 
--- the number found is below the number
+-- the number found is below n
 pub first-inside : (n : ℕ) (test : ℕ → Bool) (s : ℕ) → first_below n test ≡ Some s → s < n
 first-inside n test s is = inside-found n s test (first_below n test) is (first-is n test)
 
@@ -76,7 +76,7 @@ unfolding first_below any_below
 first-any zero test = refl
 first-any (suc n) test = found-any (first_below n test) n (test n) ∙ ap (λ (b : Bool). b || test n) (first-any n test)
 
--- a test that says that none is found is false if one is found
+-- if a test is the opposite of another one, the other one is its opposite
 pub none-found : (none found : Bool) → found ≡ not none → none ≡ not found
 none-found true found e = sym (ap not e)
 none-found false found e = sym (ap not e)

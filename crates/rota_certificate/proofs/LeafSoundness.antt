@@ -26,7 +26,7 @@ use Rattle.rota_certificate.proofs.PlanParts.{fixed_of, nurse_cost-is, optimum_o
 use Rattle.rota_certificate.proofs.Sums.{sum-each, sum-le, sum-plus, sum-same, sum-times}
 use Rattle.rota_certificate.proofs.SurchargeSums.{AreMet, all_terms, case-met, surcharges-within}
 
--- the first week has the number of nurses of a leaf, and of a plan
+-- the number of nurses of a leaf, and of a plan, is the number of its first week
 count-of : (case : Case) (first : Problem) (later : List Problem) (prices : List Prices) →
     nurse_count (leaf_weeks case 0 (first ∷ later) prices) ≡ first.nurses
 unfolding leaf_weeks
@@ -64,7 +64,7 @@ module _ (first : Problem) (later : List Problem) (rosters : List Roster) (perio
   same_weeks : weeks_of weeks ≡ problems
   same_weeks = weeks-same case 0 problems prices
 
-  -- a nurse's bound and her prices, with her tariff
+  -- a nurse's bound and her prices are at most her cost by the tariff and the added prices
   nurse-within : (tariff : Tariff) (n : ℕ) → n < nurses →
       nurse_bound unit tariff weeks n + paid_in_plan weeks plan n ≤ nurse_cost unit tariff plan n + span
   nurse-within tariff n n_in =
@@ -77,7 +77,7 @@ module _ (first : Problem) (later : List Problem) (rosters : List Roster) (perio
       (subst (λ (list : List Problem). AllowsPlan weeks (plan_of list rosters) n) (sym same_weeks)
       (allows-plan plan first.numbers count case are_for is_in n 0 problems prices plan n_in (begins-at plan) keeps)))
 
-  -- the bounds of all nurses and their prices
+  -- the same for the sums over all nurses
   nurses-within : (charges : List Surcharged) →
       sum_below nurses (λ n. nurse_bound unit (tariff_of unit charges n) weeks n) + sum_below nurses (paid_in_plan weeks plan) ≤
       sum_below nurses (λ n. nurse_cost unit (tariff_of unit charges n) plan n) + nurses * span

@@ -79,7 +79,7 @@ drop-end leaf i past = drop-from_end leaf.case.now 0 leaf.weeks.now i past
 
 -- ---- the next week
 
--- weeks that fit one week fit each that fits it
+-- a week that fits one week fits each week with its numbers, limits and contracts
 fits-next : (other next : Problem) (one : LentWeek) → next.numbers ≡ other.numbers → ((s : ℕ) → next.limits s ≡ other.limits s) →
     ((n : ℕ) → next.contract n ≡ other.contract n) → Fits other one → Fits next one
 fits-next other next one numbers limits contract fits = record {
@@ -156,7 +156,7 @@ first-is stage d leaf unit nurse charged =
       free = λ none. subst (AllByRecursion IsFreeOfTotals) at (free-all (weeks_of stage.leaf) (sym charged ∙ none));
     }
 
--- all weeks, at the first of them
+-- at the first week, all weeks are the stage's week and the later ones
 pub first-all : (stage : Stage) → IsStage stage → stage.week ≡ 0 → all_of stage ≡ (week_of stage ∷ later_of stage)
 first-all stage is first = ap (λ (i : ℕ). drop i (all_of stage)) (sym first) ∙ is.at
 

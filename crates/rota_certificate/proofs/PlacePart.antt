@@ -22,7 +22,7 @@ use Rattle.rota_certificate.specs.PlaceCases.{case_demand, case_place_bound, cas
 use Rattle.rota_certificate.specs.Plans.{Plan, PlannedWeek}
 use Rattle.rota_certificate.proofs.Sums.{sum-same, sum-times, cube-same, cube-le, cube-plus, cube-times, cube-swap}
 
--- a cheap place has the optimal number of nurses
+-- with a price below the weight, the optimal number of nurses is best, or the minimum if it is more
 cheap_place : (weight price least best nurses : ℕ) → price < weight → least ≤ nurses →
     weight * (best - max least best) + price * max least best ≤ weight * (best - nurses) + price * nurses
 cheap_place weight price least best nurses cheap enough =
@@ -38,7 +38,7 @@ cheap_place weight price least best nurses cheap enough =
           rw none (omega (arith, mul-le-mul_left price within))
     ]
 
--- a dear place has the minimum of nurses
+-- with another price, the minimum of nurses is best
 dear_place : (weight price least best nurses : ℕ) → weight ≤ price → least ≤ nurses →
     weight * (best - least) + price * least ≤ weight * (best - nurses) + price * nurses
 dear_place weight price least best nurses dear enough =
@@ -71,7 +71,7 @@ module _ (plan : Plan) (w : ℕ) (planned : PlannedWeek) (here : slice_get plan 
   abbrev nurses_here : ℕ
   nurses_here = nurses_at planned.week planned.roster d s k
 
-  -- a fact about this place is one about its nurses
+  -- a fact about this place limits the number of its nurses
   fact-here : (limit : NurseLimit) → is_at limit w d s k ≡ true → is_fact plan (Nurses limit) ≡ nat_le nurses_here limit.most
   fact-here limit at =
       let skill = both (limit.week == w && limit.day == d && limit.shift == s) (limit.skill == k) at in
@@ -93,7 +93,7 @@ module _ (plan : Plan) (w : ℕ) (planned : PlannedWeek) (here : slice_get plan 
   raised-step (Charges limit) holds minimum meets enough = enough
   raised-step EvenShiftRuns holds minimum meets enough = enough
 
-  -- enough nurses are at the place for the minimum in the case
+  -- the place has enough nurses for its minimum in the case
   raised-within : (case : Case) (minimum : ℕ) → IsIn plan case → minimum ≤ nurses_here → raised_minimum case w d s k minimum ≤ nurses_here
   unfolding raised_minimum
   raised-within [] minimum is_in enough = enough

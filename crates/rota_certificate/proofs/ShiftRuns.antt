@@ -20,7 +20,7 @@ module _ (problem : Problem) (run : ℕ) where
   abbrev charge_on : (last choice : Option ℕ) → ℕ → ℕ
   charge_on last choice s = charge (is_shift last s) (is_shift choice s) s
 
-  -- the charge is this, if these are the tests
+  -- equal tests give equal charges
   charge-at : (s : ℕ) (a b c d : Bool) → a ≡ b → c ≡ d → charge a c s ≡ charge b d s
   charge-at s a b c d e f = ap (λ (x : Bool). charge x c s) e ∙ ap (λ (y : Bool). charge b y s) f
 

@@ -37,7 +37,7 @@ module _ (plan : Plan) (P : Fact → Type 0) where
   abbrev pub IsCovered : Path → Type 0
   IsCovered path = IsIn plan path ⊎ IsLater path
 
-  -- of the two cases of a fact, the plan is in one
+  -- the plan is in one of the two cases of a fact
   split-covered : (fact : Fact) (path : Path) → IsCovered path → IsCovered (with fact ∷ path)
   unfolding IsLater
   split-covered fact path (inl here) =

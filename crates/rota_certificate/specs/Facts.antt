@@ -65,7 +65,7 @@ is_fact plan (Nurses limit) =
 is_fact plan (Charges limit) = nat_le (charges_counted limit plan) limit.most
 is_fact plan EvenShiftRuns = has_even_shift_runs plan
 
--- the plan meets the condition: the fact is true if the condition says that it holds, and false if it says that it does not
+-- the plan meets the condition: the fact is true of the plan if and only if the condition says that it holds
 abbrev pub Meets : Plan → Condition → Type 0
 Meets plan condition = is_fact plan condition.fact ≡ condition.holds
 

@@ -6,6 +6,6 @@ unfoldable pub least_below : (n start : ℕ) → (ℕ → ℕ) → ℕ
 least_below zero start f = start
 least_below (suc n) start f = min (least_below n start f) (f n)
 
--- a value for "not allowed": no minimum is above it, and the value of all weeks that are allowed is below it
+-- the value of a choice that is not allowed: no minimum is above it, and the value of allowed choices in all weeks is below it
 abbrev pub not_allowed : ℕ
 not_allowed = 1000000000000000

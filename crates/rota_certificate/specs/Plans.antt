@@ -58,8 +58,8 @@ abbrev pub plan_of : List Problem → List Roster → Plan
 plan_of [] rosters = []
 plan_of (first ∷ later) rosters = plan_after first.past (first ∷ later) rosters
 
--- two weeks are of one ward and of one period: the same numbers of nurses, shift types and skills, the same limits, contracts and flag
--- `--early`, and the same history before the period
+-- two weeks are of one ward and of one period: they have the same numbers of nurses, shift types and skills, limits, contracts, flag
+-- `--early`, and history before the period
 pub record AreOfOneWard (one other : Problem) : Type 0 where
   pub numbers : one.numbers ≡ other.numbers
   pub is_early : one.is_early ≡ other.is_early

@@ -85,7 +85,7 @@ least_in stage left past = least_days (terms_of stage) (week_of stage) stage.nur
 abbrev pub IsFreeOfTotals : LeafWeek → Type 0
 IsFreeOfTotals one = one.week.is_last ≡ false
 
--- the stage's week is the one with its number, all weeks fit it, and neither it nor a later one is the last if totals are not charged
+-- the stage's week has the stage's number, all weeks fit it, and if totals are not charged, neither it nor a later week is the last
 pub record IsStage (stage : Stage) : Type 0 where
   pub unit : stage.unit ≤ thousandths
   pub nurse : stage.nurse < (week_of stage).week.nurses

@@ -40,7 +40,7 @@ const REBATE_ENTRIES: usize = 1021;
 const SPREAD: usize = 1_000_003;
 
 // The number of entries for the costs of this number of weeks, a prime. In a longer period a nurse
-// has more totals, and so more pasts a day. There are entries for a month of pasts or more: with
+// has more totals, so more pasts a day. There are entries for the pasts of a month or more: with
 // fewer, costs are lost too early. At most they take some fifty megabytes.
 fn cost_entries(weeks: usize) -> usize
     ensures { 0 < result }

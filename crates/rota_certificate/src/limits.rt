@@ -8,9 +8,9 @@ use rota_core::{ChargeKind, ChargeLimit, Condition, Fact};
 /// A limit of a number of charges, which a condition of a case sets.
 #[derive(Clone, Copy)]
 pub enum Limit {
-    /// The number of charges is at most the limit's.
+    /// At most the maximum number of charges.
     AtMost(ChargeLimit),
-    /// The number of charges is above the limit's.
+    /// More than the maximum number of charges.
     MoreThan(ChargeLimit),
 }
 

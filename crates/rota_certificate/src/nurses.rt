@@ -158,7 +158,7 @@ fn least_after(stage: &Stage<'_>, known: &mut Known, past: Past) -> u64
     least_in(&next, known, DAYS, past)
 }
 
-/// Her minimum cost in all weeks of the leaf, after her history. Forgets known costs and rebates.
+/// The nurse's minimum cost in all weeks, after her history. Forgets the known costs and rebates.
 pub fn nurse_bound(
     leaf: &LentLeaf<'_>,
     known: &mut Known,

@@ -45,7 +45,7 @@ fn charges_totals(instance: &Instance) -> bool
     instance.early() || instance.last_week()
 }
 
-// Whether the week pays for the totals of the history that are above the maximum.
+// Whether the week pays for the history's totals above the maximums.
 fn pays_for_history(instance: &Instance) -> bool
     ensures { let week = problem_of instance.now in result ≡ (not week.is_early && week.is_last) }
 {
@@ -64,7 +64,7 @@ fn charge_totals(leaf: &LentLeaf<'_>) -> bool
     false
 }
 
-/// Whether any of the weeks pays for the totals of the history that are above the maximum.
+/// Whether any of the weeks pays for the history's totals above the maximums.
 pub fn pay_for_history(leaf: &LentLeaf<'_>) -> bool
     ensures { result ≡ pay_for_history (weeks_of leaf.now) }
 {

@@ -6,7 +6,7 @@ use Rattle.rota_core.specs.Prices.{ArePrices}
 use Rattle.rota_bound.specs.CaseBounds.{bound_after, case_bound, case_days}
 use Rattle.rota_bound.proofs.cases.cases_bound.Given as goal
 
--- the minimum so far and that of the cases that are left are the minimum of all
+-- the minimum so far and the minimum of the cases that are left give the minimum of all
 abbrev pub invariant-loop-index : goal.invariant-loop-index
 invariant-loop-index l =
     let problem = problem_of l.instance in
