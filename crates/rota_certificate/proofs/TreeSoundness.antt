@@ -28,12 +28,12 @@ module _ (plan : Plan) (P : Fact → Type 0) where
   LaterAt true fact path rest = IsIn plan (without fact ∷ path) ⊎ rest
   LaterAt false fact path rest = rest
 
-  -- the plan is in a case that comes after those below the end of this way
+  -- the plan is in a case that comes after those below the end of this path
   unfoldable pub IsLater : Path → Type 0
   IsLater [] = ⊥
   IsLater (condition ∷ path) = LaterAt condition.holds condition.fact path (IsLater path)
 
-  -- the plan is in the case of the way, or in a later one
+  -- the plan is in the case of the path, or in a later one
   abbrev pub IsCovered : Path → Type 0
   IsCovered path = IsIn plan path ⊎ IsLater path
 
@@ -47,7 +47,7 @@ module _ (plan : Plan) (P : Fact → Type 0) where
       ]
   split-covered fact path (inr later) = inr (inr later)
 
-  -- the next way covers the later cases, and has the facts of the way before it
+  -- the next path covers the later cases, and has the facts of the path before it
   abbrev Next : (later facts : Type 0) → Option Path → Type 0
   Next later facts next = MatchOption next (later → ⊥) (λ one. (later → IsCovered one) × (facts → AllFacts one))
 

@@ -1,5 +1,5 @@
 -- The bound of a certificate: the minimum of the bounds of its leaves. The nodes are a tree in preorder. The case of a node has the
--- conditions on its way to the root, and the given conditions, which all plans are asked to meet.
+-- conditions on its path to the root, and the given conditions, which all plans are asked to meet.
 use Rattle.std.specs.Prelude.{ℕ, ◌+◌, ◌/◌, ◌*◌, ◌≤◌, ◌++◌, Bool, true, false, min, if◌then◌else◌, Option, Some, None, List, [], ◌∷◌, map, reverse, slice_index_or}
 use Rattle.std.specs.List.{AllByRecursion, list_any}
 use Rattle.std.specs.Option.{option_map_or}
@@ -54,7 +54,7 @@ with fact = record { fact = fact; holds = true }
 abbrev pub without : Fact → Condition
 without fact = record { fact = fact; holds = false }
 
--- the way to the case that comes next in the tree, after all cases below the end of this way
+-- the path to the case that comes next in the tree, after all cases below the end of this path
 unfoldable pub next_path : Path → Option Path
 next_path [] = None
 next_path (condition ∷ path) = (if condition.holds then Some (without condition.fact ∷ path) else next_path path)
@@ -68,7 +68,7 @@ least_bound bound path (nodes.Leaf leaf ∷ later) =
 
 -- ---- the certificate
 
--- the case of a way: its conditions from the root on, then the given ones
+-- the case of a path: its conditions from the root on, then the given ones
 abbrev pub case_of : Path → (given : Case) → Case
 case_of path given = reverse path ++ given
 

@@ -90,7 +90,11 @@ fn bound_of_leaf(unit: u64, leaf: &LentLeaf<'_>, charges: &[Surcharged], known: 
     }
 }
 
-/// The bound of the leaf with these surcharges. It is 0 if they make a weight negative.
+/// The bound of the leaf with these surcharges, in thousandths of a point. It is 0 if they make a
+/// weight negative. `unit` is the value of a point: 1000, or 0 if the soft rules are left out. The
+/// first surcharge belongs to the first condition of the case, and so on; a missing one is 0.
+///
+/// The only error is that memory runs out.
 pub fn leaf_bound(
     alloc: Global,
     unit: u64,

@@ -13,14 +13,18 @@ use rota_core::{Condition, Instance, Prices};
 /// A week and its prices.
 #[derive(Clone, Copy)]
 pub struct LentWeek<'a> {
+    /// The week. Its history is the one before the first week of the leaf.
     pub instance: &'a Instance,
+    /// The price of each place of the week.
     pub prices: &'a Prices,
 }
 
 /// The weeks of a leaf, and its case.
 #[derive(Clone, Copy)]
 pub struct LentLeaf<'a> {
+    /// The weeks in order.
     pub weeks: &'a [LentWeek<'a>],
+    /// The conditions of the case.
     pub case: &'a [Condition],
 }
 
