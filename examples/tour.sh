@@ -55,8 +55,8 @@ run "$program decode $week --answer $files/extended.txt --sol $files/again.txt |
 run "cmp $files/roster.txt $files/again.txt"
 
 if [ -x "$bound" ]; then
-    say "No roster costs less: prices of the places prove it, whoever chose them."
-    run "$bound $week --prices examples/n005w4/prices.txt --roster $files/roster.txt"
+    say "No roster costs less: a certificate with prices of the places proves it, whoever chose them."
+    run "$bound $week --proof examples/n005w4/certificate.txt --roster $files/roster.txt"
 fi
 
 if "$program" encode --help | grep -q -- '--fix '; then

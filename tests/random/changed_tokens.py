@@ -3,9 +3,9 @@
 
 usage: changed_tokens.py [--fix]
 
-The test replaces, precedes or cuts off each token of eight files by each of its words, and counts the faults by their kind. This
+The test replaces, precedes or cuts off each token of six files by each of its words, and counts the faults by their kind. This
 script makes the same texts from the constants of that file, and compares its own counts with the numbers there. With --fix it
-writes them. The files of prices, cases, certificates and facts have no reader among the helpers, so this script has one of each.
+writes them. The helpers read no certificates, and facts of one nurse only, so this script has a reader of both.
 """
 
 import re
@@ -33,30 +33,6 @@ def rows_of_prices(slots: Slots, ward: records.Scenario) -> None:
         known.add((shift.text, skill.text))
         for _ in range(7):
             slots.number("a price", 0, MAX_PRICE)
-
-
-def read_prices(path: str, ward: records.Scenario, text: str) -> None:
-    """Reads the prices' file of a scenario."""
-    slots = Slots(path, text)
-    slots.words("PRICES")
-    slots.any_word("the scenario's name")
-    rows_of_prices(slots, ward)
-    slots.end("row")
-
-
-def read_cases(path: str, ward: records.Scenario, text: str) -> None:
-    """Reads the cases' file of a scenario."""
-    slots = Slots(path, text)
-    slots.words("CASES")
-    slots.any_word("the scenario's name")
-    slots.words("OFF", "=")
-    for _ in range(slots.number("the number of cases")):
-        slots.known_name("nurse", ward.nurses, "NURSES")
-        slots.known_name("day", records.DAYS, "the week")
-        rows_of_prices(slots, ward)
-    slots.words("REST")
-    rows_of_prices(slots, ward)
-    slots.end("row")
 
 
 def keyword(slots: Slots, *wanted: str) -> str:
@@ -167,8 +143,6 @@ def main() -> int:
         "HISTORY": lambda text: files.read_history("history", ward, text),
         "WEEK": lambda text: files.read_week("week", ward, text),
         "SOLUTION": lambda text: files.read_solution("solution", ward, text),
-        "PRICES": lambda text: read_prices("prices", ward, text),
-        "CASES": lambda text: read_cases("cases", ward, text),
         "CERTIFICATE": lambda text: read_certificate("certificate", ward, text),
         "FACTS": lambda text: read_facts("facts", ward, text),
     }

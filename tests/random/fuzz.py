@@ -50,9 +50,9 @@ FAULTS = {
 
 
 def example_weeks():
-    """The files of each example week, and the answers that solvers gave."""
-    for folder in sorted(map(os.path.dirname, glob.glob(f"{ROOT}/examples/*/prices.txt"))):
-        yield example_files(os.path.basename(folder)), [read(path) for path in sorted(glob.glob(f"{folder}/answers/*"))]
+    """The files of some example weeks, and the answers that solvers gave."""
+    for name in ("eight", "n005w4", "thirty"):
+        yield example_files(name), [read(path) for path in sorted(glob.glob(f"{ROOT}/examples/{name}/answers/*"))]
 
 
 # ---- changes

@@ -1,13 +1,8 @@
-//! Tests of the public calls from which runs are built: tables, rosters, numbers, rows, answers, bounds and
-//! ports.
+//! Tests of the public calls from which runs are built: tables, rosters, numbers, rows, answers and ports.
 #![tactic(auto)]
 
 #[cfg(test)]
 mod answers;
-#[cfg(test)]
-mod bounds;
-#[cfg(test)]
-mod case_files;
 #[cfg(test)]
 mod cells;
 #[cfg(test)]
@@ -27,15 +22,17 @@ mod own_source;
 #[cfg(test)]
 mod own_week;
 #[cfg(test)]
-mod periods;
+mod period_runs;
 #[cfg(test)]
 mod port_calls;
 #[cfg(test)]
-mod price_files;
+mod price_tables;
 #[cfg(test)]
 mod refused_tables;
 #[cfg(test)]
 mod run_counts;
+#[cfg(test)]
+mod small_periods;
 #[cfg(test)]
 mod std_ports;
 #[cfg(test)]

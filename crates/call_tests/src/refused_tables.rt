@@ -2,10 +2,9 @@
 //! memory ran out. `tests/program/refused_memory.sh` refuses each allocation in turn and compares the lines.
 use crate::answers::of_pieces;
 use crate::week_files::{instance_of, one_nurse_one_shift};
-use rota_core::{Bits, FileFault, Instance, Prices, Roster, Scenario};
+use rota_core::{Bits, FileFault, Instance, Roster, Scenario};
 use rota_read::{
-    read_cases, read_certificate, read_facts, read_history, read_prices, read_scenario,
-    read_solution, read_week,
+    read_certificate, read_facts, read_history, read_scenario, read_solution, read_week,
 };
 use solver_text::Answer;
 use std::alloc::Global;
@@ -26,8 +25,6 @@ enum Table {
     Scenario,
     History,
     Week,
-    Prices,
-    Cases,
     Certificate,
     Facts,
 }
@@ -49,33 +46,6 @@ fn rows_of_history(alloc: Global, scenario: &Scenario) -> Result<usize, FileFaul
 fn demands_of_week(alloc: Global, scenario: &Scenario) -> Result<usize, FileFault> {
     match read_week(alloc, scenario, one_nurse_one_shift().week) {
         Ok(week) => Ok(week.into_parts().demands.len()),
-        Err(fault) => Err(fault),
-    }
-}
-
-const PRICES: &[u8] = b"PRICES s1 ROWS = 1 Day Nurse 0 0 0 0 0 0 22500";
-
-fn sunday_price(prices: &Prices) -> u32 {
-    if prices.shifts() != 1 || prices.skills() != 1 {
-        return 0;
-    }
-    prices.price(6, 0, 0)
-}
-
-// The price of Sunday.
-fn last_price(alloc: Global, scenario: &Scenario) -> Result<u32, FileFault> {
-    match read_prices(alloc, scenario, PRICES) {
-        Ok(prices) => Ok(sunday_price(&prices)),
-        Err(fault) => Err(fault),
-    }
-}
-
-const CASES: &[u8] = b"CASES s1 OFF = 2 Ann Mon ROWS = 0 Ann Tue ROWS = 0 REST ROWS = 0";
-
-// The number of cases with a day off.
-fn count_of_cases(alloc: Global, scenario: &Scenario) -> Result<usize, FileFault> {
-    match read_cases(alloc, scenario, CASES) {
-        Ok(cases) => Ok(cases.off.len()),
         Err(fault) => Err(fault),
     }
 }
@@ -112,8 +82,6 @@ fn print_table(
         Table::Scenario => print(rt, &Ok(weeks_and_nurses(scenario))),
         Table::History => print(rt, &rows_of_history(alloc, scenario)),
         Table::Week => print(rt, &demands_of_week(alloc, scenario)),
-        Table::Prices => print(rt, &last_price(alloc, scenario)),
-        Table::Cases => print(rt, &count_of_cases(alloc, scenario)),
         Table::Certificate => print(rt, &count_of_nodes(alloc, scenario)),
         Table::Facts => print(rt, &count_of_facts(alloc, scenario)),
     }
@@ -139,16 +107,6 @@ fn history_read(rt: HostRuntime) -> io::Result<()> {
 #[test]
 fn week_read(rt: HostRuntime) -> io::Result<()> {
     read_and_print(&rt, rt.alloc(), Table::Week)
-}
-
-#[test]
-fn prices_read(rt: HostRuntime) -> io::Result<()> {
-    read_and_print(&rt, rt.alloc(), Table::Prices)
-}
-
-#[test]
-fn cases_read(rt: HostRuntime) -> io::Result<()> {
-    read_and_print(&rt, rt.alloc(), Table::Cases)
 }
 
 #[test]

@@ -4,9 +4,8 @@
 //! into such an answer. `make tour` runs all three with a solver, and shows each command before it runs.
 #![tactic(auto)]
 
-use inrc2pb_program::{
-    FileOnFirstWrite, HostFiles, StandardInput, StderrPrinter, StdoutPrinter, program,
-};
+use inrc2pb_frame::{FileOnFirstWrite, HostFiles, StandardInput, StderrPrinter, StdoutPrinter};
+use inrc2pb_program::program;
 use rota_core::{FromRead, ToWrite};
 use std::process::ExitCode;
 use std::{env, io};
@@ -19,7 +18,7 @@ fn main(rt: HostRuntime) -> ExitCode {
         &mut FromRead::new(StandardInput::new(&rt)),
         &mut FileOnFirstWrite::new(&rt),
         &mut ToWrite::new(io::writer(&rt)),
-        &mut StdoutPrinter::new(&rt, "inrc2pb"),
-        &mut StderrPrinter::new(&rt, "inrc2pb"),
+        &mut StdoutPrinter::new(&rt),
+        &mut StderrPrinter::new(&rt),
     )
 }

@@ -1,9 +1,9 @@
-//! How good a roster of a week can be: a lower bound of the penalty of each roster that keeps the hard rules, the proof
-//! that a roster is optimal, or that none exists.
+//! How good rosters of one or more weeks can be: a lower bound of the penalty of all rosters that keep the hard rules, the
+//! proof that rosters are optimal, or that none exist.
 #![tactic(auto)]
 
-use bound_program::program;
-use inrc2pb_program::{HostFiles, StderrPrinter, StdoutPrinter};
+use inrc2pb_bound_program::program;
+use inrc2pb_frame::{HostFiles, StderrPrinter, StdoutPrinter};
 use rota_core::ToWrite;
 use std::process::ExitCode;
 use std::{env, io};
@@ -14,7 +14,7 @@ fn main(rt: HostRuntime) -> ExitCode {
         env::args(&rt),
         &mut HostFiles::new(&rt),
         &mut ToWrite::new(io::writer(&rt)),
-        &mut StdoutPrinter::new(&rt, "inrc2pb-bound"),
-        &mut StderrPrinter::new(&rt, "inrc2pb-bound"),
+        &mut StdoutPrinter::new(&rt),
+        &mut StderrPrinter::new(&rt),
     )
 }

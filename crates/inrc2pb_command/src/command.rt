@@ -11,6 +11,9 @@ use std::alloc::{AllocError, Global};
 /// The version of the programs. It is written only here.
 pub const VERSION: &str = "0.2.0";
 
+/// The name of the program. Its messages begin with it.
+pub const NAME: &str = "inrc2pb";
+
 /// The whole command line, with its options and help. One of its subcommands must be named. It fails only if
 /// memory runs out.
 pub fn inrc2pb<'a>(alloc: Global) -> Result<Command<'a>, AllocError>
@@ -37,7 +40,7 @@ fn with_subcommand<'a>(
 fn bare<'a>(alloc: Global) -> Result<Command<'a>, AllocError>
     ensures { IfOk result (IsCommandOf bare_app) }
 {
-    Command::new(alloc, "inrc2pb")
+    Command::new(alloc, NAME)
         .about("Turns one week of an INRC-II nurse roster into a pseudo-Boolean model, and back")
         .version(VERSION)
         .subcommand_required(true)
@@ -49,7 +52,7 @@ fn bare<'a>(alloc: Global) -> Result<Command<'a>, AllocError>
 
 The files, the faults and the exit statuses: inrc2pb(1), docs/formats.md, docs/answers.md.",
         )
-        .bin_name("inrc2pb")
+        .bin_name(NAME)
 }
 
 fn encode<'a>(alloc: Global) -> Result<Command<'a>, AllocError>
@@ -123,8 +126,8 @@ fn subcommand<'a>(
     with_inputs(alloc, command)
 }
 
-/// The command with the options for the inputs of a job: the files of a week, `--fix` and `--early`.
-pub fn with_inputs<'a>(alloc: Global, command: Command<'a>) -> Result<Command<'a>, AllocError>
+// The command with the options for the inputs of a job: the files of a week, `--fix` and `--early`.
+fn with_inputs<'a>(alloc: Global, command: Command<'a>) -> Result<Command<'a>, AllocError>
     ensures { (a : App) → IsCommandOf a command.entry
         → IfOk result (IsCommandOf (fold with_rule a input_rules)) }
 {
@@ -171,8 +174,8 @@ pub fn file_option<'a>(alloc: Global, id: &'a str, help: &'a str) -> Arg<'a>
         .action(ArgAction::Set)
 }
 
-// The option `--id FILE`, which is required.
-fn required_file<'a>(alloc: Global, id: &'a str, help: &'a str) -> Arg<'a>
+/// The option `--id FILE`, which is required.
+pub fn required_file<'a>(alloc: Global, id: &'a str, help: &'a str) -> Arg<'a>
     ensures rule { rule_of result ≡ required_file_rule id.entry.now }
     ensures local { result.global ≡ false }
 {

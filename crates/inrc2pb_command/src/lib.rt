@@ -3,4 +3,4 @@
 
 mod command;
 
-pub use command::{VERSION, file_option, flag, inrc2pb, with_inputs};
+pub use command::{NAME, VERSION, file_option, flag, inrc2pb, required_file};

@@ -1,6 +1,6 @@
 -- The meaning of a parse of the command for the subcommand that it found.
 use Rattle.std.proofs.Common.{◌≡◌, ◌∙◌, ◌⊎◌, inl, inr, ap, sym, refl, subst, cond, Bool, true, false, List, [], ◌∷◌, Bor}
-use Rattle.std.proofs.Common.{Option, Some, None, option_map, IsSomeAnd, Result, Ok, Err, IfOk, IfErr, IsErrAnd, OnOk}
+use Rattle.std.proofs.Common.{Option, Some, None, option_map, IsSomeAnd, Result, IfOk, IfErr, IsErrAnd}
 use Rattle.std.specs.List.{find}
 use Rattle.std.proofs.lemmas.Result.{IfErr-weaker, IfOk-weaker}
 use Rattle.clap.specs.Words.{App, HasKind, HasMatchesOf, Row, Shape, Text, built, fault_of, found_of, is_simple, is_simple_and_free}
@@ -13,12 +13,15 @@ use Rattle.clap.specs.declared.parser.matches.ArgMatches.{ArgMatches}
 use Rattle.clap.specs.declared.parser.matches.ArgMatches.TheViews.{out-ArgMatches}
 use Rattle.clap.proofs.OnLiterals.{clap_on_literals}
 use Rattle.inrc2pb_command.specs.CommandLine.{inrc2pb_app}
-use Rattle.inrc2pb_program.specs.Jobs.{IsJobOf, IsSubcommand, LacksPath, Matched, options_of}
+use Rattle.inrc2pb_frame.specs.Options.{options_of}
+use Rattle.inrc2pb_program.specs.Jobs.{IsJobOf, IsSubcommand, LacksPath, Matched}
 use Rattle.inrc2pb_job.specs.declared.job.Job.{Job}
-use Rattle.inrc2pb_program.specs.ErrorStops.{IsStopOf}
-use Rattle.inrc2pb_program.specs.Stops.{IsForMemoryOr, IsStopFor}
-use Rattle.inrc2pb_program.specs.declared.stop.Stop.{Stop}
-use Rattle.inrc2pb_program.proofs.Refusals.{IsForMemoryOr-weaker, no_fault, refused, stop_without_fault}
+use Rattle.inrc2pb_frame.specs.ErrorStops.{IsStopOf}
+use Rattle.inrc2pb_frame.specs.Runs.{IsJobFor, IsStopFor}
+use Rattle.inrc2pb_frame.specs.Stops.{IsForMemoryOr}
+use Rattle.inrc2pb_frame.specs.declared.stop.Stop.{Stop}
+use Rattle.inrc2pb_program.specs.Programs.{inrc2pb}
+use Rattle.inrc2pb_frame.proofs.Refusals.{IsForMemoryOr-weaker, no_fault, refused, stop_without_fault}
 
 -- ---- the command
 
@@ -90,12 +93,15 @@ subcommand_read a words m o p is has name rows some =
 
 -- ---- the meaning of the results of the job's functions, for the words
 
-pub ok_for : (o : Option Matched) (p : Matched) (r : Result Job Stop) → o ≡ Some p → IfOk r (IsJobOf p) →
-    IfOk r (λ j. IsSomeAnd o (λ matched. IsJobOf matched j))
-ok_for o p r is = IfOk-weaker r _ _ (λ j h. subst (λ x. IsSomeAnd x (λ matched. IsJobOf matched j)) (sym is) h)
+pub ok_for : (words : List Text) (p : Matched) (r : Result Job Stop) → fault_of inrc2pb_app words ≡ [] → subcommand_of inrc2pb_app words ≡ Some p
+    → IfOk r (IsJobOf p) → IfOk r (IsJobFor inrc2pb words)
+ok_for words p r none is = IfOk-weaker r _ _ (λ j h. record {
+  taken = none;
+  spelled = subst (λ x. IsSomeAnd x (λ matched. IsJobOf matched j)) (sym is) h;
+})
 
 pub err_for : (words : List Text) (p : Matched) (r : Result Job Stop) → fault_of inrc2pb_app words ≡ [] → subcommand_of inrc2pb_app words ≡ Some p
-    → IfErr r (IsForMemoryOr (LacksPath p)) → IfErr r (IsStopFor words)
+    → IfErr r (IsForMemoryOr (LacksPath p)) → IfErr r (IsStopFor inrc2pb words)
 err_for words p r none is = IfErr-weaker r _ _ (λ stop h.
     stop_without_fault inrc2pb_app _ words stop none (IsForMemoryOr-weaker _ _ stop (λ lacks. subst (λ x. IsSomeAnd x LacksPath) (sym is) lacks) h))
 
@@ -103,10 +109,6 @@ err_for words p r none is = IfErr-weaker r _ _ (λ stop h.
 pub fault_free : (a : App) (words : List Text) → a ≡ inrc2pb_app → (is_simple_and_free a ≡ true → fault_of a words ≡ []) →
     fault_of inrc2pb_app words ≡ []
 fault_free a words is none = no_fault inrc2pb_app a words is is_simple_and_free-inrc2pb none
-
-pub ok_whatever : {T E P : Type 0} (r : Result T E) → P → OnOk r P
-ok_whatever (Ok v) holds = holds
-ok_whatever (Err e) holds = tt
 
 pub subcommand_named : (words : List Text) (p : Matched) → subcommand_of inrc2pb_app words ≡ Some p → IsSubcommand p.0
 subcommand_named words p e = elim (named_of inrc2pb_app words p e) [
@@ -118,5 +120,5 @@ subcommand_named words p e = elim (named_of inrc2pb_app words p e) [
 ]
 
 pub words_refused : (a : App) (words : List Text) (e : Error) (r : Result Job Stop) → a ≡ inrc2pb_app
-    → (is_simple_and_free a ≡ true → HasKind (fault_of a words) e) → IsErrAnd r (IsStopOf e) → IfErr r (IsStopFor words)
+    → (is_simple_and_free a ≡ true → HasKind (fault_of a words) e) → IsErrAnd r (IsStopOf e) → IfErr r (IsStopFor inrc2pb words)
 words_refused a words e r is kinds stops = refused inrc2pb_app _ a words e r is is_simple_and_free-inrc2pb kinds stops

@@ -1,11 +1,2 @@
-pub mod ErrorStops
-pub mod Exits
-pub mod FaultLines
-pub mod Files
-pub mod Given
 pub mod Jobs
-pub mod Messages
-pub mod Placing
 pub mod Programs
-pub mod Stops
-pub mod TargetCalls

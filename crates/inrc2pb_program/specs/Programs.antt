@@ -1,49 +1,58 @@
 -- The effects of a run of the program, from its words to its exit status.
-use Rattle.std.specs.Prelude.{◌≡◌, ℕ, List, [], Option, Result, Ok, Err, IsSomeAnd}
-use Rattle.rota_pb.specs.RunPorts.{IsUntouched, Reader, RunPort, Writer, writer_of}
+use Rattle.std.specs.Prelude.{◌≡◌, ℕ, Result, Ok, Err, IsSomeAnd}
+use Rattle.clap.specs.Words.{subcommand_of}
+use Rattle.rota_pb.specs.RunPorts.{IsUntouched, Reader, Writer, writer_of}
 use Rattle.rota_pb.specs.declared.fault.Fault.{Fault}
+use Rattle.rota_pb.specs.declared.period_fault.PeriodFault.TheVariants.{Run}
 use Rattle.inrc2pb_job.specs.Jobs.{output_path_of}
 use Rattle.inrc2pb_job.specs.OpenCalls.{Opener}
 use Rattle.inrc2pb_job.specs.JobOutcomes.{JobOutcome}
-use Rattle.inrc2pb_program.specs.Exits.{IsExitOf, PrinterState}
-use Rattle.inrc2pb_program.specs.Given.{Given, IsJobGiven, IsStopGiven}
-use Rattle.inrc2pb_program.specs.Jobs.{IsJobOf, Job}
-use Rattle.inrc2pb_program.specs.Placing.{FileGhosts, IsPlaced, Path, TargetGhosts, file_ghosts}
-use Rattle.inrc2pb_program.specs.Stops.{IsStopFor, Stop, Text, fault_of, inrc2pb_app, subcommand_of}
-use Rattle.inrc2pb_program.specs.declared.stop.Stop.TheVariants as stops
+use Rattle.inrc2pb_command.specs.CommandLine.{inrc2pb_app}
+use Rattle.inrc2pb_frame.specs.Placing.{IsPlaced, JobFile}
+use Rattle.inrc2pb_frame.specs.Exits.{PrinterState}
+use Rattle.inrc2pb_frame.specs.Given.{Given}
+use Rattle.inrc2pb_frame.specs.Runs.{IsRun, IsWholeRun, Program}
+use Rattle.inrc2pb_frame.specs.declared.stop.Stop.{Stop}
+use Rattle.inrc2pb_frame.specs.declared.stop.Stop.TheVariants as stops
+use Rattle.inrc2pb_program.specs.Jobs.{IsJobOf, Job, LacksPath}
 
--- the job of the words, if nothing is wrong with them
-pub record IsJobFor (words : List Text) (job : Job) : Type 0 where
-  pub taken : fault_of inrc2pb_app words ≡ []
-  pub spelled : IsSomeAnd (subcommand_of inrc2pb_app words) (λ matched. IsJobOf matched job)
+-- the program `inrc2pb`: words are misused if a required path is missing
+abbrev pub inrc2pb : Program Job
+inrc2pb = record {
+  app = inrc2pb_app;
+  Spells = λ words job. IsSomeAnd (subcommand_of inrc2pb_app words) (λ matched. IsJobOf matched job);
+  Misuses = λ words. IsSomeAnd (subcommand_of inrc2pb_app words) LacksPath;
+}
 
--- the file that a job may write
-abbrev pub JobFile : Type 1
-JobFile = RunPort FileGhosts
-
--- the file that is `old` before the program and `new` after it
-abbrev pub file_of : {F : Type 0} → TargetGhosts F → (F → Option Path) → F → F → JobFile
-file_of {F} target path old new = record { State = F; port = file_ghosts target path; old = old; new = new }
+-- no file was opened, and the job's file, the input and the output were not touched
+pub record AreUntouched {F : Type 0} (opener : Opener F) (job_file : JobFile) (reader : Reader) (writer : Writer) : Type 0 where
+  pub unopened : opener.log ≡ opener.log_before
+  pub input : IsUntouched reader
+  pub file : IsUntouched job_file
+  pub output : IsUntouched writer
 
 -- a job ended with the outcome of its result
 abbrev pub IsEndOf : Result (Unit {0}) Fault → Result (Unit {0}) Stop → Type 0
 IsEndOf (Ok done) ended = ended ≡ Ok tt
-IsEndOf (Err fault) ended = ended ≡ Err (stops.Job fault)
+IsEndOf (Err fault) ended = ended ≡ Err (stops.Job (Run fault))
 
--- The words gave no job, or memory ran out before the job began: no file was opened, and input, file and output were not touched. Or the
--- words gave a job, and it was performed, with the file at its own path.
-pub data RunOutcome {F X Z : Type 0} (opener : Opener F) (file : JobFile) (words : Given X Z) (input : Reader) (output : Writer)
+-- the job was performed, with the file at its own path, and the program ended as the job did
+pub record IsPerformed {F : Type 0} (opener : Opener F) (file : JobFile) (input : Reader) (output : Writer) (job : Job)
     (ended : Result (Unit {0}) Stop) : Type 0 where
-  stopped : (stop : Stop) → ended ≡ Err stop → IsStopGiven IsStopFor words stop → opener.log ≡ opener.log_before →
-      IsUntouched input → IsUntouched file → IsUntouched output → RunOutcome opener file words input output ended
-  performed : (job : Job) → IsJobGiven IsJobFor words job → (placed : file.State) →
-      IsPlaced file.port file.old (output_path_of job) placed →
-      (result : Result (Unit {0}) Fault) → JobOutcome opener job input (writer_of file.port.target placed file.new) output result →
-      IsEndOf result ended → RunOutcome opener file words input output ended
+  pub placed : file.State
+  pub at_its_path : IsPlaced file.port file.old (output_path_of job) placed
+  pub result : Result (Unit {0}) Fault
+  pub outcome : JobOutcome opener job input (writer_of file.port.target placed file.new) output result
+  pub end : IsEndOf result ended
+
+-- A run of the program: it stopped before its job, or performed it.
+abbrev pub RunOutcome : {F X Z : Type 0} → Opener F → JobFile → Given X Z → Reader → Writer → Result (Unit {0}) Stop → Type 0
+RunOutcome opener file words input output ended =
+    IsRun inrc2pb words (AreUntouched opener file input output) (IsPerformed opener file input output) ended
 
 -- A run of the program, from its words to its status: its effects, its messages on the output and on the standard error, and its exit
 -- status.
 abbrev pub ProgramOutcome : {F X Z : Type 0} → Opener F → JobFile → Given X Z → Reader → Writer → PrinterState → PrinterState →
     ℕ → Type 0
 ProgramOutcome opener file words input output help errors status =
-    (ended : Result (Unit {0}) Stop) × RunOutcome opener file words input output ended × IsExitOf ended help errors status
+    IsWholeRun inrc2pb words (AreUntouched opener file input output) (IsPerformed opener file input output) help errors status

@@ -1,18 +1,20 @@
 //! A run of the program, from its words to its status.
+ghost use Rattle.std.specs.Prelude.{IfErr, IfOk};
 ghost use Rattle.std.specs.Process.{exit_status as code_of};
-ghost use Rattle.inrc2pb_program.specs.Exits.{AreSound, printer_state};
-ghost use Rattle.inrc2pb_program.specs.Placing.{HaveNoPath};
-ghost use Rattle.inrc2pb_program.specs.Programs.{IsEndOf, ProgramOutcome, RunOutcome, file_of};
+ghost use Rattle.inrc2pb_frame.specs.Exits.{AreSound, printer_state};
+ghost use Rattle.inrc2pb_frame.specs.Given.{IsJobGiven, IsStopGiven};
+ghost use Rattle.inrc2pb_frame.specs.Placing.{HaveNoPath, file_of};
+ghost use Rattle.inrc2pb_frame.specs.Runs.{IsJobFor, IsStopFor};
+ghost use Rattle.inrc2pb_program.specs.Programs.{IsEndOf, ProgramOutcome, RunOutcome, inrc2pb};
 ghost use Rattle.inrc2pb_job.specs.OpenCalls.{opener_of};
 ghost use Rattle.rota_pb.specs.RunPorts.{reader_of, writer_of};
 
-use crate::output_file::OutputFile;
-use crate::printers::Printer;
-use crate::process_words::job_of_args;
-use crate::stop::{Stop, exit_code};
-use inrc2pb_job::{HasPath, Opens, perform};
+use crate::command_line;
+use inrc2pb_command::NAME;
+use inrc2pb_frame::{OutputFile, Printer, Stop, borrowed, exit_code, kept};
+use inrc2pb_job::{HasPath, Job, Opens, perform};
 use rota_core::{Source, Target};
-use rota_pb::Fault;
+use rota_pb::{Fault, PeriodFault};
 use std::alloc::Global;
 use std::env::Args;
 use std::io;
@@ -37,7 +39,12 @@ pub fn program<O: Opens, A: Source, F: OutputFile, W: Target + HasPath, H: Print
         (writer_of W.Target output.old output.new)
         (printer_state H.Printer help.old help.new) (printer_state E.Printer errors.old errors.new) (code_of result) }
 {
-    exit_code(&run(alloc, words, files, input, file, output), help, errors)
+    exit_code(
+        NAME,
+        &run(alloc, words, files, input, file, output),
+        help,
+        errors,
+    )
 }
 
 /// Does the work that the words ask for. An `Err` says why it was not done.
@@ -59,9 +66,19 @@ pub fn run<O: Opens, A: Source, F: OutputFile, W: Target + HasPath>(
     ended(perform(alloc, &job, files, input, file, output))
 }
 
-/// The end of the program for a job's result.
-pub fn ended(performed: Result<(), Fault>) -> Result<(), Stop>
+// The end of the program for a job's result.
+fn ended(performed: Result<(), Fault>) -> Result<(), Stop>
     ensures { IsEndOf performed result }
 {
-    performed.map_err(Stop::Job)
+    performed.map_err(|fault| Stop::Job(PeriodFault::Run(fault)))
+}
+
+// The job that the words ask for, or the reason why the program ends without one.
+fn job_of_args(alloc: Global, words: io::Result<Args>) -> Result<Job, Stop>
+    ensures ok { IfOk result (IsJobGiven (IsJobFor inrc2pb) words) }
+    ensures err { IfErr result (IsStopGiven (IsStopFor inrc2pb) words) }
+{
+    let words = kept(alloc, words?)?;
+    let words = borrowed(alloc, words.as_slice())?;
+    command_line::job(alloc, words.as_slice())
 }

@@ -1,7 +1,6 @@
 -- The bound of a certificate is at most the cost of each plan that meets the given conditions.
-use Rattle.std.proofs.Common.{◌≡◌, ℕ, zero, suc, ◌*◌, ◌<◌, ◌≤◌, sym, refl, subst, arith, List, [], ◌∷◌, length, map, reverse, ◌++◌, slice_index_or}
+use Rattle.std.proofs.Common.{◌≡◌, ℕ, zero, suc, ◌*◌, ◌<◌, ◌≤◌, sym, refl, subst, arith, List, [], ◌∷◌, length, map, reverse, slice_index_or}
 use Rattle.std.specs.List.{AllByRecursion}
-use Rattle.std.proofs.lemmas.List.{reverse-append}
 use Rattle.rota_core.specs.Certificates.{AreConditionsFor, IsCertificateFor, IsFactFor, IsLeafFor, IsNodeFor}
 use Rattle.rota_core.specs.PriceTables.{PriceTables, prices_of}
 use Rattle.rota_core.specs.Prices.{ArePrices}
@@ -14,28 +13,18 @@ use Rattle.rota_core.specs.declared.certificate.Fact.{Fact}
 use Rattle.rota_core.specs.declared.certificate.Leaf.{Leaf}
 use Rattle.rota_core.specs.declared.certificate.Node.{Node}
 use Rattle.rota_core.specs.declared.certificate.Node.TheVariants as nodes
-use Rattle.rota_certificate.specs.CertificateBounds.{HaveTables, Path, bound_at, case_of, lower_bound, minimums_bound, prices_of_leaf, rounded_up, thousandths}
+use Rattle.rota_certificate.specs.CertificateBounds.{HaveTables, CasePath, bound_at, case_of, lower_bound, minimums_bound, prices_of_leaf, rounded_up, thousandths}
 use Rattle.rota_certificate.specs.Facts.{Case, IsIn, Meets, charges_of_all, nurses_of}
 use Rattle.rota_certificate.specs.LeafBounds.{leaf_bound}
 use Rattle.rota_certificate.specs.Plans.{ArePeriod, KeepRules, Plan, plan_cost, plan_of}
 use Rattle.rota_certificate.proofs.LeafSoundness.{leaf-within, nurses-are}
 use Rattle.rota_certificate.proofs.LeafWeeks.{have-nurses, plan-keeps}
+use Rattle.rota_certificate.proofs.ListSteps.{all-append, all-reverse}
 use Rattle.rota_certificate.proofs.PlanParts.{HaveNurses, plan-tenths}
 use Rattle.rota_certificate.proofs.Rounding.{rounded-within}
 use Rattle.rota_certificate.proofs.TreeSoundness.{AllFacts, PassesNode, root-covered, tree-sound}
 
 -- ---- lists
-
-module _ {X : Type 0} (P : X → Type 0) where
-  all-append : (xs ys : List X) → AllByRecursion P xs → AllByRecursion P ys → AllByRecursion P (xs ++ ys)
-  all-append [] ys all more = more
-  all-append (x ∷ xs) ys all more = (all.0, all-append xs ys all.1 more)
-
-  all-reverse : (xs : List X) → AllByRecursion P xs → AllByRecursion P (reverse xs)
-  all-reverse [] all = tt
-  all-reverse (x ∷ xs) all =
-      subst (λ (list : List X). AllByRecursion P list) (sym (reverse-append (x ∷ []) xs))
-      (all-append (reverse xs) (x ∷ []) (all-reverse xs all.1) (all.0, tt))
 
 each : (list : List PriceTables) → AllByRecursion (λ t. ArePrices (prices_of t)) list → AllByRecursion ArePrices (map prices_of list)
 each [] within = tt
@@ -83,7 +72,7 @@ module _ (first : Problem) (later : List Problem) (given : Case) (certificate : 
       subst (λ (n : ℕ). HaveNurses n plan) (sym nurses_are) (have-nurses first.numbers plan (plan-keeps first later rosters period keep))
 
   -- the bound of a leaf in thousandths of a point, or without the soft rules
-  leaf-sound : (unit : ℕ) (surcharges : List ℕ) (path : Path) (leaf : Leaf) → AllFacts plan IsForPlan path → IsIn plan path →
+  leaf-sound : (unit : ℕ) (surcharges : List ℕ) (path : CasePath) (leaf : Leaf) → AllFacts plan IsForPlan path → IsIn plan path →
       leaf_bound unit problems (case_of path given) (prices_of_leaf certificate leaf) surcharges ≤ unit * plan_cost plan
   leaf-sound unit surcharges path leaf facts is_in =
       leaf-within first later rosters period keep unit (length problems) (case_of path given) (prices_of_leaf certificate leaf)
@@ -91,7 +80,7 @@ module _ (first : Problem) (later : List Problem) (given : Case) (certificate : 
       (all-append (λ (one : Condition). IsForPlan one.fact) (reverse path) given (all-reverse (λ (one : Condition). IsForPlan one.fact) path facts) given_for)
       (all-append (Meets plan) (reverse path) given (all-reverse (Meets plan) path is_in) meet) surcharges
 
-  leaf-rounded : (path : Path) (leaf : Leaf) → AllFacts plan IsForPlan path → IsLeafOf leaf → IsIn plan path →
+  leaf-rounded : (path : CasePath) (leaf : Leaf) → AllFacts plan IsForPlan path → IsLeafOf leaf → IsIn plan path →
       rounded_up (case_of path given) (bound_at thousandths problems given certificate path leaf) ≤ plan_cost plan
   leaf-rounded path leaf facts is_leaf is_in =
       let tenths = plan-tenths (nurses_of plan) plan have in

@@ -1,23 +1,30 @@
 -- On each day of a nurse, a roster that keeps the hard rules has a choice that the recursion lets her make.
 use Rattle.std.proofs.Common.{◌≡◌, ℕ, suc, ◌+◌, ◌-◌, ◌<◌, ◌≤◌, inl, inr, Bool, true, false, not, refl, ap, sym, ◌∙◌, arith, add-one}
-use Rattle.std.proofs.Common.{◌||◌}
+use Rattle.std.proofs.Common.{◌==◌, ◌&&◌, ◌||◌}
 use Rattle.std.specs.Prelude.{IfSome, Option, Some, None}
 use Rattle.std.proofs.lemmas.Bool.{cases_Bool, false_from_ne_true, cond-true, cond-false, eq-eqb, or_left, or_right, and_from}
 use Rattle.rota_core.specs.Sizes.{DAYS}
 use Rattle.rota_core.specs.HardRules.{is_on, works, KeepsHardRules}
 use Rattle.rota_core.specs.Roster.{Roster, cell, InWeek}
 use Rattle.rota_core.specs.Problem.{Problem}
+use Rattle.rota_core.specs.SumsBelow.{any_below}
 use Rattle.rota_core.specs.declared.values.Cell.{Cell}
 use Rattle.rota_core.specs.declared.values.Past.{Past}
 use Rattle.rota_certificate.specs.DayCharges.{day_cost, past_after}
 use Rattle.rota_certificate.specs.Facts.{has_choice}
 use Rattle.rota_certificate.specs.Minimums.{not_allowed}
 use Rattle.rota_certificate.specs.NurseBounds.{LeafWeek, Terms, allowed_rebate, choice_value, day_rebate, is_barred, least_choice, may_be_off, may_have, rebate}
+use Rattle.rota_certificate.specs.NurseBounds.{is_held_apart, is_held_apart_on, is_only_held}
 use Rattle.rota_certificate.specs.NurseCosts.{AllowsChoices}
 use Rattle.rota_core.specs.Prices.{Prices, ArePrices, max_price}
 use Rattle.rota_certificate.proofs.Days.{IsFree, HasOne, day-is, free-on, free-works, free-total, one-on, one-works, one-total}
 use Rattle.rota_certificate.proofs.DaySteps.{Chooses, Follows, follows-off, follows-on}
 use Rattle.rota_certificate.proofs.Sums.{any-none, any-some, least-at}
+
+-- a test that implies another does not pass without it
+not-both : (one other : Bool) → (one ≡ true → other ≡ true) → (one && not other) ≡ false
+not-both true other is = ap not (is refl)
+not-both false other is = refl
 
 module _ (terms : Terms) (one : LeafWeek) (roster : Roster) (n : ℕ) (within : ArePrices one.prices) (keeps : KeepsHardRules one.week roster)
     (n_in : n < one.week.nurses) (allows : AllowsChoices one (record { week = one.week; roster = roster }) n) where
@@ -65,18 +72,29 @@ module _ (terms : Terms) (one : LeafWeek) (roster : Roster) (n : ℕ) (within : 
             );
       }
 
+  -- no cell but the one that she has is held that day
+  none-apart : (d s k : ℕ) → d < DAYS → HasOne problem.shifts problem.skills (has d) s k →
+      any_below problem.shifts (is_held_apart_on problem n d s k) ≡ false
+  none-apart d s k d_in have =
+      any-none problem.shifts (is_held_apart_on problem n d s k) (λ t t_in.
+      any-none problem.skills (is_held_apart problem n d s k t) (λ l l_in.
+      not-both (problem.is_held (cell n d t l)) (t == s && l == k) (λ held.
+      let same = have.alone t l t_in l_in (held-in d t l d_in t_in l_in held) in
+      and_from _ _ (eq-eqb t s same.0) (eq-eqb l k same.1))))
+
   -- she may have the cell that she has
   may-have : (d s k : ℕ) → d < DAYS → HasOne problem.shifts problem.skills (has d) s k → may_have problem n d s k ≡ true
   may-have d s k d_in have =
       let skilled = keeps.of_competition.skills (cell n d s k)
       (record { in_week = in_week d s k d_in have.shift_in have.skill_in; in_roster = have.here }) in
-      let allowed : (may_be_off problem n d || problem.is_held (cell n d s k)) ≡ true =
+      let allowed : (may_be_off problem n d || is_only_held problem n d s k) ≡ true =
       elim (cases_Bool (works problem problem.is_held n d)) [
         | inl some ↦
             let t = any-some problem.shifts _ some in
             let l = any-some problem.skills _ t.2 in
             let same = have.alone t.0 l.0 t.1 l.1 (held-in d t.0 l.0 d_in t.1 l.1 l.2) in
-            or_right _ _ (sym (ap (λ a. problem.is_held (cell n d a l.0)) same.0 ∙ ap (λ b. problem.is_held (cell n d s b)) same.1) ∙ l.2)
+            let held = sym (ap (λ a. problem.is_held (cell n d a l.0)) same.0 ∙ ap (λ b. problem.is_held (cell n d s b)) same.1) ∙ l.2 in
+            or_right _ _ (and_from _ _ held (ap not (none-apart d s k d_in have)))
         | inr none ↦ or_left _ _ (ap not none)
       ] in
       and_from _ _ skilled allowed

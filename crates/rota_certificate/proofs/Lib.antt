@@ -14,10 +14,12 @@ pub mod LeafStages
 pub mod LeafSteps
 pub mod LeafWeeks
 pub mod LeastCosts
+pub mod LentWeeks
 pub mod ListSteps
 pub mod NursePart
 pub mod OtherHistories
 pub mod ParityPart
+pub mod PeriodProofs
 pub mod PlacePart
 pub mod PlaceSteps
 pub mod PlanParts
@@ -28,5 +30,6 @@ pub mod Sums
 pub mod SurchargeLists
 pub mod SurchargeSums
 pub mod Tables
+pub mod TreePaths
 pub mod TreeSoundness
 pub mod WeekDays

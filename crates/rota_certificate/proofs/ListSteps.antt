@@ -1,7 +1,7 @@
 -- A list from an index on: its first element and the rest, and sums over it.
-use Rattle.std.proofs.Common.{◌≡◌, ℕ, zero, suc, ◌+◌, ◌<◌, ◌≤◌, ap, sym, ◌∙◌, subst, arith, List, [], ◌∷◌, length, drop, slice_index_or}
+use Rattle.std.proofs.Common.{◌≡◌, ℕ, zero, suc, ◌+◌, ◌<◌, ◌≤◌, ap, sym, ◌∙◌, subst, arith, List, [], ◌∷◌, ◌++◌, length, drop, reverse, slice_index_or}
 use Rattle.std.specs.List.{AllByRecursion, sum_by}
-use Rattle.std.proofs.lemmas.List.{drop_all, drop_more}
+use Rattle.std.proofs.lemmas.List.{drop_all, drop_more, reverse-append}
 use Rattle.std.proofs.lemmas.List.Sums.{sum_by-cons}
 
 module _ {X : Type 0} where
@@ -15,10 +15,22 @@ module _ {X : Type 0} where
   pub sum-end : (f : X → ℕ) (xs : List X) (i : ℕ) → length xs ≤ i → sum_by f (drop i xs) ≡ 0
   sum-end f xs i past = ap (sum_by f) (drop_all i xs past)
 
-  all-of : (P : X → Type 0) (xs : List X) (i : ℕ) (d : X) → AllByRecursion P xs → i < length xs → P (slice_index_or xs i d)
+  pub all-of : (P : X → Type 0) (xs : List X) (i : ℕ) (d : X) → AllByRecursion P xs → i < length xs → P (slice_index_or xs i d)
   all-of P [] i d all inside = absurd (omega (arith, inside))
   all-of P (x ∷ xs) zero d all inside = all.0
   all-of P (x ∷ xs) (suc i) d all inside = all-of P xs i d all.1 (omega (arith, inside))
 
   pub each-at : (P : X → Type 0) (xs : List X) (i : ℕ) (x : X) → AllByRecursion P xs → i < length xs → x ≡ slice_index_or xs i x → P x
   each-at P xs i x all inside is = subst P (sym is) (all-of P xs i x all inside)
+
+-- a property of each element
+module _ {X : Type 0} (P : X → Type 0) where
+  pub all-append : (xs ys : List X) → AllByRecursion P xs → AllByRecursion P ys → AllByRecursion P (xs ++ ys)
+  all-append [] ys all more = more
+  all-append (x ∷ xs) ys all more = (all.0, all-append xs ys all.1 more)
+
+  pub all-reverse : (xs : List X) → AllByRecursion P xs → AllByRecursion P (reverse xs)
+  all-reverse [] all = tt
+  all-reverse (x ∷ xs) all =
+      subst (λ (list : List X). AllByRecursion P list) (sym (reverse-append (x ∷ []) xs))
+      (all-append (reverse xs) (x ∷ []) (all-reverse xs all.1) (all.0, tt))

@@ -5,7 +5,7 @@ use Rattle.std.proofs.lemmas.Bool.{cases_lt}
 use Rattle.std.proofs.lemmas.List.{drop_all, drop_more}
 use Rattle.rota_core.specs.declared.certificate.Condition.{Condition}
 use Rattle.rota_core.specs.Limits.{max_price}
-use Rattle.rota_certificate.specs.CaseLimits.{AreLimited, IsLimited, IsLimitedCase}
+use Rattle.rota_certificate.specs.CaseLimits.{AreLimitedCharges, IsLimited, IsLimitedCase}
 use Rattle.rota_certificate.specs.Facts.{Case}
 use Rattle.rota_certificate.specs.Tariffs.{surcharged}
 use Rattle.rota_certificate.specs.declared.surcharges.Surcharged.{Surcharged}
@@ -67,7 +67,7 @@ surcharged-small most (condition ∷ case) [] all = (omega arith, surcharged-sma
 surcharged-small most (condition ∷ case) (m ∷ surcharges) all = (all.0, surcharged-small most case surcharges all.1)
 
 pub surcharged-limited : (case : Case) (surcharges : List ℕ) → IsLimitedCase case → AllByRecursion (λ m. m ≤ max_price) surcharges →
-    AreLimited (surcharged case surcharges)
+    AreLimitedCharges (surcharged case surcharges)
 surcharged-limited case surcharges limited small = record {
   few = omega (arith, surcharged-length case surcharges, limited.few);
   each = surcharged-each (λ (one : Condition). IsLimited one.fact) case surcharges limited.each;

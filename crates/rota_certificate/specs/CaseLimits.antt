@@ -1,5 +1,5 @@
 -- The numbers of a case's facts and surcharges are within the limits of files.
-use Rattle.std.specs.Prelude.{ℕ, ◌≤◌, ⊤, List, length}
+use Rattle.std.specs.Prelude.{ℕ, ◌*◌, ◌≤◌, ⊤, List, length}
 use Rattle.std.specs.List.{AllByRecursion}
 use Rattle.rota_core.specs.Limits.{max_number, max_price}
 use Rattle.rota_core.specs.declared.certificate.Fact.{Fact}
@@ -14,9 +14,10 @@ IsLimited (Charges limit) = limit.most ≤ max_number
 IsLimited (Choice one) = ⊤
 IsLimited EvenShiftRuns = ⊤
 
--- more conditions than a case has: no certificate has more than 19,998 nodes, and no file more than 9999 given facts
+-- the maximum number of conditions of a case: a certificate has at most twice `max_number` nodes, and there are at most `max_number` given
+-- conditions
 abbrev pub most_conditions : ℕ
-most_conditions = 40000
+most_conditions = 3 * max_number
 
 -- a case with these limits
 pub record IsLimitedCase (case : Case) : Type 0 where
@@ -24,7 +25,7 @@ pub record IsLimitedCase (case : Case) : Type 0 where
   pub each : AllByRecursion (λ one. IsLimited one.fact) case
 
 -- the conditions of a leaf with their surcharges, within these limits
-pub record AreLimited (charges : List Surcharged) : Type 0 where
+pub record AreLimitedCharges (charges : List Surcharged) : Type 0 where
   pub few : length charges ≤ most_conditions
   pub each : AllByRecursion (λ one. IsLimited one.condition.fact) charges
   pub small : AllByRecursion (λ one. one.surcharge ≤ max_price) charges

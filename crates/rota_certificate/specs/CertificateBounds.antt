@@ -1,12 +1,12 @@
 -- The bound of a certificate: the minimum of the bounds of its leaves. The nodes are a tree in preorder. The case of a node has the
 -- conditions on its path to the root, and the given conditions, which all plans are asked to meet.
-use Rattle.std.specs.Prelude.{ℕ, ◌+◌, ◌/◌, ◌*◌, ◌≤◌, ◌++◌, Bool, true, false, min, if◌then◌else◌, Option, Some, None, List, [], ◌∷◌, map, reverse, slice_index_or}
+use Rattle.std.specs.Prelude.{ℕ, ◌+◌, ◌-◌, ◌/◌, ◌*◌, ◌++◌, Bool, true, false, min, if◌then◌else◌, Option, Some, None, List, [], ◌∷◌, map, reverse, slice_index_or}
 use Rattle.std.specs.List.{AllByRecursion, list_any}
 use Rattle.std.specs.Option.{option_map_or}
 use Rattle.rota_core.specs.PriceTables.{PriceTables, prices_of}
 use Rattle.rota_core.specs.Prices.{ArePrices, Prices}
+pub use Rattle.rota_core.specs.Prices.{thousandths}
 use Rattle.rota_core.specs.Problem.{Problem}
-use Rattle.rota_core.specs.Roster.{Roster}
 use Rattle.rota_core.specs.declared.certificate.Certificate.{Certificate}
 use Rattle.rota_core.specs.declared.certificate.Condition.{Condition}
 use Rattle.rota_core.specs.declared.certificate.Fact.{Fact}
@@ -14,53 +14,59 @@ use Rattle.rota_core.specs.declared.certificate.Fact.TheVariants.{EvenShiftRuns}
 use Rattle.rota_core.specs.declared.certificate.Leaf.{Leaf}
 use Rattle.rota_core.specs.declared.certificate.Node.{Node}
 use Rattle.rota_core.specs.declared.certificate.Node.TheVariants as nodes
-use Rattle.rota_certificate.specs.Facts.{Case, IsIn}
+use Rattle.rota_certificate.specs.Facts.{Case}
 use Rattle.rota_certificate.specs.LeafBounds.{leaf_bound}
-use Rattle.rota_certificate.specs.Plans.{KeepRules, plan_cost, plan_of}
-
--- the value of a point, in thousandths
-abbrev pub thousandths : ℕ
-thousandths = 1000
+pub use Rattle.rota_certificate.specs.Optimality.{AreOptimal}
 
 -- ---- rounding
 
--- whether the condition says that the number of charges of shift runs is even, or that it is odd
+-- whether the condition says that the number of charges of shift runs is even
 abbrev pub says_even : Fact → (holds : Bool) → Bool
 says_even EvenShiftRuns true = true
 says_even _ _ = false
 
+-- whether it says that this number is odd
 abbrev pub says_odd : Fact → (holds : Bool) → Bool
 says_odd EvenShiftRuns false = true
 says_odd _ _ = false
 
--- the cost of a plan is a multiple of 10 points if its number of charges of shift runs is even, and otherwise 5 points more than one.
+-- the step between the costs of plans, in points
+abbrev pub step : ℕ
+step = 5
+
+-- the step in thousandths of a point
+abbrev pub step_cost : ℕ
+step_cost = step * thousandths
+
+-- the cost of a plan is a multiple of two steps if its number of charges of shift runs is even, and otherwise one step more.
 -- This is the minimum of the costs that are possible in the case and not below the sum, which is in thousandths of a point.
 abbrev pub rounded_up : Case → (sum : ℕ) → ℕ
 rounded_up case sum =
-    (if list_any (λ one. says_even one.fact one.holds) case then (sum + 9999) / 10000 * 10
-    else (if list_any (λ one. says_odd one.fact one.holds) case then (sum + 4999) / 10000 * 10 + 5
-    else (sum + 4999) / 5000 * 5))
+    (if list_any (λ one. says_even one.fact one.holds) case then (sum + (2 * step_cost - 1)) / (2 * step_cost) * (2 * step)
+    else (if list_any (λ one. says_odd one.fact one.holds) case then (sum + (step_cost - 1)) / (2 * step_cost) * (2 * step) + step
+    else (sum + (step_cost - 1)) / step_cost * step))
 
 -- ---- the tree
 
 -- the conditions from a node to the root
-abbrev pub Path : Type 0
-Path = List Condition
+abbrev pub CasePath : Type 0
+CasePath = List Condition
 
--- the condition that the fact holds, and that it does not hold
+-- the condition that the fact holds
 abbrev pub with : Fact → Condition
 with fact = record { fact = fact; holds = true }
 
+-- the condition that the fact does not hold
 abbrev pub without : Fact → Condition
 without fact = record { fact = fact; holds = false }
 
 -- the path to the case that comes next in the tree, after all cases below the end of this path
-unfoldable pub next_path : Path → Option Path
+unfoldable pub next_path : CasePath → Option CasePath
 next_path [] = None
 next_path (condition ∷ path) = (if condition.holds then Some (without condition.fact ∷ path) else next_path path)
 
 -- the minimum of the bounds of the leaves from this node on; a case without a leaf has the bound 0
-unfoldable pub least_bound : (Path → Leaf → ℕ) → Path → List Node → ℕ
+unfoldable pub least_bound : (CasePath → Leaf → ℕ) → CasePath → List Node → ℕ
 least_bound bound path [] = 0
 least_bound bound path (nodes.Split fact ∷ later) = least_bound bound (with fact ∷ path) later
 least_bound bound path (nodes.Leaf leaf ∷ later) =
@@ -69,7 +75,7 @@ least_bound bound path (nodes.Leaf leaf ∷ later) =
 -- ---- the certificate
 
 -- the case of a path: its conditions from the root on, then the given ones
-abbrev pub case_of : Path → (given : Case) → Case
+abbrev pub case_of : CasePath → (given : Case) → Case
 case_of path given = reverse path ++ given
 
 -- the lists of prices
@@ -85,7 +91,7 @@ abbrev pub prices_of_leaf : Certificate → Leaf → List Prices
 prices_of_leaf certificate leaf = map prices_of (slice_index_or (lists_of certificate) leaf.prices [])
 
 -- the bound of a leaf of the certificate
-abbrev pub bound_at : ℕ → List Problem → (given : Case) → Certificate → Path → Leaf → ℕ
+abbrev pub bound_at : ℕ → List Problem → (given : Case) → Certificate → CasePath → Leaf → ℕ
 bound_at unit weeks given certificate path leaf =
     leaf_bound unit weeks (case_of path given) (prices_of_leaf certificate leaf) leaf.surcharges.items
 
@@ -98,10 +104,3 @@ lower_bound weeks given certificate =
 abbrev pub minimums_bound : List Problem → (given : Case) → Certificate → ℕ
 minimums_bound weeks given certificate =
     least_bound (λ path leaf. leaf_bound 0 weeks (case_of path given) (prices_of_leaf certificate leaf) []) [] certificate.nodes.items
-
--- these rosters keep the hard rules of the weeks and meet the given conditions, and no others that do so cost less
-pub record AreOptimal (weeks : List Problem) (given : Case) (rosters : List Roster) : Type 0 where
-  pub keep : KeepRules weeks rosters
-  pub meet : IsIn (plan_of weeks rosters) given
-  pub least : (others : List Roster) → KeepRules weeks others → IsIn (plan_of weeks others) given →
-      plan_cost (plan_of weeks rosters) ≤ plan_cost (plan_of weeks others)

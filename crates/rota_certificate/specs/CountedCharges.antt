@@ -68,7 +68,7 @@ numbers_in [] = record { nurses = 0; shifts = 0; skills = 0 }
 numbers_in (first ∷ later) = (problem_of first).numbers
 
 -- the condition with this index is the first that the plan does not meet
-pub record IsFirstUnmet (plan : Plan) (given : Case) (index : ℕ) : Type 0 where
+pub record IsFirstUnmetCondition (plan : Plan) (given : Case) (index : ℕ) : Type 0 where
   pub condition : Condition
   pub is : slice_get given index ≡ Some condition
   pub unmet : is_fact plan condition.fact ≢ condition.holds

@@ -11,7 +11,7 @@ use Rattle.rota_certificate.specs.declared.known.KnownCost.{KnownCost}
 use Rattle.rota_certificate.specs.declared.known.KnownRebate.{KnownRebate}
 use Rattle.rota_certificate.specs.declared.stages.Stage.{Stage}
 
--- there are entries
+-- there are entries for costs and for rebates
 pub record HasEntries (known : Known) : Type 0 where
   pub costs : 0 < length known.costs.items
   pub rebates : 0 < length known.rebates.items

@@ -63,6 +63,10 @@ bound_of_leaf unit case charges weeks =
     (leaf_place_bounds unit case 0 weeks + sum_below (nurse_count weeks) (λ n. nurse_bound unit (tariff_of unit charges n) weeks n) +
     gained charges) - (added_prices weeks + lost charges)
 
+-- no leaf of a certificate has a bound above this number
+abbrev pub most_bound : ℕ
+most_bound = 10000000000000000000
+
 -- the bound of the leaf with these prices and surcharges; it is 0 if the surcharges make a weight negative
 abbrev pub leaf_bound : ℕ → List Problem → Case → List Prices → (surcharges : List ℕ) → ℕ
 leaf_bound unit weeks case prices surcharges =

@@ -12,9 +12,11 @@ pub mod Nearness
 pub mod NurseBounds
 pub mod NurseCosts
 pub mod Optimality
+pub mod PeriodBounds
 pub mod PlaceBounds
 pub mod PlaceCases
 pub mod Plans
+pub mod Evidence
 pub mod ShiftCharges
 pub mod Stages
 pub mod Tariffs

@@ -1,12 +1,13 @@
 -- The minimum cost of a nurse in the weeks of a leaf, less the prices of her cells. Each day adds the maximum price, so that no number is
 -- negative.
-use Rattle.std.specs.Prelude.{ℕ, zero, suc, ◌+◌, ◌-◌, ◌*◌, ◌&&◌, ◌||◌, Bool, false, not, min, if◌then◌else◌, Option, Some, None, List, [], ◌∷◌}
+use Rattle.std.specs.Prelude.{ℕ, zero, suc, ◌+◌, ◌-◌, ◌*◌, ◌==◌, ◌&&◌, ◌||◌, Bool, false, not, min, if◌then◌else◌, Option, Some, None, List, [], ◌∷◌}
 use Rattle.std.specs.List.{list_any}
 use Rattle.rota_core.specs.Sizes.{DAYS}
 use Rattle.rota_core.specs.HardRules.{is_off}
 use Rattle.rota_core.specs.Prices.{Prices, max_price}
 use Rattle.rota_core.specs.Roster.{cell}
 use Rattle.rota_core.specs.Problem.{Problem}
+use Rattle.rota_core.specs.SumsBelow.{any_below}
 use Rattle.rota_core.specs.declared.values.Past.{Past}
 use Rattle.rota_items.specs.HardRows.{is_forbidden_after}
 use Rattle.rota_items.specs.rules.TotalAssignments.Cost.{assignment_weight}
@@ -18,9 +19,22 @@ use Rattle.rota_certificate.specs.declared.tariffs.Tariff.{Tariff}
 abbrev pub may_be_off : Problem → (nurse day : ℕ) → Bool
 may_be_off problem n d = is_off problem problem.is_held n d
 
--- whether the nurse may have the cell: she has the skill, and the cell is held if any cell of the day is
+-- whether the nurse's cell of this other shift type and skill is held, and is not the cell
+abbrev pub is_held_apart : Problem → (nurse day shift skill : ℕ) → (other_shift other_skill : ℕ) → Bool
+is_held_apart problem n d s k t l = problem.is_held (cell n d t l) && not (t == s && l == k)
+
+-- whether such a cell of the other shift type is held
+abbrev pub is_held_apart_on : Problem → (nurse day shift skill : ℕ) → (other_shift : ℕ) → Bool
+is_held_apart_on problem n d s k t = any_below problem.skills (is_held_apart problem n d s k t)
+
+-- whether the cell is held, and no other cell of the nurse's day
+abbrev pub is_only_held : Problem → (nurse day shift skill : ℕ) → Bool
+is_only_held problem n d s k = problem.is_held (cell n d s k) && not (any_below problem.shifts (is_held_apart_on problem n d s k))
+
+-- whether the nurse may have the cell: she has the skill, and of the cells of the day none is held, or this one alone. With two held
+-- cells she may have none, as no roster with both keeps the hard rules
 abbrev pub may_have : Problem → (nurse day shift skill : ℕ) → Bool
-may_have problem n d s k = problem.has_skill n k && (may_be_off problem n d || problem.is_held (cell n d s k))
+may_have problem n d s k = problem.has_skill n k && (may_be_off problem n d || is_only_held problem n d s k)
 
 -- the maximum price, less the price of the cell, if the nurse may have it
 abbrev pub rebate : Problem → Prices → (nurse day shift skill : ℕ) → ℕ

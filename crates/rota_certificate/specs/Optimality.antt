@@ -1,11 +1,28 @@
--- A roster of the minimum penalty.
-use Rattle.std.specs.Prelude.{◌≤◌}
-use Rattle.rota_core.specs.HardRules.{KeepsHardRules}
+-- Rosters of the minimum cost, among those that keep the hard rules of some weeks and meet the given conditions.
+use Rattle.std.specs.Prelude.{◌≡◌, ℕ, ◌≤◌, List}
 use Rattle.rota_core.specs.Problem.{Problem}
 use Rattle.rota_core.specs.Roster.{Roster}
-use Rattle.rota_items.specs.Penalty.{penalty}
+use Rattle.rota_certificate.specs.Facts.{Case, IsIn}
+use Rattle.rota_certificate.specs.Plans.{KeepRules, plan_cost, plan_of}
 
--- no roster that keeps the hard rules has a smaller penalty than this one, which keeps them
-pub record IsOptimal (problem : Problem) (roster : Roster) : Type 0 where
-  pub keeps : KeepsHardRules problem roster
-  pub least : (other : Roster) → KeepsHardRules problem other → penalty problem roster ≤ penalty problem other
+-- these rosters keep the hard rules of the weeks and meet the given conditions, and no others that do so cost less
+pub record AreOptimal (weeks : List Problem) (given : Case) (rosters : List Roster) : Type 0 where
+  pub keep : KeepRules weeks rosters
+  pub meet : IsIn (plan_of weeks rosters) given
+  pub least : (others : List Roster) → KeepRules weeks others → IsIn (plan_of weeks others) given →
+      plan_cost (plan_of weeks rosters) ≤ plan_cost (plan_of weeks others)
+
+-- no rosters that keep the hard rules of the weeks and meet the given conditions cost less than this number of points
+abbrev pub NoneCostLess : List Problem → (given : Case) → (points : ℕ) → Type 0
+NoneCostLess weeks given points =
+    (rosters : List Roster) → KeepRules weeks rosters → IsIn (plan_of weeks rosters) given → points ≤ plan_cost (plan_of weeks rosters)
+
+-- rosters that keep the hard rules of the weeks, meet the given conditions, and cost this number of points, are optimal
+abbrev pub AreOptimalAt : List Problem → (given : Case) → (points : ℕ) → Type 0
+AreOptimalAt weeks given points =
+    (rosters : List Roster) → KeepRules weeks rosters → IsIn (plan_of weeks rosters) given → plan_cost (plan_of weeks rosters) ≡ points →
+    AreOptimal weeks given rosters
+
+-- no rosters keep the hard rules of the weeks and meet the given conditions
+abbrev pub HaveNoPlan : List Problem → (given : Case) → Type 0
+HaveNoPlan weeks given = (rosters : List Roster) → KeepRules weeks rosters → IsIn (plan_of weeks rosters) given → ⊥

@@ -77,10 +77,11 @@ forbidden_by kind n (MoreThan limit) = false
 abbrev pub over_limits : ((surcharge : ℕ) → Limit → ℕ) → List Surcharged → ℕ
 over_limits f case = sum_by (λ one. option_map_or (f one.surcharge) (limit_of one.condition.fact one.condition.holds) 0) case
 
--- the sums that all limits add to the weight and take off it
+-- the sum that all limits add to the weight
 abbrev pub added : List Surcharged → ChargeKind → (nurse : ℕ) → ℕ
 added case kind n = over_limits (added_by kind n) case
 
+-- the sum that they take off it
 abbrev pub taken : List Surcharged → ChargeKind → (nurse : ℕ) → ℕ
 taken case kind n = over_limits (taken_by kind n) case
 
@@ -123,9 +124,10 @@ has_overdrawn_weight unit case n =
 abbrev pub has_overdrawn : (unit : ℕ) → List Surcharged → (nurses : ℕ) → Bool
 has_overdrawn unit case nurses = any_below nurses (has_overdrawn_weight unit case)
 
--- the loss and the gain of the leaf's bound
+-- the loss of the leaf's bound
 abbrev pub lost : List Surcharged → ℕ
 lost case = over_limits lost_by case
 
+-- its gain
 abbrev pub gained : List Surcharged → ℕ
 gained case = over_limits gained_by case

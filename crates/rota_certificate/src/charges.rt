@@ -7,8 +7,8 @@ ghost use Rattle.rota_certificate.specs.DayCharges.{run_charge, run_on, shift_ch
 ghost use Rattle.rota_certificate.specs.ShiftCharges.{ended_charge, going_charge};
 ghost use Rattle.rota_certificate.specs.Nearness.{IsNear, most_days};
 
-use crate::weights::{COMPLETE_WEEKEND_WEIGHT, OFF_RUN_WEIGHT, REQUEST_WEIGHT, WORK_RUN_WEIGHT};
 use rota_core::{Contract, DAYS, Instance, Past, Span};
+use rota_items::{COMPLETE_WEEKEND_WEIGHT, OFF_RUN_WEIGHT, REQUEST_WEIGHT, WORK_RUN_WEIGHT};
 
 // The length of the run on the shift type at the end of the past.
 fn run_on(past: Past, shift: u8) -> u16
@@ -88,7 +88,7 @@ fn weekend_charge(instance: &Instance, nurse: u16, day: u8, saturday: bool, sund
     ensures { result ≡ weekend_charge (problem_of instance.now) nurse day saturday sunday }
 {
     if day == 6 && instance.contract(nurse).complete && saturday != sunday {
-        COMPLETE_WEEKEND_WEIGHT
+        u64::from(COMPLETE_WEEKEND_WEIGHT)
     } else {
         0
     }
@@ -126,9 +126,9 @@ pub fn fixed_charge(instance: &Instance, nurse: u16, day: u8, past: Past, choice
     let off = run_charge(past.off_run, !works, contract.off);
     let requests = requests_against(instance, nurse, day, choice);
     let weekend = weekend_charge(instance, nurse, day, past.last.is_some(), works);
-    WORK_RUN_WEIGHT * u64::from(under)
-        + OFF_RUN_WEIGHT * u64::from(off)
-        + REQUEST_WEIGHT * u64::from(requests)
+    u64::from(WORK_RUN_WEIGHT) * u64::from(under)
+        + u64::from(OFF_RUN_WEIGHT) * u64::from(off)
+        + u64::from(REQUEST_WEIGHT) * u64::from(requests)
         + weekend
 }
 

@@ -6,7 +6,7 @@ ghost use Rattle.rota_core.specs.HardRules.{nurses_at};
 ghost use Rattle.rota_core.specs.InstanceTables.{problem_of};
 ghost use Rattle.rota_core.specs.RosterTables.{HasShapeOf, set_of};
 ghost use Rattle.rota_core.specs.Sizes.{DAYS};
-ghost use Rattle.rota_certificate.specs.CountedCharges.{IsFirstUnmet, IsPlanned, numbers_in, plan_from};
+ghost use Rattle.rota_certificate.specs.CountedCharges.{IsFirstUnmetCondition, IsPlanned, numbers_in, plan_from};
 ghost use Rattle.rota_certificate.specs.Facts.{IsIn, charges_counted, has_choice, is_fact};
 
 use crate::counted::{charges_of_all, charges_of_nurse, choice_on, is_on};
@@ -90,7 +90,7 @@ fn is_fact(weeks: &[Instance], rosters: &[Roster], fact: Fact) -> bool
 pub fn first_unmet(weeks: &[Instance], rosters: &[Roster], given: &[Condition]) -> Option<usize>
     requires plan { IsPlanned weeks.now rosters.now }
     requires conditions { AreConditionsFor (numbers_in weeks.now) (length weeks.now) given.now }
-    ensures { let plan = plan_from weeks.now rosters.now in MatchOption result (IsIn plan given.now) (IsFirstUnmet plan given.now) }
+    ensures { let plan = plan_from weeks.now rosters.now in MatchOption result (IsIn plan given.now) (IsFirstUnmetCondition plan given.now) }
 {
     for (index, condition) in given.iter().enumerate() {
         if is_fact(weeks, rosters, condition.fact) != condition.holds {

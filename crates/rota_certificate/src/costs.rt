@@ -14,8 +14,8 @@ use crate::charges::{
 use crate::rebates::NOT_ALLOWED;
 use crate::stages::Stage;
 use crate::tariffs::Tariff;
-use crate::weights::ASSIGNMENT_WEIGHT;
 use rota_core::{Contract, DAYS, Past};
+use rota_items::ASSIGNMENT_WEIGHT;
 
 // The cost of this number of charges at this weight, but not more than `NOT_ALLOWED`.
 fn weighted(weight: u64, charges: u64) -> u64
@@ -89,5 +89,8 @@ pub fn end_cost(stage: &Stage<'_>, past: Past) -> u64
 {
     let contract = stage.instance.contract(stage.nurse);
     let missing = missing_total(stage.instance.last_week(), contract, past);
-    times(stage.unit, ASSIGNMENT_WEIGHT * u64::from(missing))
+    times(
+        stage.unit,
+        u64::from(ASSIGNMENT_WEIGHT) * u64::from(missing),
+    )
 }

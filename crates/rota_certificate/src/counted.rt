@@ -9,7 +9,7 @@ ghost use Rattle.rota_items.specs.CountedTotals.{charged_excess};
 ghost use Rattle.rota_certificate.specs.CountedCharges.{IsCountedWeek, IsPlanned, choice_on, numbers_in, plan_from, run_charges, total_charges};
 ghost use Rattle.rota_certificate.specs.Facts.{charges_of_all, charges_of_nurse};
 ghost use Rattle.rota_certificate.specs.Nearness.{IsNear, most_days};
-ghost use Rattle.rota_certificate.specs.Plans.{History, after};
+ghost use Rattle.rota_certificate.specs.Plans.{History, after, history_after};
 
 use crate::charges::{over_charge, past_after, shift_charges};
 use rota_core::{Cell, ChargeKind, DAYS, Instance, Past, Roster};
@@ -153,6 +153,17 @@ fn charges_in_week(
         charges: charges + total_charges(instance, kind, nurse, past, now),
         past: now,
     }
+}
+
+/// The nurse's past after the week with this roster, if this is her past before it.
+pub fn past_after_week(instance: &Instance, roster: &Roster, nurse: u16, past: Past) -> Past
+    requires nurse_in { nurse < (problem_of instance.now).nurses }
+    requires shape { HasShapeOf (problem_of instance.now) roster.now }
+    requires near { IsNear (problem_of instance.now).shifts (most_days - DAYS) past }
+    ensures past { (history : History) → history nurse ≡ past → let week = after (problem_of instance.now) history in
+        KeepsHardRules week (set_of roster.now) → result ≡ history_after week (set_of roster.now) nurse }
+{
+    charges_in_week(instance, roster, ChargeKind::WorkDays, nurse, past).past
 }
 
 /// The number of the nurse's charges of the kind in all weeks.

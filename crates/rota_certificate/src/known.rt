@@ -1,7 +1,7 @@
 //! Costs and rebates of a nurse that were computed before. The entry of each follows from its week,
 //! day, and past or choice. A later one replaces it there, and a lost one is computed again.
 
-ghost use Rattle.std.specs.Prelude.{◌≡◌, ℕ, ◌<◌, All, IfOk, IfSome, List, None, drop, length};
+ghost use Rattle.std.specs.Prelude.{◌≡◌, ℕ, ◌≤◌, ◌<◌, All, IfOk, IfSome, List, None, drop, length};
 ghost use Rattle.rota_certificate.specs.KnownCosts.{AreRightFor, HasEntries, IsRightCost, IsRightRebate, first_rebate};
 ghost use Rattle.rota_certificate.specs.NurseBounds.{LeafWeek, Terms, least_left};
 
@@ -39,17 +39,17 @@ const REBATE_ENTRIES: usize = 1021;
 // A number that spreads pasts over the entries: any large odd number, not near a power of two.
 const SPREAD: usize = 1_000_003;
 
-// The number of entries for the costs of this number of weeks, a prime. In a longer period a nurse
-// has more totals, so more pasts a day. There are entries for the pasts of a month or more: with
-// fewer, costs are lost too early. At most they take some fifty megabytes.
+// The number of entries for costs, a prime: at least about as large as the number of costs of a nurse
+// with four shift types. With fewer entries most costs are lost before they are needed again. All
+// entries take about ten megabytes in a period of eight weeks, and forty in a longer one.
 fn cost_entries(weeks: usize) -> usize
-    ensures { 0 < result }
+    ensures some { 0 < result }
+    ensures few { result ≤ 1048573 }
 {
     match weeks {
-        0..=2 => 16_381,
-        3..=4 => 32_749,
-        5..=8 => 131_071,
-        9..=16 => 524_287,
+        0..=1 => 16_381,
+        2 => 65_521,
+        3..=8 => 262_139,
         _ => 1_048_573,
     }
 }
@@ -89,15 +89,20 @@ fn number_of(choice: Option<u8>) -> u16 {
     }
 }
 
+// A number that spreads the pasts.
+fn spread(past: Past) -> usize {
+    let mix = with_part(usize::from(number_of(past.last)), past.shift_run);
+    let mix = with_part(with_part(mix, past.work_run), past.off_run);
+    with_part(with_part(mix, past.assignments), past.weekends)
+}
+
 // The entry of a cost among this number of entries.
 fn cost_entry(entries: usize, week: usize, left: u8, past: Past) -> usize
     requires { 0 < entries }
     ensures { result < entries }
 {
-    let mix = with_part(with_part(week, u16::from(left)), number_of(past.last));
-    let mix = with_part(with_part(mix, past.shift_run), past.work_run);
-    let mix = with_part(with_part(mix, past.off_run), past.assignments);
-    with_part(mix, past.weekends) % entries
+    let mix = spread(past).wrapping_mul(SPREAD).wrapping_add(week);
+    with_part(mix, u16::from(left)) % entries
 }
 
 // The entry of a rebate among this number of entries.

@@ -4,10 +4,10 @@ ghost use Rattle.std.specs.Prelude.{◌≡◌, ◌≤◌, ◌*◌, IfOk, IfSome,
 ghost use Rattle.std.specs.List.{AllByRecursion};
 ghost use Rattle.rota_core.specs.Limits.{max_price};
 ghost use Rattle.rota_core.specs.SumsBelow.{sum_below};
-ghost use Rattle.rota_certificate.specs.CaseLimits.{AreLimited, IsLimitedCase};
+ghost use Rattle.rota_certificate.specs.CaseLimits.{AreLimitedCharges, IsLimitedCase};
 ghost use Rattle.rota_certificate.specs.CertificateBounds.{thousandths};
 ghost use Rattle.rota_certificate.specs.KnownCosts.{HasEntries};
-ghost use Rattle.rota_certificate.specs.LeafBounds.{added_prices, bound_of_leaf, leaf_bound, nurse_count};
+ghost use Rattle.rota_certificate.specs.LeafBounds.{added_prices, bound_of_leaf, leaf_bound, most_bound, nurse_count};
 ghost use Rattle.rota_certificate.specs.Minimums.{not_allowed};
 ghost use Rattle.rota_certificate.specs.NurseBounds.{nurse_bound};
 ghost use Rattle.rota_certificate.specs.Stages.{IsLeaf, prices_lent, week_lent, weeks_of};
@@ -40,8 +40,9 @@ fn nurse_bounds(
 ) -> Option<u64>
     requires unit_in { unit ≤ thousandths }
     requires leaf { IsLeaf leaf.now }
-    requires limited { AreLimited charges.now }
+    requires limited { AreLimitedCharges charges.now }
     requires entries { HasEntries known.old }
+    ensures entries { HasEntries known.new }
     ensures none { result ≡ None → has_overdrawn unit charges.now (nurse_count (weeks_of leaf.now)) ≡ true }
     ensures some { let weeks = weeks_of leaf.now in IfSome result (λ sum. has_overdrawn unit charges.now (nurse_count weeks) ≡ false) }
     ensures bounds { let weeks = weeks_of leaf.now in
@@ -74,11 +75,12 @@ fn bound_of_leaf(unit: u64, leaf: &LentLeaf<'_>, charges: &[Surcharged], known: 
     requires unit_in { unit ≤ thousandths }
     requires leaf { IsLeaf leaf.now }
     requires case { IsLimitedCase leaf.now.case.now }
-    requires limited { AreLimited charges.now }
+    requires limited { AreLimitedCharges charges.now }
     requires entries { HasEntries known.old }
+    ensures entries { HasEntries known.new }
     ensures bound { let weeks = weeks_of leaf.now in
         result ≡ (if has_overdrawn unit charges.now (nurse_count weeks) then 0 else bound_of_leaf unit leaf.now.case.now charges.now weeks) }
-    ensures small { result ≤ 10000000000000000000 }
+    ensures small { result ≤ most_bound }
 {
     match nurse_bounds(unit, leaf, charges, known) {
         None => 0,
@@ -92,7 +94,8 @@ fn bound_of_leaf(unit: u64, leaf: &LentLeaf<'_>, charges: &[Surcharged], known: 
 
 /// The bound of the leaf with these surcharges, in thousandths of a point. It is 0 if they make a
 /// weight negative. `unit` is the value of a point: 1000, or 0 if the soft rules are left out. The
-/// first surcharge belongs to the first condition of the case, and so on; a missing one is 0.
+/// first surcharge belongs to the first condition of the case, and so on; a missing one is 0. Forgets
+/// what was known.
 ///
 /// The only error is that memory runs out.
 pub fn leaf_bound(
@@ -100,16 +103,18 @@ pub fn leaf_bound(
     unit: u64,
     leaf: &LentLeaf<'_>,
     surcharges: &[u32],
+    known: &mut Known,
 ) -> Result<u64, AllocError>
     requires unit_in { unit ≤ thousandths }
     requires leaf { IsLeaf leaf.now }
     requires case { IsLimitedCase leaf.now.case.now }
     requires surcharges { AllByRecursion (λ surcharge. surcharge ≤ max_price) surcharges.now }
+    requires entries { HasEntries known.old }
+    ensures entries { HasEntries known.new }
     ensures bound { IfOk result (λ sum. sum ≡
         leaf_bound unit (map week_lent leaf.now.weeks.now) leaf.now.case.now (map prices_lent leaf.now.weeks.now) surcharges.now) }
-    ensures small { IfOk result (λ sum. sum ≤ 10000000000000000000) }
+    ensures small { IfOk result (λ sum. sum ≤ most_bound) }
 {
     let charges = with_surcharges(alloc, leaf.case, surcharges)?;
-    let mut known = Known::for_weeks(alloc, leaf.weeks.len())?;
-    Ok(bound_of_leaf(unit, leaf, &charges, &mut known))
+    Ok(bound_of_leaf(unit, leaf, &charges, known))
 }

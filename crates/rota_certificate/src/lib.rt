@@ -1,7 +1,7 @@
 //! The lower bound that a certificate proves: a tree of cases of plans, with prices for each case.
 //!
-//! The laws give its meaning. `leaf_bound` is the bound of one case, and `first_unmet` finds the
-//! first condition that a plan does not meet.
+//! `lower_bound` is the bound of the cost, and `no_plan_exists` the one without the soft rules.
+//! `first_unmet` finds the first condition that a plan does not meet.
 #![tactic(auto, using(crate::proofs::Sums::looping))]
 
 // The charges and costs of a nurse's days, her rebates, and the choices that a case allows her.
@@ -9,7 +9,6 @@ mod allowed;
 mod charges;
 mod costs;
 mod rebates;
-mod weights;
 
 // Pasts that cost the same.
 mod capped;
@@ -34,9 +33,13 @@ mod tariffs;
 mod conditions;
 mod counted;
 
+// The tree of cases.
+mod paths;
+mod tree;
+
 /// The laws of the bound.
 pub mod laws;
 
 pub use conditions::first_unmet;
-pub use leaves::leaf_bound;
-pub use stages::{LentLeaf, LentWeek};
+pub use counted::past_after_week;
+pub use tree::{lower_bound, no_plan_exists};

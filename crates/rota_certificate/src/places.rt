@@ -6,6 +6,7 @@ ghost use Rattle.rota_core.specs.Limits.{max_number, max_weeks};
 ghost use Rattle.rota_core.specs.PriceTables.{IsForWeek, prices_of};
 ghost use Rattle.rota_core.specs.Prices.{max_price};
 ghost use Rattle.rota_core.specs.SumsBelow.{sum_below};
+ghost use Rattle.rota_items.specs.rules.OptimalCoverage.Cost.{optimum_weight};
 ghost use Rattle.rota_certificate.specs.CaseLimits.{IsLimitedCase};
 ghost use Rattle.rota_certificate.specs.CertificateBounds.{thousandths};
 ghost use Rattle.rota_certificate.specs.LeafBounds.{leaf_place_bounds};
@@ -17,6 +18,7 @@ use crate::costs::times;
 use crate::demand::{Place, case_demand};
 use crate::stages::{LentLeaf, LentWeek};
 use rota_core::{Condition, DAYS, Demand, Instance};
+use rota_items::OPTIMUM_WEIGHT;
 
 // The price of this number of nurses.
 fn price_of(price: u32, nurses: u16) -> u64
@@ -28,6 +30,15 @@ fn price_of(price: u32, nurses: u16) -> u64
     u64::from(price) * u64::from(nurses)
 }
 
+// The cost of this number of missing nurses.
+fn missing_cost(unit: u64, missing: u16) -> u64
+    requires unit_in { unit ≤ thousandths }
+    ensures cost { result ≡ unit * optimum_weight * missing }
+    ensures small { result ≤ 1000000000000 }
+{
+    times(unit, u64::from(OPTIMUM_WEIGHT) * u64::from(missing))
+}
+
 // The cost of this number of nurses at a place with this demand, and their prices.
 fn place_cost(unit: u64, demand: Demand, price: u32, nurses: u16) -> u64
     requires unit_in { unit ≤ thousandths }
@@ -37,7 +48,7 @@ fn place_cost(unit: u64, demand: Demand, price: u32, nurses: u16) -> u64
     ensures small { result ≤ 20000000000000 }
 {
     let missing = demand.optimal.saturating_sub(nurses);
-    times(unit, 30 * u64::from(missing)) + price_of(price, nurses)
+    missing_cost(unit, missing) + price_of(price, nurses)
 }
 
 // The minimum cost of the place with a number of nurses that is not below the minimum.
@@ -49,7 +60,7 @@ fn place_bound(unit: u64, demand: Demand, price: u32) -> u64
     ensures bound { result ≡ place_bound unit demand price }
     ensures small { result ≤ 20000000000000 }
 {
-    let nurses = if u64::from(price) < times(unit, 30) {
+    let nurses = if u64::from(price) < times(unit, u64::from(OPTIMUM_WEIGHT)) {
         demand.minimum.max(demand.optimal)
     } else {
         demand.minimum
@@ -69,7 +80,7 @@ fn case_place_bound(unit: u64, case: &[Condition], place: Place, demand: Demand,
 {
     let in_case = case_demand(case, place, demand);
     let missing = demand.optimal.saturating_sub(in_case.optimal);
-    place_bound(unit, in_case, price) + times(unit, 30 * u64::from(missing))
+    place_bound(unit, in_case, price) + missing_cost(unit, missing)
 }
 
 // The demand of the place. Its numbers are at most `MAX_NUMBER`.

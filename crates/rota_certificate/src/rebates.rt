@@ -6,7 +6,7 @@ ghost use Rattle.rota_core.specs.InstanceTables.{problem_of};
 ghost use Rattle.rota_core.specs.PriceTables.{IsForWeek, prices_of};
 ghost use Rattle.rota_core.specs.Roster.{InWeek};
 ghost use Rattle.rota_certificate.specs.Minimums.{not_allowed};
-ghost use Rattle.rota_certificate.specs.NurseBounds.{day_rebate, may_be_off, rebate};
+ghost use Rattle.rota_certificate.specs.NurseBounds.{day_rebate, is_held_apart, is_held_apart_on, is_only_held, may_be_off, rebate};
 
 use rota_core::{Cell, DAYS, Instance, MAX_PRICE, Prices};
 
@@ -47,6 +47,52 @@ pub fn may_be_off(instance: &Instance, nurse: u16, day: u8) -> bool
     true
 }
 
+// Whether the nurse's cell of this other shift type and skill is held, and is not the cell.
+fn is_held_apart(instance: &Instance, cell: Cell, shift: u8, skill: u8) -> bool
+    requires cell_in { InWeek (problem_of instance.now) cell }
+    requires shift_in { shift < (problem_of instance.now).shifts }
+    requires skill_in { skill < (problem_of instance.now).skills }
+    ensures { result ≡ is_held_apart (problem_of instance.now) cell.nurse cell.day cell.shift cell.skill shift skill }
+{
+    let held = instance.held(Cell {
+        nurse: cell.nurse,
+        day: cell.day,
+        shift,
+        skill,
+    });
+    held && !(shift == cell.shift && skill == cell.skill)
+}
+
+// Whether such a cell of the other shift type is held.
+fn is_held_apart_on(instance: &Instance, cell: Cell, shift: u8) -> bool
+    requires cell_in { InWeek (problem_of instance.now) cell }
+    requires shift_in { shift < (problem_of instance.now).shifts }
+    ensures { result ≡ is_held_apart_on (problem_of instance.now) cell.nurse cell.day cell.shift cell.skill shift }
+{
+    for skill in 0..instance.skills() {
+        if is_held_apart(instance, cell, shift, skill) {
+            return true;
+        }
+    }
+    false
+}
+
+// Whether the cell is held, and no other cell of the nurse's day.
+fn is_only_held(instance: &Instance, cell: Cell) -> bool
+    requires cell_in { InWeek (problem_of instance.now) cell }
+    ensures { result ≡ is_only_held (problem_of instance.now) cell.nurse cell.day cell.shift cell.skill }
+{
+    if !instance.held(cell) {
+        return false;
+    }
+    for shift in 0..instance.shifts() {
+        if is_held_apart_on(instance, cell, shift) {
+            return false;
+        }
+    }
+    true
+}
+
 /// The maximum price, less the price of the cell, if the nurse may have it. `free` says whether she
 /// may be off that day.
 pub fn rebate(instance: &Instance, prices: &Prices, free: bool, cell: Cell) -> u64
@@ -56,7 +102,7 @@ pub fn rebate(instance: &Instance, prices: &Prices, free: bool, cell: Cell) -> u
     ensures rebate { result ≡ rebate (problem_of instance.now) (prices_of prices.now) cell.nurse cell.day cell.shift cell.skill }
     ensures small { result ≤ not_allowed }
 {
-    if instance.has_skill(cell.nurse, cell.skill) && (free || instance.held(cell)) {
+    if instance.has_skill(cell.nurse, cell.skill) && (free || is_only_held(instance, cell)) {
         u64::from(MAX_PRICE - prices.price(cell.day, cell.shift, cell.skill))
     } else {
         NOT_ALLOWED

@@ -3,7 +3,7 @@
 ghost use Rattle.std.specs.Prelude.{◌≡◌, ◌≤◌, IfOk, slice_index_or};
 ghost use Rattle.std.specs.List.{AllByRecursion};
 ghost use Rattle.rota_core.specs.Limits.{max_price};
-ghost use Rattle.rota_certificate.specs.CaseLimits.{AreLimited, IsLimitedCase};
+ghost use Rattle.rota_certificate.specs.CaseLimits.{AreLimitedCharges, IsLimitedCase};
 ghost use Rattle.rota_certificate.specs.Tariffs.{surcharged};
 
 use crate::demand::condition_at;
@@ -39,7 +39,7 @@ pub fn with_surcharges(
     requires case { IsLimitedCase case.now }
     requires small { AllByRecursion (λ surcharge. surcharge ≤ max_price) surcharges.now }
     ensures charges { IfOk result (λ charges. charges.items ≡ surcharged case.now surcharges.now) }
-    ensures limited { IfOk result (λ charges. AreLimited charges.items) }
+    ensures limited { IfOk result (λ charges. AreLimitedCharges charges.items) }
 {
     let mut charges = Vec::with_capacity(alloc, case.len())?;
     for index in 0..case.len() {

@@ -3,7 +3,7 @@
 ghost use Rattle.std.specs.Prelude.{◌≡◌, ◌*◌, ◌+◌, ◌≤◌, ◌||◌, None, Some, false, if◌then◌else◌};
 ghost use Rattle.std.specs.Option.{option_map_or};
 ghost use Rattle.rota_core.specs.Limits.{max_number, max_price};
-ghost use Rattle.rota_certificate.specs.CaseLimits.{AreLimited, IsLimited, most_conditions};
+ghost use Rattle.rota_certificate.specs.CaseLimits.{AreLimitedCharges, IsLimited, most_conditions};
 ghost use Rattle.rota_certificate.specs.CertificateBounds.{thousandths};
 ghost use Rattle.rota_certificate.specs.Minimums.{not_allowed};
 ghost use Rattle.rota_certificate.specs.Tariffs.{added, added_by, forbidden_by, gained, gained_by, has_overdrawn_weight, is_forbidden, is_overdrawn, limit_of, lost, lost_by, points_of, taken, taken_by, tariff_of, weight};
@@ -13,6 +13,7 @@ use crate::limits::{Limit, counts, forbids, limit_of};
 use crate::rebates::NOT_ALLOWED;
 use crate::surcharges::Surcharged;
 use rota_core::{ChargeKind, Condition};
+use rota_items::{ASSIGNMENT_WEIGHT, SHIFT_RUN_WEIGHT, WORK_RUN_WEIGHT, WORKED_WEEKEND_WEIGHT};
 
 /// The cost of a charge of each kind, in thousandths of a point.
 #[derive(Clone, Copy)]
@@ -28,15 +29,15 @@ pub struct Tariff {
 }
 
 // The weight of a charge by the rules, in points.
-fn points_of(kind: ChargeKind) -> u64
+fn points_of(kind: ChargeKind) -> u16
     ensures points { result ≡ points_of kind }
     ensures small { result ≤ 30 }
 {
     match kind {
-        ChargeKind::ShiftRuns => 15,
-        ChargeKind::WorkDays => 30,
-        ChargeKind::Assignments => 20,
-        ChargeKind::Weekends => 30,
+        ChargeKind::ShiftRuns => SHIFT_RUN_WEIGHT,
+        ChargeKind::WorkDays => WORK_RUN_WEIGHT,
+        ChargeKind::Assignments => ASSIGNMENT_WEIGHT,
+        ChargeKind::Weekends => WORKED_WEEKEND_WEIGHT,
     }
 }
 
@@ -64,7 +65,7 @@ fn taken_by(one: &Surcharged, kind: ChargeKind, nurse: u16) -> u64
 
 // The sum that all conditions add to the weight of the nurse's charges of the kind.
 fn added(charges: &[Surcharged], kind: ChargeKind, nurse: u16) -> u64
-    requires { AreLimited charges.now }
+    requires { AreLimitedCharges charges.now }
     ensures sum { result ≡ added charges.now kind nurse }
     ensures small { result ≤ most_conditions * max_price }
 {
@@ -77,7 +78,7 @@ fn added(charges: &[Surcharged], kind: ChargeKind, nurse: u16) -> u64
 
 // The sum that they take off.
 fn taken(charges: &[Surcharged], kind: ChargeKind, nurse: u16) -> u64
-    requires { AreLimited charges.now }
+    requires { AreLimitedCharges charges.now }
     ensures sum { result ≡ taken charges.now kind nurse }
     ensures small { result ≤ most_conditions * max_price }
 {
@@ -110,10 +111,10 @@ fn is_forbidden(charges: &[Surcharged], kind: ChargeKind, nurse: u16) -> bool
 // The weight of the nurse's charges of the kind, unless the surcharges make it negative.
 fn weight(unit: u64, charges: &[Surcharged], kind: ChargeKind, nurse: u16) -> Option<u64>
     requires unit_in { unit ≤ thousandths }
-    requires limited { AreLimited charges.now }
+    requires limited { AreLimitedCharges charges.now }
     ensures { result ≡ (if is_overdrawn unit charges.now kind nurse then None else Some (weight unit charges.now kind nurse)) }
 {
-    let base = unit * points_of(kind) + added(charges, kind, nurse);
+    let base = unit * u64::from(points_of(kind)) + added(charges, kind, nurse);
     let taken = taken(charges, kind, nurse);
     if base < taken {
         None
@@ -127,7 +128,7 @@ fn weight(unit: u64, charges: &[Surcharged], kind: ChargeKind, nurse: u16) -> Op
 /// The tariff of the nurse in the leaf, unless the surcharges make a weight negative.
 pub fn tariff_of(unit: u64, charges: &[Surcharged], nurse: u16) -> Option<Tariff>
     requires unit_in { unit ≤ thousandths }
-    requires limited { AreLimited charges.now }
+    requires limited { AreLimitedCharges charges.now }
     ensures { result ≡ (if has_overdrawn_weight unit charges.now nurse then None else Some (tariff_of unit charges.now nurse)) }
 {
     let shift_runs = weight(unit, charges, ChargeKind::ShiftRuns, nurse)?;
@@ -170,7 +171,7 @@ fn gained_by(one: &Surcharged) -> u64
 
 /// The loss of the leaf's bound.
 pub fn lost(charges: &[Surcharged]) -> u64
-    requires { AreLimited charges.now }
+    requires { AreLimitedCharges charges.now }
     ensures sum { result ≡ lost charges.now }
     ensures small { result ≤ most_conditions * (max_price * 10000) }
 {
@@ -183,7 +184,7 @@ pub fn lost(charges: &[Surcharged]) -> u64
 
 /// The gain of the leaf's bound.
 pub fn gained(charges: &[Surcharged]) -> u64
-    requires { AreLimited charges.now }
+    requires { AreLimitedCharges charges.now }
     ensures sum { result ≡ gained charges.now }
     ensures small { result ≤ most_conditions * (max_price * 10000) }
 {

@@ -3,7 +3,7 @@ use Rattle.std.specs.Prelude.{ℕ, nat_eq, if◌then◌else◌, List, ◌++◌, 
 use Rattle.rota_core.specs.declared.fault.FileFault.{FileFault}
 use Rattle.rota_core.specs.declared.fault.FileFault.TheVariants.{Bad, Memory}
 use Rattle.rota_core.specs.declared.fault.FileName.{FileName}
-use Rattle.rota_core.specs.declared.fault.FileName.TheVariants.{Scenario, History, Week, Solution, Fixed, Prices, Cases, Certificate, Facts}
+use Rattle.rota_core.specs.declared.fault.FileName.TheVariants.{Scenario, History, Week, Solution, Fixed, Certificate, Facts}
 use Rattle.rota_core.specs.declared.fault.Kind.{Kind}
 use Rattle.rota_core.specs.declared.fault.Kind.TheVariants.{Ended, OtherWord, NoNumber, Limit, Unknown, Repeated, Trailing, LateWeek}
 
@@ -14,8 +14,6 @@ file_text History = codes "history"
 file_text Week = codes "week"
 file_text Solution = codes "solution"
 file_text Fixed = codes "fix"
-file_text Prices = codes "prices"
-file_text Cases = codes "cases"
 file_text Certificate = codes "certificate"
 file_text Facts = codes "facts"
 

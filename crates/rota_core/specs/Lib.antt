@@ -1,5 +1,4 @@
 pub mod Bits
-pub mod CaseTables
 pub mod CellIndex
 pub mod CellLists
 pub mod Certificates
@@ -14,6 +13,7 @@ pub mod MemoryPorts
 pub mod Numeral
 pub mod NumeralLaws
 pub mod Parts
+pub mod Pasts
 pub mod PortCalls
 pub mod Ports
 pub mod Prices
@@ -28,7 +28,9 @@ pub mod RuleNames
 pub mod Rules
 pub mod ScenarioTables
 pub mod Sizes
+pub mod SourceCalls
 pub mod StdPorts
 pub mod SumsBelow
+pub mod TargetCalls
 pub mod WeekTables
 pub mod Words

@@ -25,20 +25,8 @@ is_last_call plan = not (has_call plan.good_calls)
 abbrev pub source_plan : MemorySource → CallPlan
 source_plan source = source.plan
 
-abbrev pub bytes_left : MemorySource → List ℕ
-bytes_left source = source.rest.now
-
 abbrev pub is_failed_source : MemorySource → Bool
 is_failed_source source = source.failed
-
-abbrev pub is_ended_source : MemorySource → Bool
-is_ended_source source = source.ended
-
-abbrev pub bytes_sent : MemoryTarget → List ℕ
-bytes_sent target = target.bytes.items
-
-abbrev pub bytes_flushed : MemoryTarget → ℕ
-bytes_flushed target = target.flushed
 
 abbrev pub is_failed_target : MemoryTarget → Bool
 is_failed_target target = target.failed

@@ -14,6 +14,7 @@ use Rattle.indexmap.specs.IndexSet.{IndexSet}
 abbrev pub bytes_of : {Z S : Type 0} → IndexSet (Vec ℕ Z) S → List (List ℕ)
 bytes_of names = map (λ name. name.items) names.keys
 
+-- the tables of a scenario's parts
 abbrev pub scenario_of : ScenarioParts → ScenarioTables
 scenario_of parts = record {
   name = parts.name.items;
@@ -28,6 +29,7 @@ scenario_of parts = record {
   has_skill = parts.has_skill.items;
 }
 
+-- the tables of a history's parts
 abbrev pub history_of : HistoryParts → HistoryTables
 history_of parts = record {
   numbers = record { nurses = parts.nurses; shifts = parts.shifts; skills = parts.skills };
@@ -35,6 +37,7 @@ history_of parts = record {
   past = parts.past.items;
 }
 
+-- the tables of the parts of a week's data
 abbrev pub week_tables_of : WeekParts → WeekTables
 week_tables_of parts = record {
   numbers = record { nurses = parts.nurses; shifts = parts.shifts; skills = parts.skills };
@@ -42,6 +45,7 @@ week_tables_of parts = record {
   requests = parts.requests.items;
 }
 
+-- the tables of a week: its scenario, and the parts of its history and its data
 abbrev pub instance_of : ScenarioTables → HistoryParts → WeekParts → Bool → Option RosterTables → InstanceTables
 instance_of scenario history week early held = record {
   scenario = scenario;

@@ -1,5 +1,5 @@
--- The effects of a port's calls on its known bytes.
-use Rattle.std.specs.Prelude.{◌≡◌, ℕ, ◌<◌, Bool, false, ◌&&◌, nat_eq, nat_lt, List, length, take, Result, Ok, Err, MatchResult}
+-- The effects of a port's calls on its known bytes, and the failure of a port.
+use Rattle.std.specs.Prelude.{◌≡◌, ℕ, ◌<◌, Bool, true, false, ◌&&◌, ◌||◌, nat_eq, nat_lt, List, length, take, Result, Ok, Err, IsErr, is_err, MatchResult}
 use Rattle.std.specs.Io.KnownBytes.{append_known, prepend_known, IsAtEnd}
 use Rattle.rota_core.specs.Ports.{KnownBytes}
 
@@ -20,3 +20,8 @@ says_end (Err fault) buffer = false
 abbrev pub SendsOnWrite : {E : Type 0} → KnownBytes → Result ℕ E → List ℕ → KnownBytes → Type 0
 SendsOnWrite old result piece new =
     MatchResult result (λ n. new ≡ append_known old (take n piece)) (λ _. new ≡ old)
+
+-- after an error the port has failed, and each call of a port that has failed is an error
+pub record FailsForGood {P V E : Type 0} (has_failed : P → Bool) (old new : P) (result : Result V E) : Type 0 where
+  pub failure : has_failed new ≡ (has_failed old || is_err result)
+  pub for_good : has_failed old ≡ true → IsErr result

@@ -9,9 +9,6 @@ inner_reader port = port.reader
 abbrev pub is_failed_reader : {R : Type 0} → FromRead R → Bool
 is_failed_reader port = port.failed
 
-abbrev pub is_ended_reader : {R : Type 0} → FromRead R → Bool
-is_ended_reader port = port.ended
-
 abbrev pub inner_writer : {W : Type 0} → ToWrite W → W
 inner_writer port = port.writer
 

@@ -12,6 +12,7 @@ use crate::scenario::Scenario;
 use crate::values::{Cell, Contract, Demand, Past, Span};
 use crate::week::{Week, WeekParts};
 use std::marker::Model;
+use std::mem;
 
 /// The tables of one week: its scenario, which spans the week, the history before it, and its own demands and
 /// requests. All have the same nurses, shift types and skills. The instance also records whether excess is
@@ -50,6 +51,7 @@ impl Model for Instance {
 
 impl Instance {
     ghost use Rattle.rota_core.specs.InstanceTables.{IsInstance, holding, problem_of};
+    ghost use Rattle.rota_core.specs.Pasts.{ArePasts, with_pasts};
     ghost use Rattle.rota_core.specs.Roster.{InWeek};
     ghost use Rattle.rota_core.specs.RosterCells.{cells_of};
     ghost use Rattle.rota_core.specs.RosterTables.{HasShapeOf};
@@ -114,6 +116,15 @@ impl Instance {
             early,
             held: Some(roster),
         }
+    }
+
+    /// Puts these pasts of the nurses into the history, and returns those that it had.
+    pub fn replace_pasts(&mut self, pasts: Vec<Past>) -> Vec<Past>
+        requires { ArePasts (problem_of self.old).numbers pasts.items }
+        ensures replaced { self.new ≡ with_pasts self.old pasts.items }
+        ensures before { result.items ≡ self.old.history.past }
+    {
+        mem::replace(&mut self.history.past, pasts)
     }
 
     /// The scenario of the week.

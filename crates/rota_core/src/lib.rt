@@ -25,7 +25,6 @@
 #![tactic(auto)]
 
 mod bits;
-mod cases;
 mod cell_indices;
 mod certificate;
 mod fault;
@@ -48,7 +47,6 @@ mod values;
 mod week;
 
 pub use bits::Bits;
-pub use cases::{Cases, OffCase};
 pub use certificate::{
     Certificate, ChargeKind, ChargeLimit, Condition, DayChoice, Fact, Leaf, Node, NurseLimit,
 };
@@ -62,7 +60,7 @@ pub use limits::{
 pub use memory_ports::{CallPlan, MemorySource, MemoryTarget};
 pub use names::{add_name, index_of_name, is_name};
 pub use ports::{PortFault, Source, Target};
-pub use prices::Prices;
+pub use prices::{POINT, Prices};
 pub use roster::Roster;
 pub use roster_cells::Cells;
 pub use rule::{Rule, SOFT_RULES};

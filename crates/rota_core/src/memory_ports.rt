@@ -1,6 +1,7 @@
 //! Ports over memory, for tests.
-ghost use Rattle.std.specs.Prelude.{◌≡◌, ◌<◌, ◌≤◌, ◌+◌, ◌-◌, ◌||◌, Bool, true, false, nat_eq, Some, [], length, is_err, IfOk, IfErr, IsOk, IsErr, OnOk, MatchResult, vec_len, vec_capacity};
-ghost use Rattle.rota_core.specs.PortCalls.{LeavesAfterRead, SendsOnWrite, says_end};
+ghost use Rattle.std.specs.Prelude.{◌≡◌, ◌<◌, ◌≤◌, ◌+◌, ◌-◌, ◌||◌, false, nat_eq, Some, [], length, is_err, IfOk, MatchResult, vec_len, vec_capacity};
+ghost use Rattle.rota_core.specs.SourceCalls.{ReadsInto};
+ghost use Rattle.rota_core.specs.TargetCalls.{FlushesSent, WritesPiece};
 
 use crate::ports::{PortFault, Source, Target};
 use std::alloc::{AllocError, Global};
@@ -75,8 +76,8 @@ impl<'a> MemorySource<'a> {
     }
 }
 
-impl Source for MemorySource<'_> {
-    ghost use Rattle.rota_core.specs.MemoryPorts.{bytes_left, is_ended_source, is_failed_source, is_last_call, moves, plan_after, source_plan};
+impl<'a> Source for MemorySource<'a> {
+    ghost use Rattle.rota_core.specs.MemoryPorts.{is_failed_source, is_last_call, moves, plan_after, source_plan};
 
     ghost left = { λ s. Some s.rest.now };
 
@@ -86,12 +87,7 @@ impl Source for MemorySource<'_> {
 
     /// Moves the most bytes that the source, the buffer and the plan allow. Fails at the failing call.
     fn read(&mut self, buffer: &mut [u8]) -> Result<usize, PortFault>
-        ensures bound { IfOk result (λ n. n ≤ length buffer.new) }
-        ensures bytes { LeavesAfterRead (Some (bytes_left self.old)) result buffer.new (Some (bytes_left self.new)) }
-        ensures empty { length buffer.old ≡ 0 → is_failed_source self.old ≡ false → IsOk result }
-        ensures failure { is_failed_source self.new ≡ (is_failed_source self.old || is_err result) }
-        ensures for_good { is_failed_source self.old ≡ true → IsErr result }
-        ensures end { is_ended_source self.new ≡ (is_ended_source self.old || says_end result buffer.new) }
+        ensures source { ReadsInto ⟦<MemorySource<'a> as Source>⟧ self.old self.new buffer.old buffer.new result }
         ensures count { IfOk result (λ n. n ≡ moves self.old (length buffer.old)) }
         ensures failing_call { is_failed_source self.old ≡ false → 0 < length buffer.old →
             is_err result ≡ is_last_call (source_plan self.old) }
@@ -173,7 +169,7 @@ impl MemoryTarget {
 }
 
 impl Target for MemoryTarget {
-    ghost use Rattle.rota_core.specs.MemoryPorts.{bytes_flushed, bytes_sent, after_call, is_failed_target, is_last_call, plan_after, room_of, takes, target_plan};
+    ghost use Rattle.rota_core.specs.MemoryPorts.{after_call, is_failed_target, is_last_call, plan_after, room_of, takes, target_plan};
 
     ghost sent = { λ t. Some t.bytes.items };
 
@@ -184,13 +180,7 @@ impl Target for MemoryTarget {
     /// Accepts the most bytes of the piece that the room and the plan allow. Fails at the failing call, and
     /// if there is no room.
     fn write(&mut self, piece: &[u8]) -> Result<usize, PortFault>
-        ensures bound { IfOk result (λ n. n ≤ length piece.now) }
-        ensures progress { IfOk result (λ n. 0 < length piece.now → 0 < n) }
-        ensures bytes { SendsOnWrite (Some (bytes_sent self.old)) result piece.now (Some (bytes_sent self.new)) }
-        ensures empty { length piece.now ≡ 0 → is_failed_target self.old ≡ false → IsOk result }
-        ensures flushed { bytes_flushed self.new ≡ bytes_flushed self.old }
-        ensures failure { is_failed_target self.new ≡ (is_failed_target self.old || is_err result) }
-        ensures for_good { is_failed_target self.old ≡ true → IsErr result }
+        ensures target { WritesPiece ⟦<MemoryTarget as Target>⟧ self.old self.new piece.now result }
         ensures count { IfOk result (λ n. n ≡ takes self.old (length piece.now)) }
         ensures failing_call { is_failed_target self.old ≡ false → 0 < length piece.now →
             is_err result ≡ (is_last_call (target_plan self.old) || nat_eq (room_of self.old) 0) }
@@ -222,11 +212,7 @@ impl Target for MemoryTarget {
 
     /// Flushes the sent bytes. A flush counts as a call.
     fn flush(&mut self) -> Result<(), PortFault>
-        ensures bytes { bytes_sent self.new ≡ bytes_sent self.old }
-        ensures flushed { OnOk result (bytes_flushed self.new ≡ length (bytes_sent self.new)) }
-        ensures unflushed { IfErr result (λ _. bytes_flushed self.new ≡ bytes_flushed self.old) }
-        ensures failure { is_failed_target self.new ≡ (is_failed_target self.old || is_err result) }
-        ensures for_good { is_failed_target self.old ≡ true → IsErr result }
+        ensures target { FlushesSent ⟦<MemoryTarget as Target>⟧ self.old self.new result }
         ensures failing_call { is_failed_target self.old ≡ false → is_err result ≡ is_last_call (target_plan self.old) }
         ensures plan { is_failed_target self.old ≡ false → target_plan self.new ≡ after_call (target_plan self.old) }
         ensures room { room_of self.new ≡ room_of self.old }

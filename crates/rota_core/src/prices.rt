@@ -7,6 +7,9 @@ use crate::limits::DAYS;
 use std::alloc::{AllocError, Global};
 use std::marker::Model;
 
+/// The value of a point, in the unit of prices: thousandths.
+pub const POINT: u64 = 1000;
+
 /// A price for each day, shift type and skill of a week, in thousandths of a point and at most `MAX_PRICE`.
 pub struct Prices {
     shifts: u8,

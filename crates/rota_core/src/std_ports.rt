@@ -1,8 +1,9 @@
 //! The standard library's readers and writers as ports. Their bytes are not known.
-ghost use Rattle.std.specs.Prelude.{◌≡◌, ◌<◌, ◌≤◌, ◌||◌, None, true, false, length, is_err, IfOk, IsErr, IsOk, Ok, MatchResult};
+ghost use Rattle.std.specs.Prelude.{◌≡◌, ◌||◌, None, true, false, is_err, IsErr, Ok, MatchResult};
 ghost use Rattle.std.specs.Io.KnownBytes.{Keeps, ReadConsumes, WriteAppends};
-ghost use Rattle.rota_core.specs.PortCalls.{LeavesAfterRead, SendsOnWrite, says_end};
+ghost use Rattle.rota_core.specs.SourceCalls.{ReadsInto};
 ghost use Rattle.rota_core.specs.StdPorts.{IsUnasked};
+ghost use Rattle.rota_core.specs.TargetCalls.{FlushesSent, WritesPiece};
 
 use crate::ports::{PortFault, Source, Target};
 use std::io;
@@ -50,7 +51,7 @@ impl<R: Read> FromRead<R> {
 }
 
 impl<R: Read> Source for FromRead<R> {
-    ghost use Rattle.rota_core.specs.StdPorts.{is_ended_reader, is_failed_reader, inner_reader};
+    ghost use Rattle.rota_core.specs.StdPorts.{is_failed_reader, inner_reader};
 
     ghost left = { λ _. None };
 
@@ -60,12 +61,7 @@ impl<R: Read> Source for FromRead<R> {
 
     /// Reads with the reader's own read. The reader is not called after a failure, nor for an empty buffer.
     fn read(&mut self, buffer: &mut [u8]) -> Result<usize, PortFault>
-        ensures bound { IfOk result (λ n. n ≤ length buffer.new) }
-        ensures silent { LeavesAfterRead None result buffer.new None }
-        ensures empty { length buffer.old ≡ 0 → is_failed_reader self.old ≡ false → IsOk result }
-        ensures failure { is_failed_reader self.new ≡ (is_failed_reader self.old || is_err result) }
-        ensures for_good { is_failed_reader self.old ≡ true → IsErr result }
-        ensures end { is_ended_reader self.new ≡ (is_ended_reader self.old || says_end result buffer.new) }
+        ensures source { ReadsInto ⟦<FromRead<R> as Source>⟧ self.old self.new buffer.old buffer.new result }
         ensures passed_on { ReadConsumes (R.remaining (inner_reader self.old)) (R.remaining (inner_reader self.new)) result buffer.new }
         ensures unasked { IsUnasked (is_failed_reader self.old) buffer.old → self.new ≡ self.old }
     {
@@ -116,12 +112,7 @@ impl<W: Write> Target for ToWrite<W> {
 
     /// Writes with the writer's own write. The writer is not called after a failure, nor for an empty piece.
     fn write(&mut self, piece: &[u8]) -> Result<usize, PortFault>
-        ensures bound { IfOk result (λ n. n ≤ length piece.now) }
-        ensures progress { IfOk result (λ n. 0 < length piece.now → 0 < n) }
-        ensures silent { SendsOnWrite None result piece.now None }
-        ensures empty { length piece.now ≡ 0 → is_failed_writer self.old ≡ false → IsOk result }
-        ensures failure { is_failed_writer self.new ≡ (is_failed_writer self.old || is_err result) }
-        ensures for_good { is_failed_writer self.old ≡ true → IsErr result }
+        ensures target { WritesPiece ⟦<ToWrite<W> as Target>⟧ self.old self.new piece.now result }
         ensures passed_on { WriteAppends (W.contents (inner_writer self.old)) (W.contents (inner_writer self.new)) result piece.now }
         ensures unasked { IsUnasked (is_failed_writer self.old) piece.now → self.new ≡ self.old }
     {
@@ -141,8 +132,7 @@ impl<W: Write> Target for ToWrite<W> {
 
     /// Flushes with the writer's own flush. The writer is not called after a failure.
     fn flush(&mut self) -> Result<(), PortFault>
-        ensures failure { is_failed_writer self.new ≡ (is_failed_writer self.old || is_err result) }
-        ensures for_good { is_failed_writer self.old ≡ true → IsErr result }
+        ensures target { FlushesSent ⟦<ToWrite<W> as Target>⟧ self.old self.new result }
         ensures passed_on { Keeps (W.contents (inner_writer self.old)) (W.contents (inner_writer self.new)) }
         ensures unasked { is_failed_writer self.old ≡ true → self.new ≡ self.old }
     {

@@ -23,10 +23,11 @@ mod takers;
 mod variables;
 
 // The items, which are constraints with charged slacks that cost the penalty of the soft rules; the items of
-// a nurse's runs; and the soft rules.
+// a nurse's runs; and the soft rules with their weights.
 mod items;
 mod rules;
 mod runs;
+mod weights;
 
 // The model: its constraints and its objective, sent to a taker.
 mod drive;
@@ -57,3 +58,7 @@ pub use part::Part;
 pub use rules::{constant, constant_parts};
 pub use takers::Taker;
 pub use variables::{cell_var, unit_var, var_cell};
+pub use weights::{
+    ASSIGNMENT_WEIGHT, COMPLETE_WEEKEND_WEIGHT, OFF_RUN_WEIGHT, OPTIMUM_WEIGHT, REQUEST_WEIGHT,
+    SHIFT_RUN_WEIGHT, STEP, WORK_RUN_WEIGHT, WORKED_WEEKEND_WEIGHT,
+};

@@ -8,6 +8,8 @@ pub mod ExtensionAnswer
 pub mod FaultTexts
 pub mod Feeding
 pub mod Meaning
+pub mod PeriodFaultTexts
+pub mod PeriodFaults
 pub mod Report
 pub mod RunParts
 pub mod RunPorts

@@ -22,7 +22,7 @@ pub fn read_roster<S: Source>(
 }
 
 /// Reads a file of held cells to its end, or to one byte more than it may have. Returns its cells.
-pub(crate) fn read_held<S: Source>(
+pub fn read_held<S: Source>(
     alloc: Global,
     instance: &Instance,
     source: &mut S,

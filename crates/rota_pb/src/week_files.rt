@@ -31,7 +31,8 @@ fn read_scenario_from<S: Source>(alloc: Global, source: &mut S) -> Result<Scenar
     Ok(read_scenario(alloc, &text)?)
 }
 
-fn read_history_from<S: Source>(
+/// Reads a history's file to its end, or to one byte more than it may have.
+pub fn read_history_from<S: Source>(
     alloc: Global,
     scenario: &Scenario,
     source: &mut S,
@@ -43,7 +44,8 @@ fn read_history_from<S: Source>(
     Ok(read_history(alloc, scenario, &text)?)
 }
 
-fn read_week_from<S: Source>(
+/// Reads a week's file to its end, or to one byte more than it may have. Returns its requirements and requests.
+pub fn read_week_from<S: Source>(
     alloc: Global,
     scenario: &Scenario,
     source: &mut S,

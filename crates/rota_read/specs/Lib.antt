@@ -1,4 +1,3 @@
-pub mod CasesLayout
 pub mod CertificateLayout
 pub mod CertificateRows
 pub mod DayPairs

@@ -1,5 +1,5 @@
--- The slots of a prices' file.
-use Rattle.rota_read.specs.Layout.{ℕ, List, codes, length, max_number, ScenarioTables, Layout, end, ◌>>=◌, exactly, number, any_word}
+-- The slots of a table of prices.
+use Rattle.rota_read.specs.Layout.{ℕ, List, codes, length, max_number, ScenarioTables, Layout, end, ◌>>=◌, number}
 use Rattle.rota_read.specs.Layout.{known_name, none_taken, repeat, setting}
 use Rattle.rota_core.specs.Limits.{max_price}
 use Rattle.rota_core.specs.PriceTables.{PriceTables}
@@ -21,10 +21,3 @@ price_table t = do
   count ← setting (codes "ROWS") 0 max_number
   rows ← repeat count (price_row t) (no_day_rows t)
   end (table_for t (day_table 0 rows))
-
--- the slots of the whole file; any word may be the scenario's name
-unfoldable pub prices : ScenarioTables → Layout PriceTables
-prices t = do
-  _ ← exactly (codes "PRICES")
-  _ ← any_word
-  price_table t

@@ -1,13 +1,11 @@
 //! The laws of the files. Each law holds for all texts, and does nothing when it runs.
 ghost use Rattle.rota_core.specs.ScenarioTables.{ScenarioTables};
 ghost use Rattle.std.specs.Prelude.{ℕ};
-ghost use Rattle.rota_read.specs.CasesLayout.{cases};
 ghost use Rattle.rota_read.specs.CertificateLayout.{certificate};
 ghost use Rattle.rota_read.specs.FactsLayout.{facts};
 ghost use Rattle.rota_read.specs.HistoryLayout.{history};
 ghost use Rattle.rota_read.specs.HistoryRows.{GivesEachPast};
 ghost use Rattle.rota_read.specs.OneMeaning.{OneMeaning};
-ghost use Rattle.rota_read.specs.PricesLayout.{prices};
 ghost use Rattle.rota_read.specs.ScenarioLayout.{scenario};
 ghost use Rattle.rota_read.specs.SolutionLayout.{solution};
 ghost use Rattle.rota_read.specs.SolutionText.{EachRosterHasItsText};
@@ -45,18 +43,6 @@ pub fn each_text_means_one_week()
 #[tactic(auto, using(crate::proofs::BoundLaws::bound_ends_no_rows))]
 pub fn no_requirement_is_cut_off()
     ensures { BoundEndsNoRows }
-{}
-
-/// For each scenario, every text spells one table of prices or has one fault, and never both.
-#[tactic(auto, using(crate::proofs::FileLaws::one_meaning))]
-pub fn each_text_means_one_table_of_prices()
-    ensures { (tables : ScenarioTables) → OneMeaning (prices tables) }
-{}
-
-/// For each scenario, every text spells one list of cases or has one fault, and never both.
-#[tactic(auto, using(crate::proofs::FileLaws::one_meaning))]
-pub fn each_text_means_one_list_of_cases()
-    ensures { (tables : ScenarioTables) → OneMeaning (cases tables) }
 {}
 
 /// For each scenario and number of weeks, every text spells one certificate or has one fault, and never both.

@@ -13,7 +13,6 @@
 //! ```
 #![tactic(auto)]
 
-mod cases;
 mod certificate;
 mod contracts;
 mod cursor;
@@ -35,12 +34,10 @@ mod solution;
 mod week;
 mod week_tables;
 
-pub use cases::read_cases;
 pub use certificate::read_certificate;
 pub use days::day_name;
 pub use facts::read_facts;
 pub use history::read_history;
-pub use prices::read_prices;
 pub use scenario::read_scenario;
 pub use solution::{read_fixed, read_solution};
 pub use week::read_week;

@@ -1,19 +1,16 @@
-//! Reads a prices' file.
+//! Reads tables of prices.
 
-ghost use Rattle.std.specs.Prelude.{◌≡◌, ◌*◌, length, None, IfOk, IfErr};
-ghost use Rattle.rota_core.specs.declared.fault.FileName.TheVariants as files;
+ghost use Rattle.std.specs.Prelude.{◌≡◌, ◌*◌, length, None, IfOk};
 ghost use Rattle.rota_core.specs.Limits.{max_price};
-ghost use Rattle.rota_read.specs.FileAnswers.{IsFaultOf};
-ghost use Rattle.rota_read.specs.Files.{Spells};
 ghost use Rattle.rota_read.specs.Layout.{many, number, repeat};
 ghost use Rattle.rota_read.specs.DayRows.{no_day_rows};
-ghost use Rattle.rota_read.specs.PricesLayout.{price_row, price_table, prices, table_for};
-ghost use Rattle.rota_read.specs.Reading.{read_layout, read_text, Reads, ReadsFile};
+ghost use Rattle.rota_read.specs.PricesLayout.{price_row, price_table, table_for};
+ghost use Rattle.rota_read.specs.Reading.{read_layout, Reads};
 
 use crate::cursor::Cursor;
 use crate::day_rows::day_table;
 use crate::fault::Stop;
-use rota_core::{DAYS, FileFault, FileName, MAX_NUMBER, MAX_PRICE, Prices, Scenario};
+use rota_core::{DAYS, MAX_NUMBER, MAX_PRICE, Prices, Scenario};
 use std::alloc::{AllocError, Global};
 
 /// The prices of Monday to Sunday, if a row has them.
@@ -99,40 +96,4 @@ fn no_rows(alloc: Global, scenario: &Scenario) -> Result<Vec<PriceRow>, AllocErr
 {
     let pairs = usize::from(scenario.shifts()) * usize::from(scenario.skills());
     vec![in alloc; None; pairs]
-}
-
-// The prices of the whole text.
-#[tactic(auto, using(crate::proofs::EndLemmas::front_fails), unfolding(crate::specs::PricesLayout::prices, crate::specs::Layout::exactly, crate::specs::Reading::read_layout, crate::specs::Reading::read_text))]
-fn whole_prices(alloc: Global, scenario: &Scenario, text: &[u8]) -> Result<Prices, Stop>
-    ensures read { ReadsFile (λ p. p) result (read_text (prices scenario.now) text.now) }
-    ensures shifts { IfOk result (λ p. p.shifts ≡ length scenario.now.shifts) }
-    ensures skills { IfOk result (λ p. p.skills ≡ length scenario.now.skills) }
-{
-    let mut cursor = Cursor::open(text)?;
-    cursor.exactly(b"PRICES")?;
-    cursor.word()?;
-    let prices = cursor.price_table(alloc, scenario)?;
-    cursor.finish()?;
-    Ok(prices)
-}
-
-/// Returns the prices that the text spells, for a scenario.
-///
-/// The text is a prices' file, in the layout of `docs/formats.md`: for pairs of a shift type and a skill the prices
-/// of Monday to Sunday, in thousandths of a point. A pair without a row has prices of 0.
-///
-/// # Errors
-///
-/// `Bad` is the text's one fault: the fault of the first token that does not fit its position, with the
-/// token's line, or `Ended`, with the line of the last token (1 if there is none). A text of more than
-/// `MAX_FILE_LEN` bytes has `Limit` on line 0. `Memory` is returned only if memory runs out before a fault
-/// was found.
-#[tactic(auto, using(crate::proofs::FileLaws::file_steps))]
-pub fn read_prices(alloc: Global, scenario: &Scenario, text: &[u8]) -> Result<Prices, FileFault>
-    ensures spelled { IfOk result (Spells (prices scenario.now) text.now) }
-    ensures shifts { IfOk result (λ p. p.shifts ≡ length scenario.now.shifts) }
-    ensures skills { IfOk result (λ p. p.skills ≡ length scenario.now.skills) }
-    ensures fault { IfErr result (IsFaultOf files.Prices (prices scenario.now) text.now) }
-{
-    whole_prices(alloc, scenario, text).map_err(|stop| stop.in_file(FileName::Prices))
 }

@@ -5,8 +5,7 @@ use crate::file_faults::read_tables;
 use crate::jobs::Kind as JobKind;
 use rota_core::{FileFault, FileName, Instance, Kind};
 use rota_read::{
-    read_cases, read_certificate, read_facts, read_fixed, read_history, read_prices, read_scenario,
-    read_solution, read_week,
+    read_certificate, read_facts, read_fixed, read_history, read_scenario, read_solution, read_week,
 };
 use std::alloc::{AllocError, Global};
 use std::process::Abort;
@@ -55,31 +54,14 @@ Ann Mon Early Nurse
 Bob Mon Early Nurse
 ";
 
-const PRICES: &[u8] = b"PRICES
-s1
-ROWS = 2
-Late Head 0 0 0 22500 0 0 999999999
-Early Head 1 2 3 4 5 6 7
-";
-
-const CASES: &[u8] = b"CASES
-s1
-OFF = 2
-Bob Mon ROWS = 1
-Late Head 0 0 0 22500 0 0 999999999
-Ann Sun ROWS = 0
-REST ROWS = 2
-Late Head 0 0 0 0 0 0 0
-Early Head 1 2 3 4 5 6 7
-";
-
 const CERTIFICATE: &[u8] = b"CERTIFICATE
 s1
 WEEKS = 2
 PRICES = 2
 ROWS = 0
-ROWS = 1
+ROWS = 2
 Late Head 0 0 0 22500 0 0 999999999
+Early Head 1 2 3 4 5 6 7
 ROWS = 0
 ROWS = 0
 LEAVES = 3
@@ -145,8 +127,6 @@ fn fault_of(alloc: Global, instance: &Instance, file: FileName, text: &[u8]) -> 
         FileName::Week => read_week(alloc, scenario, text).err(),
         FileName::Solution => read_solution(alloc, instance, text).err(),
         FileName::Fixed => read_fixed(alloc, instance, text).err(),
-        FileName::Prices => read_prices(alloc, scenario, text).err(),
-        FileName::Cases => read_cases(alloc, scenario, text).err(),
         FileName::Certificate => read_certificate(alloc, scenario, 2, text).err(),
         FileName::Facts => read_facts(alloc, scenario, 2, text).err(),
     }
@@ -156,7 +136,7 @@ fn fault_of(alloc: Global, instance: &Instance, file: FileName, text: &[u8]) -> 
 // `NoNumber`, `Limit`, `Unknown`, `Repeated` and `Trailing`. The last number is the sum of the faults' lines.
 type Ends = (FileName, &'static [u8], [u64; 9]);
 
-const ENDS: [Ends; 6] = [
+const ENDS: [Ends; 4] = [
     (
         FileName::Scenario,
         SCENARIO,
@@ -177,23 +157,13 @@ const ENDS: [Ends; 6] = [
         SOLUTION,
         [68, 84, 523, 151, 24, 865, 2, 128, 6719],
     ),
-    (
-        FileName::Prices,
-        PRICES,
-        [257, 249, 461, 1130, 96, 533, 2, 224, 11123],
-    ),
-    (
-        FileName::Cases,
-        CASES,
-        [375, 400, 1389, 1885, 174, 1332, 2, 224, 34173],
-    ),
 ];
 
 const CERTIFICATE_ENDS: [Ends; 2] = [
     (
         FileName::Certificate,
         CERTIFICATE,
-        [259, 347, 3739, 2008, 441, 938, 0, 140, 75765],
+        [359, 449, 3764, 2535, 483, 1247, 2, 140, 88773],
     ),
     (
         FileName::Facts,

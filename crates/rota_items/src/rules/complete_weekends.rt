@@ -9,10 +9,8 @@ use crate::cell_sum::DayProperty;
 use crate::items::item_takers::ItemTaker;
 use crate::items::soft_item::RunCharge;
 use crate::rules::weekend_visits::visit_weekend;
+use crate::weights::COMPLETE_WEEKEND_WEIGHT;
 use rota_core::{Instance, Rule};
-
-// The cost of a weekend with one working day.
-const WEIGHT: u16 = 30;
 
 /// Saturday without Sunday, and Sunday without Saturday, if the contract asks for complete weekends.
 #[tactic(auto, using(crate::proofs::Taking::taking), unfolding(crate::specs::SentItems::numbered_list))]
@@ -26,7 +24,7 @@ pub fn visit<T: ItemTaker>(instance: &Instance, taker: &mut T, nurse: u16) -> Re
     }
     let charge = RunCharge {
         rule: Rule::S5,
-        weight: WEIGHT,
+        weight: COMPLETE_WEEKEND_WEIGHT,
         nurse,
         property: DayProperty::Work,
     };

@@ -9,13 +9,8 @@ ghost use Rattle.rota_items.specs.rules.ConsecutiveAssignments.Cost.{history_on}
 use crate::cell_sum::DayProperty;
 use crate::items::run_takers::RunTaker;
 use crate::items::soft_item::{NurseRuns, RunCharge};
+use crate::weights::{SHIFT_RUN_WEIGHT, WORK_RUN_WEIGHT};
 use rota_core::{Instance, Rule};
-
-// The cost of each day too many or too few in a run on a shift type.
-const SHIFT_RUN_WEIGHT: u16 = 15;
-
-// The cost of each day too many or too few in a run of working days.
-const WORK_RUN_WEIGHT: u16 = 30;
 
 // The length of the run on the shift type that the days before Monday left.
 fn history_on(instance: &Instance, nurse: u16, shift: u8) -> u16

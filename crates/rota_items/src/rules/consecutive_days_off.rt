@@ -8,10 +8,8 @@ ghost use Rattle.rota_items.specs.rules.ConsecutiveDaysOff.Items.{off_runs};
 use crate::cell_sum::DayProperty;
 use crate::items::run_takers::RunTaker;
 use crate::items::soft_item::{NurseRuns, RunCharge};
+use crate::weights::OFF_RUN_WEIGHT;
 use rota_core::{Instance, Rule};
-
-// The cost of each day too many or too few in a run of days off.
-const WEIGHT: u16 = 30;
 
 /// A nurse's runs of days off.
 pub fn visit<T: RunTaker>(instance: &Instance, taker: &mut T, nurse: u16) -> Result<(), T::Fault>
@@ -22,7 +20,7 @@ pub fn visit<T: RunTaker>(instance: &Instance, taker: &mut T, nurse: u16) -> Res
     let runs = NurseRuns {
         charge: RunCharge {
             rule: Rule::S3,
-            weight: WEIGHT,
+            weight: OFF_RUN_WEIGHT,
             nurse,
             property: DayProperty::Off,
         },

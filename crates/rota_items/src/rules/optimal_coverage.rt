@@ -11,10 +11,8 @@ use crate::cell_sum::CellSum;
 use crate::items::item_takers::ItemTaker;
 use crate::items::soft_item::SoftItem;
 use crate::rules::item_visits::emit_item_if;
+use crate::weights::OPTIMUM_WEIGHT;
 use rota_core::{DAYS, Instance, Rule};
-
-// The cost of a missing nurse.
-const WEIGHT: u16 = 30;
 
 // The item of a day's shift type and skill: each nurse missing below the optimal number.
 fn optimum_item(instance: &Instance, day: u8, shift: u8, skill: u8) -> SoftItem
@@ -28,7 +26,7 @@ fn optimum_item(instance: &Instance, day: u8, shift: u8, skill: u8) -> SoftItem
     let demand = instance.demand(day, shift, skill);
     SoftItem {
         rule: Rule::S1,
-        weight: u32::from(WEIGHT),
+        weight: u32::from(OPTIMUM_WEIGHT),
         slacks: u32::from(demand.optimal.saturating_sub(demand.minimum)),
         sum: CellSum::Demand { day, shift, skill },
         degree: i64::from(demand.optimal),

@@ -11,16 +11,14 @@ ghost use Rattle.rota_items.specs.rules.ShiftOffRequests.Terms.{request_terms, r
 use crate::sums::emit_range;
 use crate::takers::Taker;
 use crate::variables::first_var_on;
+use crate::weights::REQUEST_WEIGHT;
 use rota_core::{DAYS, Instance};
-
-// The cost of a cell for each request row that it matches.
-const WEIGHT: u16 = 10;
 
 // The cost of a cell that this number of request rows match.
 fn weight_of(requests: u16) -> u32
     ensures { result ≡ request_weight * requests }
 {
-    u32::from(WEIGHT) * u32::from(requests)
+    u32::from(REQUEST_WEIGHT) * u32::from(requests)
 }
 
 // The terms of the request rows that ask for a nurse's day off from a shift type: the weight for each row, at

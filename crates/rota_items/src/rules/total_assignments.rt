@@ -14,10 +14,8 @@ use crate::items::soft_item::SoftItem;
 use crate::rules::counted_totals::{excess_before_counts, max_totals_count};
 use crate::rules::item_visits::emit_item_if;
 use crate::sums::Sign;
+use crate::weights::ASSIGNMENT_WEIGHT;
 use rota_core::{DAYS, Instance, Rule};
-
-// The cost of an assignment below the minimum or above the maximum total.
-const WEIGHT: u16 = 20;
 
 // The number of assignments that the nurse still needs for her minimum total.
 fn still_wanted(instance: &Instance, nurse: u16) -> u16
@@ -64,7 +62,7 @@ fn min_total(instance: &Instance, nurse: u16) -> SoftItem
     let missing = still_wanted(instance, nurse).min(u16::from(DAYS));
     SoftItem {
         rule: Rule::S6,
-        weight: u32::from(WEIGHT),
+        weight: u32::from(ASSIGNMENT_WEIGHT),
         slacks: u32::from(missing),
         sum: CellSum::Total {
             nurse,
@@ -83,7 +81,7 @@ fn max_total(instance: &Instance, nurse: u16) -> SoftItem
     let room = still_allowed(instance, nurse);
     SoftItem {
         rule: Rule::S6,
-        weight: u32::from(WEIGHT),
+        weight: u32::from(ASSIGNMENT_WEIGHT),
         slacks: u32::from(u16::from(DAYS).saturating_sub(room)),
         sum: CellSum::Total {
             nurse,
@@ -137,5 +135,5 @@ pub fn constant(instance: &Instance, nurse: u16) -> u64
     ensures { result ≡ assignment_constant_of (problem_of instance.now) nurse }
 {
     let wanted = u64::from(wanted_beyond_days(instance, nurse));
-    u64::from(WEIGHT) * (wanted + u64::from(assignments_above(instance, nurse)))
+    u64::from(ASSIGNMENT_WEIGHT) * (wanted + u64::from(assignments_above(instance, nurse)))
 }

@@ -10,10 +10,8 @@ use crate::items::item_takers::ItemTaker;
 use crate::items::soft_item::RunCharge;
 use crate::rules::counted_totals::{excess_before_counts, max_totals_count};
 use crate::rules::weekend_visits::visit_weekend;
+use crate::weights::WORKED_WEEKEND_WEIGHT;
 use rota_core::{Instance, Rule};
-
-// The cost of a worked weekend above the maximum.
-const WEIGHT: u16 = 30;
 
 // Whether a weekend that the nurse works now is charged: the number of weekends before is at least the
 // maximum of her contract.
@@ -37,7 +35,7 @@ pub fn visit<T: ItemTaker>(instance: &Instance, taker: &mut T, nurse: u16) -> Re
     }
     let charge = RunCharge {
         rule: Rule::S7,
-        weight: WEIGHT,
+        weight: WORKED_WEEKEND_WEIGHT,
         nurse,
         property: DayProperty::Work,
     };
@@ -62,5 +60,5 @@ pub fn constant(instance: &Instance, nurse: u16) -> u64
     requires { nurse < (problem_of instance.now).nurses }
     ensures { result ≡ weekend_constant_of (problem_of instance.now) nurse }
 {
-    u64::from(WEIGHT) * u64::from(weekends_above(instance, nurse))
+    u64::from(WORKED_WEEKEND_WEIGHT) * u64::from(weekends_above(instance, nurse))
 }

@@ -1,7 +1,6 @@
-use Rattle.clap.specs.Words.{app_of, subcommand_of}
-use Rattle.inrc2pb_command.specs.CommandLine.{inrc2pb_app}
-use Rattle.inrc2pb_program.specs.Jobs.{texts}
-use Rattle.inrc2pb_program.proofs.Subcommands.{Used, err_for, fault_free, matched_at, ok_whatever, ok_for, subcommand_named, subcommand_read, words_refused}
+use Rattle.clap.specs.Words.{app_of}
+use Rattle.inrc2pb_frame.specs.Options.{texts}
+use Rattle.inrc2pb_program.proofs.Subcommands.{Used, err_for, fault_free, matched_at, ok_for, subcommand_named, subcommand_read, words_refused}
 use Rattle.inrc2pb_program.proofs.command_line.job.Goals as goal
 
 pub job_of-requires : goal.job_of-requires
@@ -18,7 +17,8 @@ returns-clause-ok c =
     let used : Used = (c.in-Some.name, c.in-Some.options) in
     let read = subcommand_read (app_of c.in_ok-command.command) words c.in_ok-matches.matches c.subcommand.result used c.in_ok-command.ensures.0
     c.in_ok-matches.ensures.matches c.subcommand.ensures.name c.subcommand.ensures.rows c.in-Some.is in
-    ok_for (subcommand_of inrc2pb_app words) (matched_at used) c.job_of.result read c.job_of.ensures.ok
+    let none = fault_free (app_of c.in_ok-command.command) words c.in_ok-command.ensures.0 c.in_ok-matches.ensures.kinds in
+    ok_for words (matched_at used) c.job_of.result none read c.job_of.ensures.ok
 
 pub returns-clause-err : goal.returns-clause-err
 returns-clause-err c =
@@ -28,10 +28,6 @@ returns-clause-err c =
     c.in_ok-matches.ensures.matches c.subcommand.ensures.name c.subcommand.ensures.rows c.in-Some.is in
     let none = fault_free (app_of c.in_ok-command.command) words c.in_ok-command.ensures.0 c.in_ok-matches.ensures.kinds in
     err_for words (matched_at used) c.job_of.result none read c.job_of.ensures.err
-
-pub returns-clause-taken : goal.returns-clause-taken
-returns-clause-taken c = ok_whatever c.job_of.result
-    (fault_free (app_of c.in_ok-command.command) (texts c.args.words.now) c.in_ok-command.ensures.0 c.in_ok-matches.ensures.kinds)
 
 pub returns-in_err-matches-clause-err : goal.returns-in_err-matches-clause-err
 returns-in_err-matches-clause-err c =

@@ -1,6 +1,6 @@
 use Rattle.std.proofs.Common.{ap, sym, ◌∙◌, arith, ◌++◌, ◌∷◌, [], List, drop, subst, ℕ, ◌+◌}
 use Rattle.std.proofs.lemmas.List.{append-nil, append_assoc}
-use Rattle.rota_certificate.specs.CaseLimits.{AreLimited}
+use Rattle.rota_certificate.specs.CaseLimits.{AreLimitedCharges}
 use Rattle.rota_certificate.specs.Tariffs.{surcharged}
 use Rattle.rota_certificate.specs.declared.surcharges.Surcharged.{Surcharged}
 use Rattle.rota_certificate.proofs.SurchargeLists.{surcharged-end, surcharged-limited, surcharged-more}
@@ -27,4 +27,4 @@ returns-clause-charges c =
 
 pub returns-clause-limited : goal.returns-clause-limited
 returns-clause-limited c =
-    subst AreLimited (sym (returns-clause-charges c)) (surcharged-limited c.args.case.now c.args.surcharges.now c.requires.case c.requires.small)
+    subst AreLimitedCharges (sym (returns-clause-charges c)) (surcharged-limited c.args.case.now c.args.surcharges.now c.requires.case c.requires.small)

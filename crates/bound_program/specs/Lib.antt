@@ -1,3 +1,0 @@
-pub mod BoundJobs
-pub mod BoundPrograms
-pub mod CommandLine

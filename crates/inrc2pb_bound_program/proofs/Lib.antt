@@ -1,0 +1,4 @@
+pub mod BoundWords
+pub mod FixLemmas
+pub mod PeriodOpens
+pub mod WeekPaths

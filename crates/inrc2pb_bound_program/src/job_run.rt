@@ -1,0 +1,31 @@
+//! The job, performed over any files and any output.
+ghost use Rattle.inrc2pb_job.specs.OpenCalls.{opener_of};
+ghost use Rattle.rota_pb.specs.RunPorts.{writer_of};
+ghost use Rattle.rota_bound_run.specs.PeriodFiles.{AreFiles};
+ghost use Rattle.inrc2pb_bound_program.specs.BoundPrograms.{BoundOutcome};
+
+use crate::job::BoundJob;
+use crate::open_files::open_period;
+use inrc2pb_job::Opens;
+use rota_bound_run::run_bound;
+use rota_core::Target;
+use rota_pb::PeriodFault;
+use std::alloc::Global;
+
+/// Performs the job. It opens the files that it reads among `files`, and writes the answer to `output`.
+///
+/// # Errors
+/// `Read` if a file does not open, or `Memory`: then nothing is written. Otherwise the errors of `run_bound`.
+pub fn perform<O: Opens, W: Target>(
+    alloc: Global,
+    job: &BoundJob,
+    files: &mut O,
+    output: &mut W,
+) -> Result<(), PeriodFault>
+    requires { AreFiles job.now.paths }
+    ensures { BoundOutcome (opener_of O.File.Source (O.at files.old) (O.log files.old) (O.log files.new))
+        job.now (writer_of W.Target output.old output.new) result }
+{
+    let mut opened = open_period(alloc, files, &job.paths)?;
+    run_bound(alloc, job.question, &mut opened, output)
+}

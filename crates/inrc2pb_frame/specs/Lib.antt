@@ -1,0 +1,11 @@
+pub mod ErrorStops
+pub mod Exits
+pub mod FaultLines
+pub mod Faults
+pub mod Files
+pub mod Given
+pub mod Messages
+pub mod Options
+pub mod Placing
+pub mod Runs
+pub mod Stops

@@ -1,8 +1,0 @@
-use Rattle.std.proofs.Common.{rules, string_bytes}
-use Rattle.std.proofs.lemmas.Iterator.{YieldsList-from_map_by, YieldsList-from_slice}
-use Rattle.std.proofs.lemmas.Iterator.Consumers.{map_from_collect}
-use Rattle.inrc2pb_program.proofs.process_words.borrowed.Goals as goal
-
-pub returns : goal.returns
-returns c = map_from_collect _ c.collect.ensures.ran
-    (YieldsList-from_map_by _ _ string_bytes (YieldsList-from_slice c.args.words.now cc) c.map.ensures.closure (λ x r q k. search rules))

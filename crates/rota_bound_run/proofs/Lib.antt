@@ -1,0 +1,10 @@
+pub mod FreePrices
+pub mod InTurn
+pub mod JudgedAfter
+pub mod Judging
+pub mod OtherHistories
+pub mod PastLists
+pub mod PeriodRuns
+pub mod PeriodWeeks
+pub mod PlanSteps
+pub mod WeekSteps

@@ -1,0 +1,92 @@
+-- Steps for a week that were not started.
+use Rattle.std.proofs.Common.{◌≡◌, ℕ, zero, suc, ◌<◌, refl, ap, sym, ◌∙◌, subst, arith, List, [], ◌∷◌, ◌++◌, length, get_or, Result, Ok, Err, IfOk}
+use Rattle.std.specs.Prelude.{Bool, Option, Some, None, is_some}
+use Rattle.std.proofs.Math.ListN.{set}
+use Rattle.rota_core.specs.InstanceTables.{InstanceTables}
+use Rattle.rota_core.specs.WeekTables.{WeekTables}
+use Rattle.rota_core.specs.declared.ports.Source.{Ghosts}
+use Rattle.rota_pb.specs.PeriodFaults.{fault_in_week}
+use Rattle.rota_pb.specs.declared.fault.Fault.{Fault}
+use Rattle.rota_pb.specs.declared.fault.Fault.TheVariants.{Memory}
+use Rattle.rota_pb.specs.declared.period_fault.PeriodFault.TheVariants.{Run}
+use Rattle.rota_bound_run.specs.PeriodFiles.{SameWeek, SameWeeks, reader_if, week_readers}
+use Rattle.rota_bound_run.specs.PeriodRead.{read_next}
+use Rattle.rota_bound_run.specs.PeriodSteps.{stopped, went_on}
+use Rattle.rota_bound_run.specs.WeeksRead.{IsLike, IsWeekAt, hold_cells, read_week, week_at}
+use Rattle.rota_bound_run.specs.declared.files.WeekFiles.{WeekFiles}
+use Rattle.rota_bound_run.specs.declared.ward.Ward.{Ward}
+
+-- the file of the held cells is not touched
+pub holds-none : {S : Type 0} (port : Ghosts S) (tables : InstanceTables) (fix : Option S) → (hold_cells tables
+    (reader_if port fix fix)).untouched
+holds-none port tables None = tt
+holds-none port tables (Some file) = (refl, λ roster. tt)
+
+-- no file of the week is touched
+pub reads-no-week : {S : Type 0} (port : Ghosts S) (early : Bool) (ward : Ward) (count : ℕ) (found : List InstanceTables) (files :
+    WeekFiles S) →
+    (read_next early ward count found (week_readers port files files)).untouched
+reads-no-week port early ward count found files = ((refl, λ w. (tt, λ tables. holds-none port tables files.fix)), λ week. tt)
+
+-- a week that is joined with the ward, with cells held
+pub is-week-at : (early : Bool) (ward : Ward) (later : ℕ) (w : WeekTables) (tables : InstanceTables) (held : Result InstanceTables Fault)
+    →
+    tables ≡ week_at early ward later w → IfOk held (IsLike tables) → IfOk held (IsWeekAt early ward later)
+is-week-at early ward later w tables (Err fault) is like = tt
+is-week-at early ward later w tables (Ok held) is like = record {
+  scenario = like.scenario ∙ ap (λ (t : InstanceTables). t.scenario) is;
+  history = like.history ∙ ap (λ (t : InstanceTables). t.history) is;
+  is_early = like.is_early ∙ ap (λ (t : InstanceTables). t.is_early) is;
+  limits = like.limits;
+}
+
+-- ---- a loop over the files of the weeks
+
+module _ {S : Type 0} (port : Ghosts S) (early : Bool) (ward : Ward) (count : ℕ) (weeks : List InstanceTables) (i : ℕ)
+    (number : length weeks ≡ i) (old new : WeekFiles S) where
+  -- one more week is read
+  pub reads-week : (week : InstanceTables) (more : List InstanceTables) → (read_week early ward i (week_readers port old new)).ends (Ok
+      week) →
+      more ≡ weeks ++ week ∷ [] → (read_next early ward count weeks (week_readers port old new)).ends (Ok more)
+  reads-week week more ends is =
+      went_on week (subst (λ (n : ℕ). (read_week early ward n (week_readers port old new)).ends (Ok week)) (sym number) ends) is
+
+  -- there is no memory for the week
+  pub lacks-memory : (week : InstanceTables) → (read_week early ward i (week_readers port old new)).ends (Ok week) →
+      (read_next early ward count weeks (week_readers port old new)).ends (Err (Run Memory))
+  lacks-memory week ends =
+      went_on week (subst (λ (n : ℕ). (read_week early ward n (week_readers port old new)).ends (Ok week)) (sym number) ends) refl
+
+  -- the week is not read
+  pub stops-week : (fault : Fault) → (read_week early ward i (week_readers port old new)).ends (Err fault) →
+      (read_next early ward count weeks (week_readers port old new)).ends (Err (fault_in_week count i fault))
+  stops-week fault ends =
+      stopped (fault_in_week count i fault) refl (
+        fault,
+        ap (λ (n : ℕ). fault_in_week count n fault) (sym number),
+        subst (λ (n : ℕ). (read_week early ward n (week_readers port old new)).ends (Err fault)) (sym number) ends,
+      ) (λ week. tt)
+
+-- ---- no file comes or goes
+
+pub same-weeks : {S : Type 0} (files : List (WeekFiles S)) → SameWeeks files files
+unfolding SameWeeks
+same-weeks [] = tt
+same-weeks (file ∷ files) = (refl, same-weeks files)
+
+pub same-more : {S : Type 0} (olds now : List (WeekFiles S)) (i : ℕ) (old new : WeekFiles S) → SameWeeks olds now → i < length now →
+    old ≡ get_or now i old → SameWeek old new → SameWeeks olds (set now i new)
+unfolding SameWeeks
+same-more [] [] i old new same inside is week = absurd (omega (arith, inside))
+same-more [] (n ∷ now) i old new same inside is week = absurd same
+same-more (o ∷ olds) [] i old new same inside is week = absurd same
+same-more (o ∷ olds) (n ∷ now) zero old new same inside is week = (week ∙ ap (λ one. is_some one.fix) is ∙ same.0, same.1)
+same-more (o ∷ olds) (n ∷ now) (suc i) old new same inside is week =
+    (same.0, same-more olds now i old new same.1 (omega (arith, inside)) is week)
+
+pub same-length : {S : Type 0} (olds now : List (WeekFiles S)) → SameWeeks olds now → length now ≡ length olds
+unfolding SameWeeks
+same-length [] [] same = refl
+same-length [] (n ∷ now) same = absurd same
+same-length (o ∷ olds) [] same = absurd same
+same-length (o ∷ olds) (n ∷ now) same = ap suc (same-length olds now same.1)

@@ -1,0 +1,16 @@
+use Rattle.std.proofs.Common.{◌≡◌, []}
+use Rattle.rota_pb.specs.RunPorts.{reader_of}
+use Rattle.rota_bound_run.specs.PlanJudged.{judge_next}
+use Rattle.rota_bound_run.proofs.InTurn.{Reads}
+use Rattle.rota_bound_run.proofs.Judging.{AreJudged}
+use Rattle.rota_bound_run.proofs.judged.judge_all.Given as goal
+
+-- the first rosters are read and judged
+abbrev pub invariant-loop-index : goal.invariant-loop-index
+invariant-loop-index g l =
+    let w = l.fn in
+    record {
+      reads : Reads (judge_next w.weeks) (reader_of g.S.Source) [] w.files l.index l.files l.judged.rosters.items;
+      judged : AreJudged w.weeks l.index l.judged.rosters.items l.judged.penalty l.pasts.items;
+      same : l.weeks ≡ w.weeks;
+    }

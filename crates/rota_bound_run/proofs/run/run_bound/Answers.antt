@@ -1,0 +1,356 @@
+use Rattle.std.proofs.Common.{◌≡◌, ℕ, ◌<◌, ap, ◌∙◌, refl, arith, subst, length, Ok, Err}
+use Rattle.std.proofs.lemmas.Result.{err_from_is_err_and}
+use Rattle.rota_pb.specs.RunPorts.{reader_of}
+use Rattle.rota_bound_run.specs.Bounding.{bound_run}
+use Rattle.rota_bound_run.specs.PeriodFiles.{reader_if}
+use Rattle.rota_bound_run.specs.PeriodRead.{read_given, read_proof}
+use Rattle.rota_bound_run.specs.PeriodSteps.{went_on}
+use Rattle.rota_bound_run.specs.Wards.{read_ward}
+use Rattle.rota_bound_run.proofs.PeriodRuns.{gives-none, judges-none, length-back, proves-none, reads-no-weeks, rosters-back, same-weeks-back, slice-back, stopped_by, stopped_for_all, weeks-back}
+use Rattle.rota_bound_run.proofs.PeriodWeeks.{for-weeks, given-for, is-period}
+use Rattle.rota_bound_run.proofs.WeekSteps.{same-length, same-weeks}
+use Rattle.rota_bound_run.proofs.run.run_bound.Goals as goal
+
+pub returns-in_err-ward-clause-outcome : goal.returns-in_err-ward-clause-outcome
+unfolding bound_run
+returns-in_err-ward-clause-outcome g c =
+    let files = c.args.files.now in
+    stopped_for_all (read_ward (reader_of g.S.Source files.scenario c.read_ward.new.scenario_file) (reader_of g.S.Source files.history
+    c.read_ward.new.history_file))
+    _ _ c.from_residual.ensures.1 c.in_err-ward.ensures.reads
+    (λ ward. (
+      reads-no-weeks g.S.Source _ ward files.weeks.items,
+      λ weeks. (
+        gives-none g.S.Source _ _ files.given,
+        λ given. (
+          proves-none g.S.Source _ _ files.proof,
+          λ certificate. (
+            judges-none g.S.Source weeks given files.rosters.items,
+            λ judged.
+                (tt, λ answer. refl),
+          ),
+        ),
+      ),
+    ))
+
+pub returns-in_err-weeks-clause-outcome : goal.returns-in_err-weeks-clause-outcome
+unfolding bound_run
+returns-in_err-weeks-clause-outcome g c =
+    let files = c.args.files.now in
+    went_on c.in_ok-ward.ward c.in_ok-ward.ensures.reads
+    (stopped_by _ _ c.from_residual-in_err-weeks.ensures.1 (weeks-back g.S.Source c.args.question.early c.in_ok-ward.ward
+    files.weeks.items c.deref_mut.result.now c.read_weeks.new.files files.weeks.len
+    c.deref_mut.ensures.value c.deref_mut.ensures.len (same-length c.deref_mut.result.now c.read_weeks.new.files
+    c.in_err-weeks.ensures.same) _ c.in_err-weeks.ensures.reads)
+    (λ weeks. (
+      gives-none g.S.Source _ _ files.given,
+      λ given. (
+        proves-none g.S.Source _ _ files.proof,
+        λ certificate.
+            (judges-none g.S.Source weeks given files.rosters.items, λ judged. (tt, λ answer. refl)),
+      ),
+    )))
+
+pub returns-in_err-given-clause-outcome : goal.returns-in_err-given-clause-outcome
+unfolding bound_run
+returns-in_err-given-clause-outcome g c =
+    let files = c.args.files.now in
+    let weeks = c.in_ok-weeks.weeks.items in
+    let count : c.len-count.result ≡ length weeks = c.len-count.ensures ∙ c.in_ok-weeks.weeks.ok.0 in
+    went_on c.in_ok-ward.ward c.in_ok-ward.ensures.reads
+    (went_on c.in_ok-weeks.weeks.items (weeks-back g.S.Source c.args.question.early c.in_ok-ward.ward files.weeks.items
+    c.deref_mut.result.now c.read_weeks.new.files files.weeks.len
+    c.deref_mut.ensures.value c.deref_mut.ensures.len (same-length c.deref_mut.result.now c.read_weeks.new.files
+    c.in_ok-weeks.ensures.same) _ c.in_ok-weeks.ensures.reads)
+    (stopped_for_all (read_given c.in_ok-ward.ward.scenario (length weeks) (reader_if g.S.Source files.given c.read_given.new.file)) _ _
+    c.from_residual-in_err-given.ensures.1 (subst (λ (n : ℕ). (read_given c.in_ok-ward.ward.scenario n (reader_if g.S.Source files.given
+    c.read_given.new.file)).ends (Err c.in_err-given.field-0.0)) count c.in_err-given.ensures.reads)
+    (λ given. (
+      proves-none g.S.Source _ _ files.proof,
+      λ certificate. (
+        judges-none g.S.Source weeks given files.rosters.items,
+        λ judged.
+            (tt, λ answer. refl),
+      ),
+    ))))
+
+pub returns-in_err-certificate-clause-outcome : goal.returns-in_err-certificate-clause-outcome
+unfolding bound_run
+returns-in_err-certificate-clause-outcome g c =
+    let files = c.args.files.now in
+    let weeks = c.in_ok-weeks.weeks.items in
+    let count : c.len-count.result ≡ length weeks = c.len-count.ensures ∙ c.in_ok-weeks.weeks.ok.0 in
+    let given = c.in_ok-given.given.items in
+    went_on c.in_ok-ward.ward c.in_ok-ward.ensures.reads
+    (went_on c.in_ok-weeks.weeks.items (weeks-back g.S.Source c.args.question.early c.in_ok-ward.ward files.weeks.items
+    c.deref_mut.result.now c.read_weeks.new.files files.weeks.len
+    c.deref_mut.ensures.value c.deref_mut.ensures.len (same-length c.deref_mut.result.now c.read_weeks.new.files
+    c.in_ok-weeks.ensures.same) _ c.in_ok-weeks.ensures.reads)
+    (went_on c.in_ok-given.given.items (subst (λ (n : ℕ). (read_given c.in_ok-ward.ward.scenario n (reader_if g.S.Source files.given
+    c.read_given.new.file)).ends (Ok c.in_ok-given.given.items)) count c.in_ok-given.ensures.reads)
+    (stopped_for_all (read_proof c.in_ok-ward.ward.scenario (length weeks) (reader_if g.S.Source files.proof c.read_proof.new.file)) _ _
+    c.from_residual-in_err-certificate.ensures.1 (subst (λ (n : ℕ). (read_proof c.in_ok-ward.ward.scenario n (reader_if g.S.Source
+    files.proof c.read_proof.new.file)).ends (Err c.in_err-certificate.field-0.0)) count c.in_err-certificate.ensures.reads)
+    (λ certificate. (judges-none g.S.Source weeks given files.rosters.items, λ judged. (tt, λ answer. refl))))))
+
+pub returns-in_err-judged-clause-outcome : goal.returns-in_err-judged-clause-outcome
+unfolding bound_run
+returns-in_err-judged-clause-outcome g c =
+    let files = c.args.files.now in
+    let weeks = c.in_ok-weeks.weeks.items in
+    let count : c.len-count.result ≡ length weeks = c.len-count.ensures ∙ c.in_ok-weeks.weeks.ok.0 in
+    let given = c.in_ok-given.given.items in
+    went_on c.in_ok-ward.ward c.in_ok-ward.ensures.reads
+    (went_on c.in_ok-weeks.weeks.items (weeks-back g.S.Source c.args.question.early c.in_ok-ward.ward files.weeks.items
+    c.deref_mut.result.now c.read_weeks.new.files files.weeks.len
+    c.deref_mut.ensures.value c.deref_mut.ensures.len (same-length c.deref_mut.result.now c.read_weeks.new.files
+    c.in_ok-weeks.ensures.same) _ c.in_ok-weeks.ensures.reads)
+    (went_on c.in_ok-given.given.items (subst (λ (n : ℕ). (read_given c.in_ok-ward.ward.scenario n (reader_if g.S.Source files.given
+    c.read_given.new.file)).ends (Ok c.in_ok-given.given.items)) count c.in_ok-given.ensures.reads)
+    (went_on c.in_ok-certificate.certificate (subst (λ (n : ℕ). (read_proof c.in_ok-ward.ward.scenario n (reader_if g.S.Source
+    files.proof c.read_proof.new.file)).ends (Ok c.in_ok-certificate.certificate)) count c.in_ok-certificate.ensures.reads)
+    (stopped_by _ _ c.from_residual-in_err-judged.ensures.1 (rosters-back g.S.Source weeks given files.rosters.items
+    c.deref_mut-3.result.now c.judge_plan.new.files files.rosters.len
+    c.deref_mut-3.ensures.value c.deref_mut-3.ensures.len c.in_err-judged.ensures.count _ (rw
+    (c.deref_mut-2.ensures.value, c.deref.ensures.value) at c.in_err-judged.ensures.reads))
+    (λ judged. (tt, λ answer. refl))))))
+
+pub returns-in_err-answer-clause-outcome : goal.returns-in_err-answer-clause-outcome
+unfolding bound_run
+returns-in_err-answer-clause-outcome g c =
+    let files = c.args.files.now in
+    let weeks = c.in_ok-weeks.weeks.items in
+    let count : c.len-count.result ≡ length weeks = c.len-count.ensures ∙ c.in_ok-weeks.weeks.ok.0 in
+    let given = c.in_ok-given.given.items in
+    went_on c.in_ok-ward.ward c.in_ok-ward.ensures.reads
+    (went_on c.in_ok-weeks.weeks.items (weeks-back g.S.Source c.args.question.early c.in_ok-ward.ward files.weeks.items
+    c.deref_mut.result.now c.read_weeks.new.files files.weeks.len
+    c.deref_mut.ensures.value c.deref_mut.ensures.len (same-length c.deref_mut.result.now c.read_weeks.new.files
+    c.in_ok-weeks.ensures.same) _ c.in_ok-weeks.ensures.reads)
+    (went_on c.in_ok-given.given.items (subst (λ (n : ℕ). (read_given c.in_ok-ward.ward.scenario n (reader_if g.S.Source files.given
+    c.read_given.new.file)).ends (Ok c.in_ok-given.given.items)) count c.in_ok-given.ensures.reads)
+    (went_on c.in_ok-certificate.certificate (subst (λ (n : ℕ). (read_proof c.in_ok-ward.ward.scenario n (reader_if g.S.Source
+    files.proof c.read_proof.new.file)).ends (Ok c.in_ok-certificate.certificate)) count c.in_ok-certificate.ensures.reads)
+    (went_on c.in_ok-judged.judged (rosters-back g.S.Source weeks given files.rosters.items c.deref_mut-3.result.now
+    c.judge_plan.new.files files.rosters.len
+    c.deref_mut-3.ensures.value c.deref_mut-3.ensures.len c.in_ok-judged.ensures.count _ (rw
+    (c.deref_mut-2.ensures.value, c.deref.ensures.value) at c.in_ok-judged.ensures.reads))
+    (stopped_by _ _ c.from_residual-in_err-answer.ensures.1 refl (λ answer. refl))))))
+
+pub returns-in_err-write_answer-clause-outcome : goal.returns-in_err-write_answer-clause-outcome
+unfolding bound_run
+returns-in_err-write_answer-clause-outcome g c =
+    let files = c.args.files.now in
+    let weeks = c.in_ok-weeks.weeks.items in
+    let count : c.len-count.result ≡ length weeks = c.len-count.ensures ∙ c.in_ok-weeks.weeks.ok.0 in
+    let given = c.in_ok-given.given.items in
+    let now : c.deref-2.result.now ≡ weeks =
+    slice-back weeks c.deref_mut-2.result.now c.judge_plan.new.weeks c.deref-2.result.now c.in_ok-weeks.weeks.len
+    c.deref_mut-2.ensures.value
+    c.deref_mut-2.ensures.len c.in_ok-judged.ensures.same c.deref-2.ensures.value in
+    let p = err_from_is_err_and c.from_residual-in_err-write_answer.result c.from_residual-in_err-write_answer.ensures.1 in
+    rw (p.1, p.2)
+    (went_on c.in_ok-ward.ward c.in_ok-ward.ensures.reads
+    (went_on c.in_ok-weeks.weeks.items (weeks-back g.S.Source c.args.question.early c.in_ok-ward.ward files.weeks.items
+    c.deref_mut.result.now c.read_weeks.new.files files.weeks.len
+    c.deref_mut.ensures.value c.deref_mut.ensures.len (same-length c.deref_mut.result.now c.read_weeks.new.files
+    c.in_ok-weeks.ensures.same) _ c.in_ok-weeks.ensures.reads)
+    (went_on c.in_ok-given.given.items (subst (λ (n : ℕ). (read_given c.in_ok-ward.ward.scenario n (reader_if g.S.Source files.given
+    c.read_given.new.file)).ends (Ok c.in_ok-given.given.items)) count c.in_ok-given.ensures.reads)
+    (went_on c.in_ok-certificate.certificate (subst (λ (n : ℕ). (read_proof c.in_ok-ward.ward.scenario n (reader_if g.S.Source
+    files.proof c.read_proof.new.file)).ends (Ok c.in_ok-certificate.certificate)) count c.in_ok-certificate.ensures.reads)
+    (went_on c.in_ok-judged.judged (rosters-back g.S.Source weeks given files.rosters.items c.deref_mut-3.result.now
+    c.judge_plan.new.files files.rosters.len
+    c.deref_mut-3.ensures.value c.deref_mut-3.ensures.len c.in_ok-judged.ensures.count _ (rw
+    (c.deref_mut-2.ensures.value, c.deref.ensures.value) at c.in_ok-judged.ensures.reads))
+    (went_on c.in_ok-answer.answer (rw (now, c.deref-3.ensures.value) at c.in_ok-answer.ensures) (
+      _,
+      refl,
+      c.in_err-write_answer.ensures,
+    )))))))
+
+pub returns-clause-outcome : goal.returns-clause-outcome
+unfolding bound_run
+returns-clause-outcome g c =
+    let files = c.args.files.now in
+    let weeks = c.in_ok-weeks.weeks.items in
+    let count : c.len-count.result ≡ length weeks = c.len-count.ensures ∙ c.in_ok-weeks.weeks.ok.0 in
+    let given = c.in_ok-given.given.items in
+    let now : c.deref-2.result.now ≡ weeks =
+    slice-back weeks c.deref_mut-2.result.now c.judge_plan.new.weeks c.deref-2.result.now c.in_ok-weeks.weeks.len
+    c.deref_mut-2.ensures.value
+    c.deref_mut-2.ensures.len c.in_ok-judged.ensures.same c.deref-2.ensures.value in
+    went_on c.in_ok-ward.ward c.in_ok-ward.ensures.reads
+    (went_on c.in_ok-weeks.weeks.items (weeks-back g.S.Source c.args.question.early c.in_ok-ward.ward files.weeks.items
+    c.deref_mut.result.now c.read_weeks.new.files files.weeks.len
+    c.deref_mut.ensures.value c.deref_mut.ensures.len (same-length c.deref_mut.result.now c.read_weeks.new.files
+    c.in_ok-weeks.ensures.same) _ c.in_ok-weeks.ensures.reads)
+    (went_on c.in_ok-given.given.items (subst (λ (n : ℕ). (read_given c.in_ok-ward.ward.scenario n (reader_if g.S.Source files.given
+    c.read_given.new.file)).ends (Ok c.in_ok-given.given.items)) count c.in_ok-given.ensures.reads)
+    (went_on c.in_ok-certificate.certificate (subst (λ (n : ℕ). (read_proof c.in_ok-ward.ward.scenario n (reader_if g.S.Source
+    files.proof c.read_proof.new.file)).ends (Ok c.in_ok-certificate.certificate)) count c.in_ok-certificate.ensures.reads)
+    (went_on c.in_ok-judged.judged (rosters-back g.S.Source weeks given files.rosters.items c.deref_mut-3.result.now
+    c.judge_plan.new.files files.rosters.len
+    c.deref_mut-3.ensures.value c.deref_mut-3.ensures.len c.in_ok-judged.ensures.count _ (rw
+    (c.deref_mut-2.ensures.value, c.deref.ensures.value) at c.in_ok-judged.ensures.reads))
+    (went_on c.in_ok-answer.answer (rw (now, c.deref-3.ensures.value) at c.in_ok-answer.ensures) c.in_ok-write_answer.ensures)))))
+
+pub returns-in_err-ward-clause-same : goal.returns-in_err-ward-clause-same
+returns-in_err-ward-clause-same g c =
+    let files = c.args.files.now in
+    record {
+      weeks = same-weeks files.weeks.items;
+      given = refl;
+      proof = refl;
+      rosters = refl;
+    }
+
+pub returns-in_err-weeks-clause-same : goal.returns-in_err-weeks-clause-same
+returns-in_err-weeks-clause-same g c =
+    let files = c.args.files.now in
+    record {
+      weeks = same-weeks-back files.weeks.items c.deref_mut.result.now c.read_weeks.new.files files.weeks.len c.deref_mut.ensures.value
+          c.deref_mut.ensures.len
+          c.in_err-weeks.ensures.same;
+      given = refl;
+      proof = refl;
+      rosters = refl;
+    }
+
+pub returns-in_err-given-clause-same : goal.returns-in_err-given-clause-same
+returns-in_err-given-clause-same g c =
+    let files = c.args.files.now in
+    record {
+      weeks = same-weeks-back files.weeks.items c.deref_mut.result.now c.read_weeks.new.files files.weeks.len c.deref_mut.ensures.value
+          c.deref_mut.ensures.len
+          c.in_ok-weeks.ensures.same;
+      given = c.in_err-given.ensures.same;
+      proof = refl;
+      rosters = refl;
+    }
+
+pub returns-in_err-certificate-clause-same : goal.returns-in_err-certificate-clause-same
+returns-in_err-certificate-clause-same g c =
+    let files = c.args.files.now in
+    record {
+      weeks = same-weeks-back files.weeks.items c.deref_mut.result.now c.read_weeks.new.files files.weeks.len c.deref_mut.ensures.value
+          c.deref_mut.ensures.len
+          c.in_ok-weeks.ensures.same;
+      given = c.in_ok-given.ensures.same;
+      proof = c.in_err-certificate.ensures.same;
+      rosters = refl;
+    }
+
+pub returns-in_err-judged-clause-same : goal.returns-in_err-judged-clause-same
+returns-in_err-judged-clause-same g c =
+    let files = c.args.files.now in
+    record {
+      weeks = same-weeks-back files.weeks.items c.deref_mut.result.now c.read_weeks.new.files files.weeks.len c.deref_mut.ensures.value
+          c.deref_mut.ensures.len
+          c.in_ok-weeks.ensures.same;
+      given = c.in_ok-given.ensures.same;
+      proof = c.in_ok-certificate.ensures.same;
+      rosters = length-back files.rosters.items c.deref_mut-3.result.now c.judge_plan.new.files files.rosters.len
+          c.deref_mut-3.ensures.value
+          c.deref_mut-3.ensures.len c.in_err-judged.ensures.count;
+    }
+
+pub returns-in_err-answer-clause-same : goal.returns-in_err-answer-clause-same
+returns-in_err-answer-clause-same g c =
+    let files = c.args.files.now in
+    record {
+      weeks = same-weeks-back files.weeks.items c.deref_mut.result.now c.read_weeks.new.files files.weeks.len c.deref_mut.ensures.value
+          c.deref_mut.ensures.len
+          c.in_ok-weeks.ensures.same;
+      given = c.in_ok-given.ensures.same;
+      proof = c.in_ok-certificate.ensures.same;
+      rosters = length-back files.rosters.items c.deref_mut-3.result.now c.judge_plan.new.files files.rosters.len
+          c.deref_mut-3.ensures.value
+          c.deref_mut-3.ensures.len c.in_ok-judged.ensures.count;
+    }
+
+pub returns-in_err-write_answer-clause-same : goal.returns-in_err-write_answer-clause-same
+returns-in_err-write_answer-clause-same g c =
+    let files = c.args.files.now in
+    record {
+      weeks = same-weeks-back files.weeks.items c.deref_mut.result.now c.read_weeks.new.files files.weeks.len c.deref_mut.ensures.value
+          c.deref_mut.ensures.len
+          c.in_ok-weeks.ensures.same;
+      given = c.in_ok-given.ensures.same;
+      proof = c.in_ok-certificate.ensures.same;
+      rosters = length-back files.rosters.items c.deref_mut-3.result.now c.judge_plan.new.files files.rosters.len
+          c.deref_mut-3.ensures.value
+          c.deref_mut-3.ensures.len c.in_ok-judged.ensures.count;
+    }
+
+pub returns-clause-same : goal.returns-clause-same
+returns-clause-same g c =
+    let files = c.args.files.now in
+    record {
+      weeks = same-weeks-back files.weeks.items c.deref_mut.result.now c.read_weeks.new.files files.weeks.len c.deref_mut.ensures.value
+          c.deref_mut.ensures.len
+          c.in_ok-weeks.ensures.same;
+      given = c.in_ok-given.ensures.same;
+      proof = c.in_ok-certificate.ensures.same;
+      rosters = length-back files.rosters.items c.deref_mut-3.result.now c.judge_plan.new.files files.rosters.len
+          c.deref_mut-3.ensures.value
+          c.deref_mut-3.ensures.len c.in_ok-judged.ensures.count;
+    }
+
+pub overflow_cast-count : goal.overflow_cast-count
+overflow_cast-count g c =
+    let period = is-period c.args.question.early c.in_ok-ward.ward c.in_ok-weeks.weeks.items c.in_ok-weeks.ensures.weeks in
+    let count : c.len-count.result ≡ length c.in_ok-weeks.weeks.items = c.len-count.ensures ∙ c.in_ok-weeks.weeks.ok.0 in
+    omega (arith, count, period.count)
+
+pub judge_plan-requires-clause-period : goal.judge_plan-requires-clause-period
+judge_plan-requires-clause-period g c =
+    rw c.deref_mut-2.ensures.value (is-period c.args.question.early c.in_ok-ward.ward c.in_ok-weeks.weeks.items
+    c.in_ok-weeks.ensures.weeks)
+
+pub judge_plan-requires-clause-given : goal.judge_plan-requires-clause-given
+judge_plan-requires-clause-given g c =
+    let count : c.len-count.result ≡ length c.in_ok-weeks.weeks.items = c.len-count.ensures ∙ c.in_ok-weeks.weeks.ok.0 in
+    let some : 0 < length c.in_ok-weeks.weeks.items =
+    omega (arith, c.in_ok-weeks.ensures.count, ap length c.deref_mut.ensures.value, c.requires.files.some) in
+    rw (c.deref_mut-2.ensures.value, c.deref.ensures.value) (given-for c.args.question.early c.in_ok-ward.ward c.in_ok-weeks.weeks.items
+    c.in_ok-given.given.items c.in_ok-weeks.ensures.weeks some
+    (rw count at c.in_ok-given.ensures.shape) c.in_ok-given.ensures.few)
+
+pub judge_plan-requires-clause-rosters : goal.judge_plan-requires-clause-rosters
+judge_plan-requires-clause-rosters g c =
+    let count : length c.in_ok-weeks.weeks.items ≡ length c.args.files.now.weeks.items =
+    c.in_ok-weeks.ensures.count ∙ ap length c.deref_mut.ensures.value in
+    rw (c.deref_mut-2.ensures.value, c.deref_mut-3.ensures.value, count) c.requires.files.rosters
+
+pub answer_for-requires-clause-period : goal.answer_for-requires-clause-period
+answer_for-requires-clause-period g c =
+    let now : c.deref-2.result.now ≡ c.in_ok-weeks.weeks.items =
+    slice-back c.in_ok-weeks.weeks.items c.deref_mut-2.result.now c.judge_plan.new.weeks c.deref-2.result.now c.in_ok-weeks.weeks.len
+    c.deref_mut-2.ensures.value c.deref_mut-2.ensures.len c.in_ok-judged.ensures.same c.deref-2.ensures.value in
+    rw now (is-period c.args.question.early c.in_ok-ward.ward c.in_ok-weeks.weeks.items c.in_ok-weeks.ensures.weeks)
+
+pub answer_for-requires-clause-given : goal.answer_for-requires-clause-given
+answer_for-requires-clause-given g c =
+    let count : c.len-count.result ≡ length c.in_ok-weeks.weeks.items = c.len-count.ensures ∙ c.in_ok-weeks.weeks.ok.0 in
+    let some : 0 < length c.in_ok-weeks.weeks.items =
+    omega (arith, c.in_ok-weeks.ensures.count, ap length c.deref_mut.ensures.value, c.requires.files.some) in
+    let now : c.deref-2.result.now ≡ c.in_ok-weeks.weeks.items =
+    slice-back c.in_ok-weeks.weeks.items c.deref_mut-2.result.now c.judge_plan.new.weeks c.deref-2.result.now c.in_ok-weeks.weeks.len
+    c.deref_mut-2.ensures.value c.deref_mut-2.ensures.len c.in_ok-judged.ensures.same c.deref-2.ensures.value in
+    rw (now, c.deref-3.ensures.value) (given-for c.args.question.early c.in_ok-ward.ward c.in_ok-weeks.weeks.items
+    c.in_ok-given.given.items c.in_ok-weeks.ensures.weeks some
+    (rw count at c.in_ok-given.ensures.shape) c.in_ok-given.ensures.few)
+
+pub answer_for-requires-clause-certificate : goal.answer_for-requires-clause-certificate
+answer_for-requires-clause-certificate g c =
+    let count : c.len-count.result ≡ length c.in_ok-weeks.weeks.items = c.len-count.ensures ∙ c.in_ok-weeks.weeks.ok.0 in
+    let some : 0 < length c.in_ok-weeks.weeks.items =
+    omega (arith, c.in_ok-weeks.ensures.count, ap length c.deref_mut.ensures.value, c.requires.files.some) in
+    let now : c.deref-2.result.now ≡ c.in_ok-weeks.weeks.items =
+    slice-back c.in_ok-weeks.weeks.items c.deref_mut-2.result.now c.judge_plan.new.weeks c.deref-2.result.now c.in_ok-weeks.weeks.len
+    c.deref_mut-2.ensures.value c.deref_mut-2.ensures.len c.in_ok-judged.ensures.same c.deref-2.ensures.value in
+    rw now
+    (for-weeks c.args.question.early c.in_ok-ward.ward c.in_ok-weeks.weeks.items c.in_ok-certificate.certificate
+    c.in_ok-weeks.ensures.weeks some
+    (rw count at c.in_ok-certificate.ensures.shape))

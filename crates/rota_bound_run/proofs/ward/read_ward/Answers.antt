@@ -1,0 +1,18 @@
+use Rattle.std.proofs.Common.{refl, rules}
+use Rattle.rota_pb.specs.Steps.{went_on}
+use Rattle.rota_pb.proofs.Steps.{stopped_by}
+use Rattle.rota_bound_run.proofs.ward.read_ward.Goals as goal
+
+pub returns-in_err-spelled-clause-reads : goal.returns-in_err-spelled-clause-reads
+returns-in_err-spelled-clause-reads g c =
+    stopped_by _ _ c.from_residual.ensures.1 c.in_err-spelled.ensures.reads (λ s. (refl, λ h. tt))
+
+pub returns-in_err-history-clause-reads : goal.returns-in_err-history-clause-reads
+returns-in_err-history-clause-reads g c =
+    went_on c.in_ok-spelled.spelled.scenario c.in_ok-spelled.ensures.reads
+    (stopped_by _ _ c.from_residual-in_err-history.ensures.1 c.in_err-history.ensures.reads (λ h. tt))
+
+pub returns-clause-reads : goal.returns-clause-reads
+returns-clause-reads g c =
+    went_on c.in_ok-spelled.spelled.scenario c.in_ok-spelled.ensures.reads
+    (went_on c.in_ok-history.history c.in_ok-history.ensures.reads (search rules))

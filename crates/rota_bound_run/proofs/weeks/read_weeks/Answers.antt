@@ -1,0 +1,119 @@
+use Rattle.std.proofs.Common.{◌≡◌, ℕ, ◌+◌, ◌<◌, ap, ◌∙◌, subst, sym, arith, List, [], ◌∷◌, length, length-append, Result}
+use Rattle.std.proofs.lemmas.Result.{err_from_is_err_and}
+use Rattle.std.specs.Prelude.{Bool, slice_set}
+use Rattle.rota_core.specs.InstanceTables.{InstanceTables}
+use Rattle.rota_core.specs.declared.ports.Source.{Ghosts}
+use Rattle.rota_pb.specs.declared.period_fault.PeriodFault.{PeriodFault}
+use Rattle.rota_bound_run.specs.PeriodFiles.{each_of, week_readers}
+use Rattle.rota_bound_run.specs.PeriodRead.{read_next, read_weeks}
+use Rattle.rota_bound_run.specs.PeriodSteps.{in_turn}
+use Rattle.rota_bound_run.specs.WeeksRead.{AreWeeksFrom, IsWeekAt}
+use Rattle.rota_bound_run.specs.declared.files.WeekFiles.{WeekFiles}
+use Rattle.rota_bound_run.specs.declared.ward.Ward.{Ward}
+use Rattle.rota_bound_run.proofs.InTurn.{length-each, reads-all, reads-more, reads-none, stops-at}
+use Rattle.rota_bound_run.proofs.PeriodWeeks.{weeks-more}
+use Rattle.rota_bound_run.proofs.WeekSteps.{lacks-memory, reads-no-week, reads-week, same-length, same-more, same-weeks, stops-week}
+use Rattle.rota_bound_run.proofs.weeks.read_weeks.Goals as goal
+
+-- there is a week for each file
+counted : {S : Type 0} (port : Ghosts S) (early : Bool) (ward : Ward) (olds now : List (WeekFiles S)) (result : Result
+    (List InstanceTables) PeriodFault) →
+    length now ≡ length olds →
+    (in_turn (read_next early ward (length olds)) [] (each_of (week_readers port) olds now)).ends result →
+    (read_weeks early ward (each_of (week_readers port) olds now)).ends result
+counted port early ward olds now result same ends =
+    subst (λ (n : ℕ). (in_turn (read_next early ward n) [] (each_of (week_readers port) olds now)).ends result)
+    (sym (length-each (read_next early ward (length olds)) (week_readers port) [] olds now same)) ends
+
+pub loop-index-init : goal.loop-index-init
+unfolding AreWeeksFrom
+loop-index-init g c = record {
+  reads = rw c.new-weeks.ensures.items (reads-none (read_next c.args.early c.args.ward.now (length c.args.files.now))
+      (week_readers g.S.Source) [] c.args.files.now);
+  weeks = rw c.new-weeks.ensures.items tt;
+  number = ap length c.new-weeks.ensures.items;
+  same = same-weeks c.args.files.now;
+}
+
+pub returns-in_err-push-in-Ok-clause-same : goal.returns-in_err-push-in-Ok-clause-same
+returns-in_err-push-in-Ok-clause-same g c =
+    same-more c.args.files.now c.loop-index.files c.loop-index.index c.index-files-index.result c.read_week.new.files
+    c.loop-index.invariant.same (omega (
+      arith,
+      same-length c.args.files.now c.loop-index.files c.loop-index.invariant.same,
+      c.loop-index-test.true,
+    ))
+    c.index-files-index.is (rw (← c.index-files-index.is) at c.in-Ok.ensures.same)
+
+pub returns-in_err-push-in-Ok-clause-reads : goal.returns-in_err-push-in-Ok-clause-reads
+returns-in_err-push-in-Ok-clause-reads g c =
+    let p = err_from_is_err_and c.from_residual.result c.from_residual.ensures.1 in
+    let step = read_next c.args.early c.args.ward.now (length c.args.files.now) in
+    let i = c.loop-index.index in
+    let inv = c.loop-index.invariant in
+    let inside : c.loop-index.index < length c.args.files.now = omega (arith, c.loop-index-test.true) in
+    rw (p.1, p.2)
+    (counted g.S.Source c.args.early c.args.ward.now c.args.files.now (slice_set c.loop-index.files i c.read_week.new.files) _
+    (same-length c.args.files.now _ (returns-in_err-push-in-Ok-clause-same g c))
+    (stops-at step (week_readers g.S.Source) [] c.args.files.now i c.loop-index.files c.loop-index.weeks.items inv.reads inside
+    c.index-files-index.result c.read_week.new.files c.index-files-index.is
+    (reads-no-week g.S.Source c.args.early c.args.ward.now (length c.args.files.now)) _
+    (lacks-memory g.S.Source c.args.early c.args.ward.now (length c.args.files.now) c.loop-index.weeks.items i inv.number
+    c.index-files-index.result c.read_week.new.files c.in-Ok.week (rw (← c.index-files-index.is) at c.in-Ok.ensures.reads))))
+
+pub returns-in-Err-clause-same : goal.returns-in-Err-clause-same
+returns-in-Err-clause-same g c =
+    same-more c.args.files.now c.loop-index.files c.loop-index.index c.index-files-index.result c.read_week.new.files
+    c.loop-index.invariant.same (omega (
+      arith,
+      same-length c.args.files.now c.loop-index.files c.loop-index.invariant.same,
+      c.loop-index-test.true,
+    ))
+    c.index-files-index.is (rw (← c.index-files-index.is) at c.in-Err.ensures.same)
+
+pub returns-in-Err-clause-reads : goal.returns-in-Err-clause-reads
+returns-in-Err-clause-reads g c =
+    let step = read_next c.args.early c.args.ward.now (length c.args.files.now) in
+    let i = c.loop-index.index in
+    let inv = c.loop-index.invariant in
+    let inside : c.loop-index.index < length c.args.files.now = omega (arith, c.loop-index-test.true) in
+    rw c.in_week.ensures
+    (counted g.S.Source c.args.early c.args.ward.now c.args.files.now (slice_set c.loop-index.files i c.read_week.new.files) _
+    (same-length c.args.files.now _ (returns-in-Err-clause-same g c))
+    (stops-at step (week_readers g.S.Source) [] c.args.files.now i c.loop-index.files c.loop-index.weeks.items inv.reads inside
+    c.index-files-index.result c.read_week.new.files c.index-files-index.is
+    (reads-no-week g.S.Source c.args.early c.args.ward.now (length c.args.files.now)) _
+    (stops-week g.S.Source c.args.early c.args.ward.now (length c.args.files.now) c.loop-index.weeks.items i inv.number
+    c.index-files-index.result c.read_week.new.files c.in-Err.fault (rw (← c.index-files-index.is) at c.in-Err.ensures.reads))))
+
+pub loop-index-preserved : goal.loop-index-preserved
+loop-index-preserved g c =
+    let step = read_next c.args.early c.args.ward.now (length c.args.files.now) in
+    let i = c.loop-index.index in
+    let inv = c.loop-index.invariant in
+    let inside : c.loop-index.index < length c.args.files.now = omega (arith, c.loop-index-test.true) in
+    let there : i ≡ 0 + length c.loop-index.weeks.items = omega (arith, inv.number) in
+    let pushed = c.in_ok-push-in-Ok.ensures.items in
+    record {
+      reads =
+          reads-more step (week_readers g.S.Source) [] c.args.files.now i c.loop-index.files c.loop-index.weeks.items inv.reads inside
+          c.index-files-index.result c.read_week.new.files c.index-files-index.is c.push.new.self.items
+          (reads-week g.S.Source c.args.early c.args.ward.now (length c.args.files.now) c.loop-index.weeks.items i inv.number
+          c.index-files-index.result c.read_week.new.files c.in-Ok.week c.push.new.self.items (rw (← c.index-files-index.is) at
+          c.in-Ok.ensures.reads) pushed);
+      weeks =
+          rw pushed (weeks-more c.args.early c.args.ward.now 0 c.loop-index.weeks.items c.in-Ok.week inv.weeks
+          (subst (λ (n : ℕ). IsWeekAt c.args.early c.args.ward.now n c.in-Ok.week) there c.in-Ok.ensures.week));
+      number = ap length pushed ∙ length-append c.loop-index.weeks.items (c.in-Ok.week ∷ []) ∙ ap (λ (n : ℕ). n + 1) inv.number;
+      same =
+          same-more c.args.files.now c.loop-index.files i c.index-files-index.result c.read_week.new.files
+          inv.same (omega (arith, same-length c.args.files.now c.loop-index.files inv.same, c.loop-index-test.true))
+          c.index-files-index.is (rw (← c.index-files-index.is) at c.in-Ok.ensures.same);
+    }
+
+pub returns-clause-reads : goal.returns-clause-reads
+returns-clause-reads g c =
+    counted g.S.Source c.args.early c.args.ward.now c.args.files.now c.loop-index.files _
+    (same-length c.args.files.now c.loop-index.files c.loop-index.invariant.same)
+    (reads-all (read_next c.args.early c.args.ward.now (length c.args.files.now)) (week_readers g.S.Source) [] c.args.files.now
+    c.loop-index.index c.loop-index.files c.loop-index.weeks.items c.loop-index.invariant.reads (omega (arith, c.loop-index-test.false)))

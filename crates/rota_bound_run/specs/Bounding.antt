@@ -1,0 +1,24 @@
+-- A run that answers what was asked about the plans of some weeks: the files that it reads, and the text that it writes.
+use Rattle.std.specs.Prelude.{length}
+use Rattle.rota_pb.specs.RunPorts.{Writer}
+use Rattle.rota_pb.specs.Steps.{send}
+use Rattle.rota_bound_run.specs.BoundText.{bound_text}
+use Rattle.rota_bound_run.specs.ExactAnswers.{IsAnswer}
+use Rattle.rota_bound_run.specs.PeriodFiles.{FilesOfPeriod}
+use Rattle.rota_bound_run.specs.PeriodRead.{read_given, read_proof, read_weeks}
+use Rattle.rota_bound_run.specs.PeriodSteps.{PeriodStep, ◌>>=◌, for_all, make}
+use Rattle.rota_bound_run.specs.PlanJudged.{judge_plan}
+use Rattle.rota_bound_run.specs.Wards.{read_ward}
+use Rattle.rota_bound_run.specs.declared.files.Question.{Question}
+
+-- The scenario, the history, and each week are read, then the given facts, the certificate, and each roster; then the text of the answer is
+-- sent.
+unfoldable pub bound_run : Question → FilesOfPeriod → Writer → PeriodStep (Unit {0})
+bound_run question files out = do
+  ward ← for_all (read_ward files.scenario files.history)
+  weeks ← read_weeks question.early ward files.weeks
+  given ← for_all (read_given ward.scenario (length weeks) files.given)
+  certificate ← for_all (read_proof ward.scenario (length weeks) files.proof)
+  judged ← judge_plan weeks given files.rosters
+  answer ← make (IsAnswer question.minimums weeks given certificate judged)
+  for_all (send out (bound_text answer))

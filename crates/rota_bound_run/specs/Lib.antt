@@ -1,0 +1,13 @@
+pub mod BoundText
+pub mod Bounding
+pub mod Claims
+pub mod ExactAnswers
+pub mod JudgedWeeks
+pub mod Judging
+pub mod OneWeek
+pub mod PeriodFiles
+pub mod PeriodRead
+pub mod PeriodSteps
+pub mod PlanJudged
+pub mod Wards
+pub mod WeeksRead

@@ -1,0 +1,57 @@
+-- A run for several weeks as steps in their order. A step is one of `rota_pb`, and its fault may name a week.
+use Rattle.std.specs.Prelude.{◌≡◌, ℕ, ⊤, List, [], ◌∷◌, MatchResult, Result, Ok, Err}
+use Rattle.rota_pb.specs.Steps.{Step}
+use Rattle.rota_pb.specs.declared.fault.Fault.{Fault}
+use Rattle.rota_pb.specs.declared.fault.Fault.TheVariants.{Memory}
+use Rattle.rota_pb.specs.PeriodFaults.{fault_in_week}
+use Rattle.rota_pb.specs.declared.period_fault.PeriodFault.{PeriodFault}
+use Rattle.rota_pb.specs.declared.period_fault.PeriodFault.TheVariants.{Run}
+
+-- A run or a step of one. `ends` says that it may find this value, or stop with this fault. `untouched` says that it was not started.
+pub record PeriodStep (A : Type 0) : Type 1 where
+  pub ends : Result A PeriodFault → Type 0
+  pub untouched : Type 0
+
+-- one step, and then the rest of the run; if the step ends with a fault, so does the run, and the rest is not started
+pub data EndsInTurn {A B : Type 0} (step : PeriodStep A) (next : A → PeriodStep B) (result : Result B PeriodFault) : Type 0 where
+  stopped : (fault : PeriodFault) → result ≡ Err fault → step.ends (Err fault) → ((found : A) → (next found).untouched) →
+      EndsInTurn step next result
+  went_on : (found : A) → step.ends (Ok found) → (next found).ends result → EndsInTurn step next result
+
+infixl 10 ◌>>=◌
+-- the step, and then the next one, which depends on the value that the first one finds
+abbrev pub ◌>>=◌ : {A B : Type 0} → PeriodStep A → (A → PeriodStep B) → PeriodStep B
+◌>>=◌ {A} step next = record { ends = EndsInTurn step next; untouched = step.untouched × ((found : A) → (next found).untouched) }
+
+-- a step at no port: the result is a value for which `Finds` holds, or a fault for which `Stops` holds
+abbrev pub check : {A : Type 0} → (A → Type 0) → (PeriodFault → Type 0) → PeriodStep A
+check Finds Stops = record { ends = λ result. MatchResult result Finds Stops; untouched = ⊤ }
+
+-- a step at no port that stops only if memory runs out
+abbrev pub make : {A : Type 0} → (A → Type 0) → PeriodStep A
+make Finds = check Finds (λ fault. fault ≡ Run Memory)
+
+-- a step whose fault is named by `named`
+abbrev pub telling : {A : Type 0} → (Fault → PeriodFault) → Step A → PeriodStep A
+telling {A} named step = record {
+  ends = λ result. MatchResult result (λ found. step.ends (Ok found)) (λ told. (fault : Fault) × (told ≡ named fault) × step.ends
+      (Err fault));
+  untouched = step.untouched;
+}
+
+-- a step for all weeks
+abbrev pub for_all : {A : Type 0} → Step A → PeriodStep A
+for_all step = telling Run step
+
+-- a step for the week with this index, of this number of weeks
+abbrev pub for_week : {A : Type 0} → (weeks index : ℕ) → Step A → PeriodStep A
+for_week weeks index step = telling (fault_in_week weeks index) step
+
+-- a step for each of these, in their order, from the value that was found before them
+unfoldable pub in_turn : {X : Type 0} {R : Type 1} → (X → R → PeriodStep X) → X → List R → PeriodStep X
+in_turn step found [] = check (λ end. end ≡ found) (λ fault. ⊥)
+in_turn step found (one ∷ later) = step found one >>= λ more. in_turn step more later
+
+-- the result ends the step, if what is found is seen in this way
+abbrev pub EndsAs : {A B E : Type 0} → (B → A) → (Result A E → Type 0) → Result B E → Type 0
+EndsAs view Ends result = MatchResult result (λ found. Ends (Ok (view found))) (λ fault. Ends (Err fault))

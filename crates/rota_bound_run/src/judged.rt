@@ -1,0 +1,101 @@
+//! The rosters of all weeks, read and judged one after the other.
+ghost use Rattle.std.specs.Prelude.{◌≡◌, ◌<◌, [], IfOk, IfSome, length, map};
+ghost use Rattle.rota_core.specs.Certificates.{AreConditionsFor};
+ghost use Rattle.rota_core.specs.InstanceTables.{problem_of};
+ghost use Rattle.rota_core.specs.RosterTables.{set_of};
+ghost use Rattle.rota_pb.specs.RunPorts.{reader_of};
+ghost use Rattle.rota_certificate.specs.CountedCharges.{IsPlanned, numbers_in, plan_from};
+ghost use Rattle.rota_certificate.specs.PeriodBounds.{AreGivenFor, IsPeriod};
+ghost use Rattle.rota_certificate.specs.Plans.{plan_cost};
+ghost use Rattle.rota_bound_run.specs.PeriodFiles.{AreRosters, each_of};
+ghost use Rattle.rota_bound_run.specs.PeriodSteps.{EndsAs};
+ghost use Rattle.rota_bound_run.specs.PlanJudged.{IsJudged, judge_all, judge_plan, meet_given};
+
+use crate::judged_week::judge_week;
+use crate::pasts::pasts_before;
+use rota_certificate::first_unmet;
+use rota_core::{Condition, Instance, Roster, Source};
+use rota_pb::PeriodFault;
+use std::alloc::Global;
+
+/// Rosters of the weeks that keep the hard rules, and the sum of their penalties.
+#[derive(Drop)]
+pub struct Judged {
+    pub rosters: Vec<Roster>,
+    pub penalty: u64,
+}
+
+// The rosters of the files, judged in the order of the weeks. The weeks are as before.
+fn judge_all<S: Source>(
+    alloc: Global,
+    weeks: &mut [Instance],
+    files: &mut [S],
+) -> Result<Judged, PeriodFault>
+    requires period { IsPeriod weeks.old }
+    requires count { length files.old ≡ length weeks.old }
+    requires some { 0 < length weeks.old }
+    ensures reads { EndsAs (λ judged. judged.rosters.items) (judge_all weeks.old (each_of (reader_of S.Source) files.old files.new)).ends result }
+    ensures planned { IfOk result (λ judged. IsPlanned weeks.old judged.rosters.items) }
+    ensures penalty { IfOk result (λ judged. judged.penalty ≡ plan_cost (plan_from weeks.old judged.rosters.items)) }
+    ensures same { weeks.new ≡ weeks.old }
+    ensures count { length files.new ≡ length files.old }
+{
+    let mut judged = Judged {
+        rosters: Vec::new(alloc),
+        penalty: 0,
+    };
+    let count = weeks.len();
+    let mut pasts = pasts_before(alloc, &weeks[0])?;
+    for index in 0..count {
+        match judge_week(alloc, &mut weeks[index], pasts, &mut files[index]) {
+            Ok(week) => {
+                judged.rosters.push(week.roster)?;
+                judged.penalty += week.penalty;
+                pasts = week.pasts;
+            }
+            Err(fault) => return Err(PeriodFault::in_week(count, index, fault)),
+        }
+    }
+    Ok(judged)
+}
+
+// The rosters, if they meet the given facts. `Unmet` with the first fact that they do not meet.
+fn meet_given(
+    weeks: &[Instance],
+    given: &[Condition],
+    judged: Judged,
+) -> Result<Judged, PeriodFault>
+    requires planned { IsPlanned weeks.now judged.rosters.items }
+    requires given { AreGivenFor weeks.now given.now }
+    requires penalty { judged.penalty ≡ plan_cost (plan_from weeks.now judged.rosters.items) }
+    ensures { (meet_given weeks.now given.now judged.rosters.items).ends result }
+{
+    match first_unmet(weeks, &judged.rosters, given) {
+        Some(index) => Err(PeriodFault::Unmet(index + 1)),
+        None => Ok(judged),
+    }
+}
+
+/// The rosters of the files, judged in the order of the weeks, if there are any. They must meet the given facts. The
+/// weeks are as before.
+pub(crate) fn judge_plan<S: Source>(
+    alloc: Global,
+    weeks: &mut [Instance],
+    given: &[Condition],
+    files: &mut [S],
+) -> Result<Option<Judged>, PeriodFault>
+    requires period { IsPeriod weeks.old }
+    requires given { AreGivenFor weeks.old given.now }
+    requires rosters { AreRosters (length weeks.old) files.old }
+    requires some { 0 < length weeks.old }
+    ensures reads { (judge_plan weeks.old given.now (each_of (reader_of S.Source) files.old files.new)).ends result }
+    ensures judged { IfOk result (λ found. IfSome found (IsJudged weeks.old given.now)) }
+    ensures same { weeks.new ≡ weeks.old }
+    ensures count { length files.new ≡ length files.old }
+{
+    if files.is_empty() {
+        return Ok(None);
+    }
+    let judged = judge_all(alloc, weeks, files)?;
+    Ok(Some(meet_given(weeks, given, judged)?))
+}

@@ -1,0 +1,56 @@
+//! The run that proves how good the plans of some weeks can be.
+ghost use Rattle.rota_pb.specs.RunPorts.{writer_of};
+ghost use Rattle.rota_bound_run.specs.Bounding.{bound_run};
+ghost use Rattle.rota_bound_run.specs.PeriodFiles.{AreFiles, SameFiles, readers_of};
+
+use crate::answer::answer_for;
+use crate::bound_text::write_answer;
+use crate::files::{PeriodFiles, Question};
+use crate::given_file::read_given;
+use crate::judged::judge_plan;
+use crate::proof_file::read_proof;
+use crate::ward::read_ward;
+use crate::weeks::read_weeks;
+use rota_core::{Source, Target};
+use rota_pb::PeriodFault;
+use std::alloc::Global;
+
+/// Reads the files of some weeks, and writes what the certificate proves about their plans: a lower bound of the
+/// penalty of all plans that keep H1 to H5 and meet the given facts; or, with `question.minimums`, whether no plan
+/// does so. If there are rosters, the sum of their penalties follows, and the line `optimal` if this is the bound.
+///
+/// The files are read in this order: the scenario, the history, then for each week its data and its held cells, the
+/// given facts, the certificate, and the roster of each week. A roster is judged before the next is read: the history
+/// of a later week is the one that the roster of the week before leaves.
+///
+/// Errors: `File` with the first fault of the first file that has one; `LateWeek` after the data of a week before
+/// which the scenario ends; `Limit` at line 0 of the history if a roster leaves a number beyond the limits of a
+/// history's file; `Breaks` with the first hard rule that a roster breaks; `Unmet` with the first given fact that the
+/// rosters do not meet; `Read` if a reader failed before it reported its end; `Memory`. Later readers are then not
+/// touched, and the writer is not called. `Write` if the writer failed: it got a prefix of the text.
+pub fn run_bound<S: Source, W: Target>(
+    alloc: Global,
+    question: Question,
+    files: &mut PeriodFiles<S>,
+    out: &mut W,
+) -> Result<(), PeriodFault>
+    requires files { AreFiles files.old }
+    ensures same { SameFiles files.old files.new }
+    ensures outcome { (bound_run question (readers_of S.Source files.old files.new) (writer_of W.Target out.old out.new)).ends result }
+{
+    let ward = read_ward(alloc, &mut files.scenario, &mut files.history)?;
+    let mut weeks = read_weeks(alloc, question.early, &ward, &mut files.weeks)?;
+    let count = weeks.len() as u8;
+    let given = read_given(alloc, &ward.scenario, count, &mut files.given)?;
+    let certificate = read_proof(alloc, &ward.scenario, count, &mut files.proof)?;
+    let judged = judge_plan(alloc, &mut weeks, &given, &mut files.rosters)?;
+    let answer = answer_for(
+        alloc,
+        &weeks,
+        &given,
+        &certificate,
+        question.minimums,
+        &judged,
+    )?;
+    Ok(write_answer(&answer, out)?)
+}

@@ -1,0 +1,92 @@
+-- What the certificate of a period proves.
+use Rattle.std.proofs.Common.{◌≡◌, ℕ, ◌*◌, ◌<◌, ◌≤◌, sym, subst, List, [], ◌∷◌, length, map, slice_index_or}
+use Rattle.std.specs.List.{AllByRecursion}
+use Rattle.std.proofs.lemmas.List.{length-map}
+use Rattle.rota_core.specs.Certificates.{AreConditionsFor, IsCertificateFor, IsFactFor, IsLeafFor, IsNodeFor}
+use Rattle.rota_core.specs.InstanceTables.{InstanceTables, problem_of}
+use Rattle.rota_core.specs.Limits.{max_number}
+use Rattle.rota_core.specs.Sizes.{Numbers}
+use Rattle.rota_core.specs.declared.certificate.Certificate.{Certificate}
+use Rattle.rota_core.specs.declared.certificate.Condition.{Condition}
+use Rattle.rota_core.specs.declared.certificate.Fact.{Fact}
+use Rattle.rota_core.specs.declared.certificate.Fact.TheVariants.{Charges, Choice, EvenShiftRuns, Nurses}
+use Rattle.rota_core.specs.declared.certificate.Node.{Node}
+use Rattle.rota_core.specs.declared.certificate.Node.TheVariants as nodes
+use Rattle.rota_certificate.specs.CaseLimits.{IsLimited}
+use Rattle.rota_certificate.specs.CertificateBounds.{HaveTables, lower_bound, minimums_bound}
+use Rattle.rota_certificate.specs.Facts.{Case}
+use Rattle.rota_certificate.specs.PeriodBounds.{AreGivenFor, AreOptimalAt, HaveNoPlan, IsForWeeks, IsPeriod, NoneCostLess}
+use Rattle.rota_certificate.specs.Plans.{plan_cost, plan_of}
+use Rattle.rota_certificate.proofs.CertificateSoundness.{lower_bound-sound, minimums-prove}
+use Rattle.rota_certificate.proofs.LeafStages.{all-map}
+use Rattle.rota_certificate.proofs.ListSteps.{each-at}
+use Rattle.rota_certificate.proofs.TreeSoundness.{PassesNode}
+
+-- ---- limits
+
+fact-limited : (numbers : Numbers) (weeks : ℕ) (fact : Fact) → IsFactFor numbers weeks fact → IsLimited fact
+fact-limited numbers weeks (Choice one) is = tt
+fact-limited numbers weeks (Nurses limit) is = is.most
+fact-limited numbers weeks (Charges limit) is = is.most
+fact-limited numbers weeks EvenShiftRuns is = tt
+
+pub given-limited : (numbers : Numbers) (weeks : ℕ) (given : Case) → AreConditionsFor numbers weeks given →
+    AllByRecursion (λ (one : Condition). IsLimited one.fact) given
+given-limited numbers weeks given are_for =
+    all-map (λ (one : Condition). IsFactFor numbers weeks one.fact) (λ (one : Condition). IsLimited one.fact) given
+    (λ one is. fact-limited numbers weeks one.fact is) are_for
+
+node-limited : (numbers : Numbers) (weeks prices : ℕ) (node : Node) → IsNodeFor numbers weeks prices node →
+    PassesNode IsLimited (IsLeafFor prices) node
+node-limited numbers weeks prices (nodes.Split fact) is = fact-limited numbers weeks fact is
+node-limited numbers weeks prices (nodes.Leaf leaf) is = is
+
+-- the fact of a split is limited, and a leaf has prices and limited surcharges
+pub node-at : (weeks : List InstanceTables) (certificate : Certificate) (i : ℕ) (node : Node) → IsForWeeks weeks certificate →
+    i < length certificate.nodes.items → node ≡ slice_index_or certificate.nodes.items i node →
+    PassesNode IsLimited (IsLeafFor (length certificate.prices.items)) node
+node-at [] certificate i node is_for inside is = absurd is_for
+node-at (first ∷ later) certificate i node is_for inside is =
+    let numbers = (problem_of first).numbers in
+    let prices = length certificate.prices.items in
+    node-limited numbers (length (first ∷ later)) prices node
+    (each-at (IsNodeFor numbers (length (first ∷ later)) prices) certificate.nodes.items i node is_for.nodes inside is)
+
+pub node-count : (weeks : List InstanceTables) (certificate : Certificate) → IsForWeeks weeks certificate →
+    length certificate.nodes.items ≤ 2 * max_number
+node-count [] certificate is_for = absurd is_for
+node-count (first ∷ later) certificate is_for = is_for.count
+
+-- ---- soundness
+
+module _ (given : Case) (certificate : Certificate) (tables : HaveTables certificate) where
+  pub none-cost_less : (weeks : List InstanceTables) → IsPeriod weeks → AreGivenFor weeks given → IsForWeeks weeks certificate →
+      NoneCostLess (map problem_of weeks) given (lower_bound (map problem_of weeks) given certificate)
+  none-cost_less [] period are_given is_for = absurd is_for
+  none-cost_less (first ∷ later) period are_given is_for =
+      let count = sym (length-map (first ∷ later) problem_of) in
+      λ rosters keep meet.
+      lower_bound-sound (problem_of first) (map problem_of later) given certificate rosters
+      (subst (λ (n : ℕ). IsCertificateFor (problem_of first) n certificate) count is_for) tables
+      (subst (λ (n : ℕ). AreConditionsFor (problem_of first).numbers n given) count are_given.each) period.period keep meet
+
+  pub have-no-plan : (weeks : List InstanceTables) → IsPeriod weeks → AreGivenFor weeks given → IsForWeeks weeks certificate →
+      0 < minimums_bound (map problem_of weeks) given certificate → HaveNoPlan (map problem_of weeks) given
+  have-no-plan [] period are_given is_for above = absurd is_for
+  have-no-plan (first ∷ later) period are_given is_for above =
+      let count = sym (length-map (first ∷ later) problem_of) in
+      λ rosters keep meet.
+      minimums-prove (problem_of first) (map problem_of later) given certificate rosters
+      (subst (λ (n : ℕ). IsCertificateFor (problem_of first) n certificate) count is_for) tables
+      (subst (λ (n : ℕ). AreConditionsFor (problem_of first).numbers n given) count are_given.each) period.period keep meet above
+
+pub are-optimal : (weeks : List InstanceTables) (given : Case) (points : ℕ) → NoneCostLess (map problem_of weeks) given points →
+    AreOptimalAt (map problem_of weeks) given points
+are-optimal weeks given points none =
+    λ rosters keep meet same.
+    record {
+      keep = keep;
+      meet = meet;
+      least = λ others keep_too meet_too.
+          subst (λ (cost : ℕ). cost ≤ plan_cost (plan_of (map problem_of weeks) others)) (sym same) (none others keep_too meet_too);
+    }

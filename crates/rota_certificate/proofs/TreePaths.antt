@@ -1,0 +1,154 @@
+-- Steps through a tree of cases.
+use Rattle.std.proofs.Common.{◌≡◌, ℕ, ◌+◌, ◌*◌, ◌<◌, ◌≤◌, Bool, true, false, refl, ap, sym, ◌∙◌, subst, cond, min, arith, List, [], ◌∷◌, ◌++◌, length, drop, reverse, slice_index_or}
+use Rattle.std.specs.Prelude.{Some, None}
+use Rattle.std.specs.Option.{option_map_or}
+use Rattle.std.specs.List.{AllByRecursion}
+use Rattle.std.proofs.lemmas.List.{drop_all, length-append, length-reverse, reverse-append, reverse-reverse}
+use Rattle.rota_core.specs.Limits.{max_number}
+use Rattle.rota_core.specs.declared.certificate.Condition.{Condition}
+use Rattle.rota_core.specs.declared.certificate.Fact.{Fact}
+use Rattle.rota_core.specs.declared.certificate.Leaf.{Leaf}
+use Rattle.rota_core.specs.declared.certificate.Node.{Node}
+use Rattle.rota_core.specs.declared.certificate.Node.TheVariants as nodes
+use Rattle.rota_certificate.specs.CaseLimits.{IsLimited, IsLimitedCase}
+use Rattle.rota_certificate.specs.CertificateBounds.{CasePath, case_of, least_bound, next_path, with, without}
+use Rattle.rota_certificate.specs.LeafBounds.{most_bound}
+use Rattle.rota_certificate.specs.Evidence.{IsShortPath}
+use Rattle.rota_certificate.proofs.ListSteps.{all-append, all-reverse, list-more}
+
+-- ---- the last condition of a path
+
+pub reverse-push : (items before : List Condition) (last : Condition) → items ≡ before ++ (last ∷ []) → reverse items ≡ (last ∷ reverse before)
+reverse-push items before last is = ap reverse is ∙ reverse-append before (last ∷ [])
+
+next-if : (path : CasePath) (last : Condition) → next_path (last ∷ path) ≡ cond last.holds (Some (without last.fact ∷ path)) (next_path path)
+unfolding next_path
+next-if path last = refl
+
+module _ (items before : List Condition) (last : Condition) (is : items ≡ before ++ (last ∷ [])) where
+  next-is : next_path (reverse items) ≡ cond last.holds (Some (without last.fact ∷ reverse before)) (next_path (reverse before))
+  next-is = ap next_path (reverse-push items before last is) ∙ next-if (reverse before) last
+
+  pub next-turned : last.holds ≡ true → next_path (reverse items) ≡ Some (without last.fact ∷ reverse before)
+  next-turned holds = next-is ∙ rw holds refl
+
+  pub next-after : last.holds ≡ false → next_path (reverse items) ≡ next_path (reverse before)
+  next-after fails = next-is ∙ rw fails refl
+
+-- nothing comes after the root's case
+pub next-of_root : (items : List Condition) → length items ≡ 0 → next_path (reverse items) ≡ None
+unfolding next_path
+next-of_root [] none = refl
+next-of_root (last ∷ items) none = absurd (omega (arith, none))
+
+-- ---- the conditions on a path
+
+short-at : (n : ℕ) (holds : Bool) (fact : Fact) (path next : CasePath) → cond holds (Some (without fact ∷ path)) (next_path path) ≡ Some next →
+    length path < n → IsLimited fact → AllByRecursion (λ one. IsLimited one.fact) path → (next_path path ≡ Some next → IsShortPath n next) → IsShortPath n next
+short-at n true fact path next is few here each rest =
+    let same : (without fact ∷ path) ≡ next = cc is in
+    subst (IsShortPath n) same (record { few = omega (arith, few); each = (here, each) })
+short-at n false fact path next is few here each rest = rest is
+
+pub next-short : (n : ℕ) (path next : CasePath) → next_path path ≡ Some next → length path ≤ n → AllByRecursion (λ one. IsLimited one.fact) path →
+    IsShortPath n next
+unfolding next_path
+next-short n [] next is few each = absurd (cc is)
+next-short n (last ∷ path) next is few each =
+    short-at n last.holds last.fact path next is (omega (arith, few)) each.0 each.1
+    (λ same. next-short n path next same (omega (arith, few)) each.1)
+
+-- ---- the nodes from an index on
+
+module _ (bound : CasePath → Leaf → ℕ) (path : CasePath) (tree : List Node) (i : ℕ) (node : Node) (inside : i < length tree)
+    (is : node ≡ slice_index_or tree i node) where
+  least-node : least_bound bound path (drop i tree) ≡ least_bound bound path (node ∷ drop (i + 1) tree)
+  least-node = ap (least_bound bound path) (list-more tree i node inside is)
+
+  pub least-split : (fact : Fact) → node ≡ nodes.Split fact →
+      least_bound bound path (drop i tree) ≡ least_bound bound (with fact ∷ path) (drop (i + 1) tree)
+  unfolding least_bound
+  least-split fact split = least-node ∙ ap (λ (one : Node). least_bound bound path (one ∷ drop (i + 1) tree)) split
+
+  least-leaf : (leaf : Leaf) → node ≡ nodes.Leaf leaf → least_bound bound path (drop i tree) ≡
+      option_map_or (λ next. min (bound path leaf) (least_bound bound next (drop (i + 1) tree))) (next_path path) (bound path leaf)
+  unfolding least_bound
+  least-leaf leaf is_leaf = least-node ∙ ap (λ (one : Node). least_bound bound path (one ∷ drop (i + 1) tree)) is_leaf
+
+  pub least-later : (leaf : Leaf) (next : CasePath) → node ≡ nodes.Leaf leaf → next_path path ≡ Some next →
+      least_bound bound path (drop i tree) ≡ min (bound path leaf) (least_bound bound next (drop (i + 1) tree))
+  least-later leaf next is_leaf later = least-leaf leaf is_leaf ∙ rw later refl
+
+  pub least-last : (leaf : Leaf) → node ≡ nodes.Leaf leaf → next_path path ≡ None → least_bound bound path (drop i tree) ≡ bound path leaf
+  least-last leaf is_leaf none = least-leaf leaf is_leaf ∙ rw none refl
+
+pub least-end : (bound : CasePath → Leaf → ℕ) (path : CasePath) (tree : List Node) (i : ℕ) → length tree ≤ i → least_bound bound path (drop i tree) ≡ 0
+unfolding least_bound
+least-end bound path tree i past = ap (least_bound bound path) (drop_all i tree past)
+
+-- ---- the case of a path
+
+-- the conditions of the path from the root on, then the given ones
+pub case-forward : (items given : List Condition) → case_of (reverse items) given ≡ items ++ given
+case-forward items given = ap (λ (path : List Condition). path ++ given) (reverse-reverse items)
+
+-- the path of a vector's conditions stays short at the next case
+pub path-short : (most : ℕ) (items after : List Condition) → next_path (reverse items) ≡ Some (reverse after) → IsShortPath most items → IsShortPath most after
+path-short most items after next path =
+    let ahead = next-short most (reverse items) (reverse after) next (omega (arith, length-reverse items, path.few))
+    (all-reverse (λ (one : Condition). IsLimited one.fact) items path.each) in
+    record {
+      few = omega (arith, length-reverse after, ahead.few);
+      each = subst (AllByRecursion (λ (one : Condition). IsLimited one.fact)) (reverse-reverse after)
+          (all-reverse (λ (one : Condition). IsLimited one.fact) (reverse after) ahead.each);
+    }
+
+-- a case has no more conditions than its certificate and its file of given conditions allow
+pub case-limited : (items given : List Condition) → IsShortPath (2 * max_number) items → length given ≤ max_number →
+    AllByRecursion (λ (one : Condition). IsLimited one.fact) given → IsLimitedCase (items ++ given)
+case-limited items given path few each = record {
+  few = omega (arith, length-append items given, path.few, few);
+  each = all-append (λ (one : Condition). IsLimited one.fact) items given path.each each;
+}
+
+-- ---- the search for the minimum
+
+-- before the node with this index, these are the minimum so far and the conditions of the path
+pub record IsSearched (bound : CasePath → Leaf → ℕ) (tree : List Node) (i least : ℕ) (items : List Condition) : Type 0 where
+  pub minimum : min least (least_bound bound (reverse items) (drop i tree)) ≡ min 18446744073709551615 (least_bound bound [] tree)
+  pub path : IsShortPath i items
+
+module _ (bound : CasePath → Leaf → ℕ) (tree : List Node) (i least : ℕ) (items : List Condition) (node : Node) (inside : i < length tree)
+    (is : node ≡ slice_index_or tree i node) (searched : IsSearched bound tree i least items) where
+  pub after-split : (fact : Fact) (after : List Condition) → node ≡ nodes.Split fact → IsLimited fact → after ≡ items ++ (with fact ∷ []) →
+      IsSearched bound tree (i + 1) least after
+  after-split fact after split limited pushed =
+      let same = least-split bound (reverse items) tree i node inside is fact split ∙
+      ap (λ (path : CasePath). least_bound bound path (drop (i + 1) tree)) (sym (reverse-push after items (with fact) pushed)) in
+      record {
+        minimum = ap (min least) (sym same) ∙ searched.minimum;
+        path = record {
+          few = omega (arith, ap length pushed, length-append items (with fact ∷ []), searched.path.few);
+          each = subst (AllByRecursion (λ (one : Condition). IsLimited one.fact)) (sym pushed)
+              (all-append (λ (one : Condition). IsLimited one.fact) items (with fact ∷ []) searched.path.each (limited, tt));
+        };
+      }
+
+  pub after-leaf : (leaf : Leaf) (after : List Condition) (found : ℕ) → node ≡ nodes.Leaf leaf → next_path (reverse items) ≡ Some (reverse after) →
+      found ≡ bound (reverse items) leaf → IsSearched bound tree (i + 1) (min least found) after
+  after-leaf leaf after found is_leaf next is_bound =
+      let same = least-later bound (reverse items) tree i node inside is leaf (reverse after) is_leaf next in
+      let short = path-short i items after next searched.path in
+      record {
+        minimum = omega (arith, same, is_bound, searched.minimum);
+        path = record { few = omega (arith, short.few); each = short.each };
+      }
+
+  pub at-last : (leaf : Leaf) (found : ℕ) → node ≡ nodes.Leaf leaf → next_path (reverse items) ≡ None → found ≡ bound (reverse items) leaf →
+      found ≤ most_bound → min least found ≡ least_bound bound [] tree
+  at-last leaf found is_leaf none is_bound small =
+      omega (arith, least-last bound (reverse items) tree i node inside is leaf is_leaf none, is_bound, searched.minimum, small)
+
+pub at-end : (bound : CasePath → Leaf → ℕ) (tree : List Node) (i least : ℕ) (items : List Condition) → length tree ≤ i →
+    IsSearched bound tree i least items → 0 ≡ least_bound bound [] tree
+at-end bound tree i least items past searched = omega (arith, least-end bound (reverse items) tree i past, searched.minimum)

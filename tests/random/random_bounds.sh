@@ -1,0 +1,13 @@
+#!/usr/bin/env bash
+# Compares `inrc2pb-bound` with all plans of tiny periods, under certificates and facts of all kinds. The plans and the bounds are
+# computed in plain Python from docs/rules.md and docs/formats.md, without the helpers' rules.
+#
+#   tests/random/random_bounds.sh [llvm | rattle | PROGRAM]
+#
+# Needs Python 3.8.
+. "$(dirname "$0")/../kit/kit.sh"
+needs_bound
+
+begins_case 'all plans of tiny periods'
+tests/random/every_plan.py "$bound" || complain 'tests/random/every_plan.py fails'
+finish
