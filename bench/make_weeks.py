@@ -14,6 +14,7 @@ ask for three quarters of that demand. Needs Python 3.8 or later.
 import argparse
 import itertools
 import sys
+from dataclasses import replace
 from pathlib import Path
 from typing import Callable, Dict, Iterator, List, Sequence, TypeVar
 
@@ -158,6 +159,24 @@ def month(folder: Path) -> None:
     weeks = {f"week-{number}.txt": week_text(week_of_ward(ward, numbers)) for number in range(WEEKS)}
     past = history_text(first_history(ward, numbers))
     write(folder / ward.name, {"ward.txt": scenario_text(ward), "history-0.txt": past, **weeks})
+
+
+def period(folder: Path, name: str, count: int, weeks: int, percent: int, seed: int) -> None:
+    """All weeks of a period of four or eight weeks of a ward with this number of nurses; totals are for the whole period."""
+    numbers, times = Numbers(seed), weeks // WEEKS
+    for _ in range(8):
+        numbers.below(1)
+    ward = scenario(name, nurses_of_ward(count))
+    contracts = {
+        contract.name: replace(
+            contract, assignments=Limits(times * contract.assignments.minimum, times * contract.assignments.maximum),
+            max_weekends=times * contract.max_weekends,
+        )
+        for contract in CONTRACTS
+    }
+    ward = replace(ward, weeks=weeks, contracts=contracts)
+    texts = {f"week-{number}.txt": week_text(week_of_ward(ward, numbers, percent)) for number in range(weeks)}
+    write(folder / name, {"ward.txt": scenario_text(ward), "history-0.txt": history_text(first_history(ward, numbers)), **texts})
 
 
 def short_of_heads(folder: Path) -> None:

@@ -67,14 +67,14 @@ def main() -> None:
     )
     options.add_argument("--wide", type=int, metavar="PERCENT", help="weeks with many shift types and skills, and this demand")
     given = options.parse_args()
-    if find_prover(PROVER) is None:
+    if find_prover() is None:
         sys.exit(f"random_weeks.py: there is no {PROVER} beside inrc2pb: type make")
     proved, by_clock, by_processor = 0, 0, 0
     print("  seed nurses week  penalty    bound  gap %  best      seconds  of processors", flush=True)
     for seed in range(given.first, given.first + given.count):
         with tempfile.TemporaryDirectory() as room:
             files = wide_week(Path(room), seed, given.wide) if given.wide else random_week(Path(room), seed)
-            ran = solvers.run(files, given.time, Path(room))
+            ran = solvers.run(solvers.Work(files.scenario, files.history, [files.week], given.time), Path(room))
             nurses = files.scenario.read_text().partition("NURSES = ")[2].split()[0]
         is_proved = ran.proved == "yes" and ran.by == PROVER
         proved += is_proved

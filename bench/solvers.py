@@ -1,9 +1,9 @@
 #!/usr/bin/env python3
-"""Lets `inrc2pb-improve` plan some weeks from nothing, one after another, and writes what it found to docs/solvers.md.
+"""Plans some weeks and periods from nothing, one after another, and writes what was found to docs/solvers.md.
 
     bench/solvers.py [--time SECONDS] [--only-print] [NAME ..]
 
-Without names all weeks are planned, in a few minutes. The program is out/inrc2pb, or the one that INRC2PB names.
+Without names all are planned, in about fifteen minutes. The program is out/inrc2pb, or the one that INRC2PB names.
 """
 
 import argparse
@@ -16,12 +16,15 @@ import tempfile
 import time
 from dataclasses import replace
 from pathlib import Path
-from typing import Dict, List, NamedTuple
+from typing import Dict, List, NamedTuple, Sequence, Tuple
 
 ROOT = Path(__file__).resolve().parents[1]
-sys.path.insert(0, str(ROOT / "helpers"))
+sys.path[:0] = [str(ROOT / "helpers"), str(ROOT / "bench")]
 
-from inrc2pb.programs.program import WeekFiles  # noqa: E402
+import make_weeks  # noqa: E402
+from inrc2pb.programs.program import WeekFiles, penalty_of, run_program  # noqa: E402
+from inrc2pb.search.bounds import PROOF, find_prover  # noqa: E402
+from inrc2pb.week.faults import ProgramFault  # noqa: E402
 
 PAGE = ROOT / "docs" / "solvers.md"
 BEGIN, END = "<!-- measured -->", "<!-- end of measured -->"
@@ -31,11 +34,32 @@ LAST_WEEKS = {"last12": 3, "last60": 3, "last120": 3, "second60": 1, "second120"
 LARGE = (250, 500, 1000)
 # The nurses of wide weeks, the number of their shift types and skills, and the seed.
 WIDE = ((100, 8, 1),)
+# Periods: the nurses, weeks, percentage of the demand, seed, and the most seconds.
+PERIODS = {
+    "p12w4": (12, 4, 100, 501, 120), "p20w4": (20, 4, 90, 502, 120), "p40w4": (40, 4, 100, 503, 120), "p60w4": (60, 4, 95, 504, 120),
+    "p16w8": (16, 8, 100, 505, 300), "p30w8": (30, 8, 95, 506, 300),
+}  # fmt: skip
+MONTH_SECONDS = 300
+
+
+class Work(NamedTuple):
+    """The files of a week or of a period, whose first history has the number `first`, and the most seconds of a run."""
+
+    scenario: Path
+    history: Path
+    weeks: Sequence[Path]
+    seconds: float
+    first: int = 0
+
+    def options(self) -> List[str]:
+        """The files as options of the helpers and of `inrc2pb-bound`."""
+        words = ["--sce", str(self.scenario), "--his", str(self.history)]
+        return words + [word for week in self.weeks for word in ("--week", str(week))]
 
 
 class Run(NamedTuple):
-    """What a run printed last, its seconds by the clock and of processors, its memory in MB, whether its result is proved or claimed, and
-    what proved or computed its bound."""
+    """The penalty of the rosters, as `inrc2pb extend` has it, and the lower bound; whether the plan is proved or claimed to be the best
+    one; the seconds by the clock and of processors, the memory in MB, and what proved or computed the bound."""
 
     penalty: str
     bound: str
@@ -44,6 +68,26 @@ class Run(NamedTuple):
     processor: float
     memory: int
     by: str
+
+
+def works(folder: Path, seconds: float) -> Dict[str, Work]:
+    """All weeks and periods by the names in the table. Weeks have these seconds."""
+    found = {name: Work(files.scenario, files.history, [files.week], seconds) for name, files in weeks(folder).items()}
+    return {**found, **periods(folder)}
+
+
+def periods(folder: Path) -> Dict[str, Work]:
+    """The files of all periods."""
+    found = {"month": period_in(EXAMPLES / "month", MONTH_SECONDS)}
+    for name, (nurses, number, percent, seed, seconds) in PERIODS.items():
+        make_weeks.period(folder, name, nurses, number, percent, seed)
+        found[f"{nurses} nurses, {number} weeks"] = period_in(folder / name, seconds)
+    return found
+
+
+def period_in(home: Path, seconds: float) -> Work:
+    """The period of all weeks of a folder."""
+    return Work(home / "ward.txt", home / "history-0.txt", sorted(home.glob("week-*.txt")), seconds)
 
 
 def weeks(folder: Path) -> Dict[str, WeekFiles]:
@@ -74,29 +118,50 @@ def named(home: Path, name: str, number: int) -> WeekFiles:
     return WeekFiles(home / "ward.txt", home / f"history-{number}.txt", home / f"week-{number}.txt")
 
 
-def run(files: WeekFiles, seconds: float, folder: Path) -> Run:
-    """Plans the week from nothing."""
-    words = [
-        sys.executable, str(ROOT / "helpers/inrc2pb-improve"), *files.options(), "--sol", str(folder / "roster.txt"), "--time",
-        str(seconds),
-    ]
+def run(work: Work, folder: Path, seed: int = 1) -> Run:
+    """Plans a week or a period from nothing in this folder. Its rosters are checked by `inrc2pb`, and the bound is that of `inrc2pb-bound`
+    by the certificate, if there is such a program."""
+    is_week, proof = len(work.weeks) == 1, folder / "certificate.txt"
+    helper, target = ("improve", ["--sol", str(folder / "roster-0.txt")]) if is_week else ("period", ["--out", str(folder)])
+    limits = ["--time", f"{work.seconds / len(work.weeks):g}", "--seed", str(seed), "--proof", str(proof)]
+    for old in (*folder.glob("roster-*.txt"), proof):
+        old.unlink(missing_ok=True)
     began = time.monotonic()
     with open(folder / "said.txt", "w+") as said:
-        improve = subprocess.Popen(words, stdout=said, stderr=subprocess.STDOUT)
-        _, _, used = os.wait4(improve.pid, 0)
+        words = [sys.executable, str(ROOT / f"helpers/inrc2pb-{helper}"), *work.options(), *target, *limits]
+        running = subprocess.Popen(words, stdout=said, stderr=subprocess.STDOUT)
+        _, _, used = os.wait4(running.pid, 0)
         took = time.monotonic() - began
         said.seek(0)
         text = said.read()
-    none = re.search(r"no roster keeps the hard rules", text)
-    penalty, bound = (re.search(rf"^{what} ([0-9]+)", text, re.MULTILINE) for what in ("penalty", "lower bound"))
-    claim = re.search(r"^no roster costs less(?:, says (.*))?", text, re.MULTILINE)
-    by = re.search(r"(?:^lower bound [0-9]+|no roster keeps the hard rules) \((.*?)\)", text, re.MULTILINE)
+    none = re.search(r"no rosters? keeps? the hard rules", text)
+    penalty, bound, proved, by = checked(work, folder, text)
     return Run(
-        "none exists" if none else penalty[1] if penalty else "none",
-        bound[1] if bound else "",
-        f"says {claim[1]}" if claim and claim[1] else "yes" if claim or none else "no",
-        took, used.ru_utime + used.ru_stime, used.ru_maxrss >> 10, by[1] if by else "",
+        "none exists" if none else penalty, bound, "yes" if none else proved, took, used.ru_utime + used.ru_stime, used.ru_maxrss >> 10, by,
     )  # fmt: skip
+
+
+def checked(work: Work, folder: Path, said: str) -> Tuple[str, str, str, str]:
+    """The penalty of the rosters of a folder, the lower bound, whether no plan costs less, and what proved or computed the bound."""
+    rosters = [folder / f"roster-{number}.txt" for number in range(len(work.weeks))]
+    if not all(roster.exists() for roster in rosters):
+        return "none", "", "no", ""
+    histories = [work.history, *(folder / f"history-{number}.txt" for number in range(1, len(work.weeks)))]
+    penalty = sum(penalty_of(WeekFiles(work.scenario, *of_week[:2]), of_week[2]) for of_week in zip(histories, work.weeks, rosters))
+    line = re.search(r"^lower bound ([0-9]+)[^(]*\((.*?)\)", said, re.MULTILINE)
+    bound, by = (line[1], line[2]) if line else ("", "")
+    prover = find_prover()
+    if prover and PROOF in run_program("--help", program=prover):
+        given = [word for roster in rosters for word in ("--roster", str(roster))]
+        try:
+            answer = run_program(*work.options(), PROOF, str(folder / "certificate.txt"), *given, program=prover)
+            bound, by = answer.split()[2], prover.name
+            assert f"penalty {penalty}\n" in answer
+        except ProgramFault as fault:
+            by = f"{prover.name}: {fault.message}"
+    claim = re.search(r"no roster costs less, says (.*?)(?:;|$)", said, re.MULTILINE)
+    is_proved = bool(bound) and int(bound) >= penalty
+    return str(penalty), bound, "yes" if is_proved else f"says {claim[1]}" if claim else "no", by
 
 
 def machine() -> str:
@@ -108,7 +173,7 @@ def machine() -> str:
 
 def table(runs: Dict[str, Run]) -> str:
     """The table of these runs."""
-    lines = ["| week | penalty | lower bound | the best | seconds | of processors | MB |", "|---|---:|---:|---|---:|---:|---:|"]
+    lines = ["| week or period | penalty | lower bound | the best | seconds | of processors | MB |", "|---|---:|---:|---|---:|---:|---:|"]
     for name, run in runs.items():
         lines.append(f"| `{name}` | {run.penalty} | {run.bound} | {run.proved} | {run.seconds:.1f} | {run.processor:.1f} | {run.memory} |")
     return "\n".join(lines)
@@ -121,18 +186,19 @@ def write_page(text: str) -> None:
 
 
 def main() -> None:
-    """Plans the weeks."""
+    """Plans the weeks and periods."""
     options = argparse.ArgumentParser(description=__doc__, formatter_class=argparse.RawDescriptionHelpFormatter)
-    options.add_argument("names", nargs="*", metavar="NAME", help="only these weeks")
-    options.add_argument("--time", type=float, default=120, metavar="SECONDS", help="the most seconds of a run (default: 120)")
+    options.add_argument("names", nargs="*", metavar="NAME", help="only these weeks and periods")
+    options.add_argument("--time", type=float, default=120, metavar="SECONDS", help="the most seconds for a week (default: 120)")
     options.add_argument("--only-print", action="store_true", help="leave the page as it is")
     given = options.parse_args()
     runs: Dict[str, Run] = {}
     with tempfile.TemporaryDirectory() as room:
-        all_weeks = weeks(Path(room))
-        chosen: List[str] = given.names or list(all_weeks)
+        found, folder = works(Path(room), given.time), Path(room, "plan")
+        folder.mkdir()
+        chosen: List[str] = given.names or list(found)
         for name in chosen:
-            runs[name] = run(all_weeks[name], given.time, Path(room))
+            runs[name] = run(found[name], folder)
             print(f"{name}: {runs[name]}", flush=True)
     text = f"Measured on {machine()}.\n\n{table(runs)}"
     if given.only_print:

@@ -127,7 +127,7 @@ class Period:
     def __init__(self, scenario: Scenario, history: History, weeks: List[WeekData], early: bool = False) -> None:
         self.scenario, self.history, self.weeks, self.early = scenario, history, weeks, early
         self.choices = [None, *scenario.shift_types]
-        self._alone = {nurse: replace(scenario, nurses={nurse: of}) for nurse, of in scenario.nurses.items()}
+        self._alone = {name: replace(scenario, nurses={name: nurse}) for name, nurse in scenario.nurses.items()}
         self._known: Dict[tuple, tuple] = {}
 
     def week_of(self, nurse: str, number: int, past: tuple, choices: Tuple[Optional[str], ...]) -> Optional[tuple]:
@@ -140,7 +140,7 @@ class Period:
     def _week_of(self, nurse: str, number: int, past, choices) -> Optional[tuple]:
         skill = (self.scenario.nurses[nurse].skills or ("",))[0]
         cells = [Cell(nurse, day, shift, skill) for day, shift in enumerate(choices) if shift]
-        data = WeekData("", {}, tuple(of for of in self.weeks[number].requests if of.nurse == nurse))
+        data = WeekData("", {}, tuple(request for request in self.weeks[number].requests if request.nurse == nurse))
         week = Week(self._alone[nurse], History(self.history.week + number, self.history.scenario, {nurse: past}), data)
         if "H3" in broken(week, cells):
             return None
@@ -171,31 +171,31 @@ def _weights(leaf: Leaf) -> Tuple[Dict[tuple, int], int, "set[tuple]"]:
     gains, never = 0, set()
     for ((kind, *words), holds), surcharge in itertools.zip_longest(leaf.case, leaf.surcharges[: len(leaf.case)], fillvalue=0):
         if kind == "EVEN" and not holds:
-            of, number = ("SHIFT_RUNS", None), 1
+            counted, number = ("SHIFT_RUNS", None), 1
         elif kind == "CHARGES":
-            of, most = (words[0], words[2] if words[1] == "NURSE" else None), int(words[-1])
+            counted, most = (words[0], words[2] if words[1] == "NURSE" else None), int(words[-1])
             number = -most if holds else most + 1
             if holds and most == 0:
-                never.add(of)
+                never.add(counted)
         else:
             continue
-        changes[of] = changes.get(of, 0) + (surcharge if number <= 0 else -surcharge)
+        changes[counted] = changes.get(counted, 0) + (surcharge if number <= 0 else -surcharge)
         gains += surcharge * number
     return changes, gains, never
 
 
-def _least(period: Period, leaf: Leaf, nurse: str, changes: Dict[tuple, int], never: "set[tuple]") -> int:
-    """The least that a nurse costs less what she earns, in thousandths."""
+def _minimum(period: Period, leaf: Leaf, nurse: str, changes: Dict[tuple, int], never: "set[tuple]") -> int:
+    """The minimum that a nurse costs less what she earns, in thousandths."""
     forbidden, skills = _forbidden(period, leaf, nurse), period.scenario.nurses[nurse].skills
-    added = [sum(changes.get((kind, of), 0) for of in (None, nurse)) for kind in KINDS]
-    banned = [any((kind, of) in never for of in (None, nurse)) for kind in KINDS]
+    added = [sum(changes.get((kind, who), 0) for who in (None, nurse)) for kind in KINDS]
+    banned = [any((kind, who) in never for who in (None, nurse)) for kind in KINDS]
     layer = {period.history.nurses[nurse]: 0}
     for number in range(len(period.weeks)):
         later: Dict[object, int] = {}
         days = [[one for one in period.choices if (7 * number + day, one) not in forbidden and (one is None or skills)] for day in range(7)]
         for choices in itertools.product(*days):
-            at = [(7 * number + day, one) for day, one in enumerate(choices) if one]
-            earned = sum(max(leaf.prices.get(Place(*of, skill), 0) for skill in skills) for of in at)
+            worked = [(7 * number + day, one) for day, one in enumerate(choices) if one]
+            earned = sum(max(leaf.prices.get(Place(day, one, skill), 0) for skill in skills) for day, one in worked)
             for past, before in layer.items():
                 found = period.week_of(nurse, number, past, choices)
                 if found is None or any(ban and count for ban, count in zip(banned, found[1])):
@@ -211,13 +211,13 @@ def _asked(period: Period, leaf: Leaf) -> Tuple[Dict[Place, Requirement], int, b
     asked: Dict[Place, Requirement] = {}
     given_up, none = 0, False
     for number, week in enumerate(period.weeks):
-        for place, of in week.requirements.items():
-            asked[place._replace(day=7 * number + place.day)] = Requirement(of.minimum, max(of.minimum, of.optimal))
+        for place, one in week.requirements.items():
+            asked[place._replace(day=7 * number + place.day)] = Requirement(one.minimum, max(one.minimum, one.optimal))
     for (kind, *words), holds in leaf.case:
         if kind == "PLACE":
             place, most = Place(7 * (int(words[0]) - 1) + DAYS.index(words[1]), words[2], words[3]), int(words[4])
-            of = asked.get(place, Requirement(0, 0))
-            least, best = of.minimum, of.optimal
+            present = asked.get(place, Requirement(0, 0))
+            least, best = present.minimum, present.optimal
             if holds:
                 none = none or most < least
                 given_up += max(0, best - most)
@@ -236,13 +236,13 @@ def leaf_bound(period: Period, leaf: Leaf) -> int:
     if any(WEIGHTS[kind] * POINT + change < 0 for kind, change in lowest.items()):
         return 0
     asked, given_up, none = _asked(period, leaf)
-    values = [_least(period, leaf, nurse, changes, never) for nurse in nurses]
+    values = [_minimum(period, leaf, nurse, changes, never) for nurse in nurses]
     if none or NEVER in values:
         return NEVER
     total = sum(values) + gains + MISSING * POINT * given_up
-    for place, of in asked.items():
+    for place, one in asked.items():
         price = leaf.prices.get(place, 0)
-        total += of.minimum * price + (of.optimal - of.minimum) * min(MISSING * POINT, price)
+        total += one.minimum * price + (one.optimal - one.minimum) * min(MISSING * POINT, price)
     points = 5 * -(-max(0, total) // (5 * POINT))
     for literal in leaf.case:
         if literal.words == ("EVEN",):

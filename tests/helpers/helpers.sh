@@ -29,7 +29,7 @@ checks_types() {
     has mypy || return
     begins_case 'the types of the helpers'
     {
-        types_hold helpers/inrc2pb && types_hold bench/*.py
+        types_hold helpers/inrc2pb && types_hold bench/*.py build.py
     } || complain "$(head -n 20 "$out")"
 }
 
@@ -83,13 +83,19 @@ imports_go_one_way() {
 
 lines_are_short() {
     begins_case 'lines of Python of at most 140 columns'
-    find bench completions helpers -name '*.py' -exec awk 'length($0) > 140 { print FILENAME ":" FNR }' {} + > "$out"
+    find build.py bench completions helpers -name '*.py' -exec awk 'length($0) > 140 { print FILENAME ":" FNR }' {} + > "$out"
     [ ! -s "$out" ] || complain "$(head -n 20 "$out")"
+}
+
+variables_have_names() {
+    begins_case 'the names of variables in Python'
+    tests/helpers/names.py > "$out" || complain "$(head -n 20 "$out")"
 }
 
 run_tests
 checks_types
 imports_go_one_way
+variables_have_names
 lines_are_short
 begins_case 'the readers find the same faults in changed files'
 tests/random/changed_tokens.py > "$room/out" || complain "$(cat "$room/out")"

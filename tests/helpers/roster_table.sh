@@ -1,6 +1,6 @@
 #!/usr/bin/env bash
 # Runs helpers/inrc2pb-table on the roster of examples/n005w4: held cells, requests that were not granted, the costs of the
-# nurses and the report of `decode`, the picture, the spreadsheet, and colors in a terminal only.
+# nurses and the report of `decode`, the spreadsheet, and colors in a terminal only.
 #
 #   tests/helpers/roster_table.sh [llvm | rattle | PROGRAM]
 #
@@ -68,13 +68,6 @@ shows "${week[@]}" --fix promised.txt --csv held.txt
 has_part 'Late Nurse *'
 adds_up
 
-begins_case 'the picture'
-shows "${week[@]}" --fix promised.txt --svg held.txt
-has_part 'prefers-color-scheme: dark'
-has_part 'class="frame"'
-has_part 'Late Nu*'
-has_part 'He = HeadNurse  Nu = Nurse'
-python3 -c 'import xml.dom.minidom; xml.dom.minidom.parse("out")' || complain 'it is no XML'
 begins_case 'files of two weeks'
 sed 's/Patrick/Paul/' plain.txt > other.txt
 "$table" "${week[@]}" other.txt > out 2> err && complain 'no fault is told'

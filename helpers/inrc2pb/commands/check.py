@@ -20,7 +20,7 @@ from ..judging.odd_values import IMPOSSIBLE, history_warnings, scenario_warnings
 from ..programs.program import BROKEN_RULE, FAULT, NO_PROGRAM, answer_with, encode
 from ..judging.rules import first_broken
 from ..week.targets import check_no_pipes
-from ..shown.telling import held_sentences, history_sentences, scenario_sentences, week_sentences
+from ..shown.telling import held_sentences, history_sentences, limit_sentences, scenario_sentences, week_sentences
 from ..search.why_none import why_none
 
 Contents = TypeVar("Contents")
@@ -122,7 +122,7 @@ class Check:
         """Prints the files in sentences."""
         lines = [*scenario_sentences(scenario), ""]
         lines += [*history_sentences(history), ""] if history else []
-        lines += [*week_sentences(scenario, history, data), ""] if data else []
+        lines += [*week_sentences(scenario, history, data), *limit_sentences(scenario, data), ""] if data else []
         lines += [*held_sentences(held), ""] if held else []
         print(readable("\n".join(lines)))
 

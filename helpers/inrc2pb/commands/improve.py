@@ -31,7 +31,7 @@ def _options() -> argparse.ArgumentParser:
         "--time", metavar="SECONDS", type=number_of_seconds, default=SECONDS, help="the most seconds to search (default: %(default).0f)"
     )
     options.add_argument(
-        "--prices", metavar="FILE", type=Path, help="the file for the prices, or the cases, that prove the lower bound, for inrc2pb-bound"
+        "--proof", metavar="FILE", type=Path, help="the file for the certificate of the lower bound, for inrc2pb-bound"
     )
     add_seed_option(options)
     add_solver_option(options)
@@ -44,7 +44,7 @@ def main(words: Optional[List[str]] = None) -> None:
     check_seconds(given.time, "--time")
     with interrupts():
         progress = Progress(sys.stderr)
-        outcome = search(week_files(given), given.sol, given.start, given.time, given.solver, given.prices, progress, given.seed)
+        outcome = search(week_files(given), given.sol, given.start, given.time, given.solver, given.proof, progress, given.seed)
         print(outcome.report.text, end="")
         print("\n".join(outcome.lines()), flush=True)
         if outcome.fault:

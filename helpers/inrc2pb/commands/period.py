@@ -18,19 +18,19 @@ from ..search.improving import search
 from ..programs.interrupts import Interrupts, interrupts
 from ..judging.next_history import next_history
 from ..search.period_search import PeriodSearch
-from ..search.planned_weeks import PeriodFiles, PlannedWeeks, WrittenWeek, history_name, prices_name, roster_name
+from ..search.planned_weeks import PeriodFiles, PlannedWeeks, WrittenWeek, history_name, roster_name
 from ..programs.program import SOFT_RULES, Report, extend, find_program
 from ..programs.progress import Progress
 from ..solvers.solvers import find_solver
-from ..week.targets import check_inputs_stay, check_no_pipes
+from ..week.targets import check_inputs_stay, check_no_pipe_is_written, check_no_pipes, check_target
 
 
 class Period:
-    """A period that is planned: its reports by week, in order, and the lines about its lower bound. `prices` is the folder for the prices
+    """A period that is planned: its reports by week, in order, and the lines about its lower bound. `proof` is the file for the certificate
     of the bound, if any; the `seed` begins the random choices of the search."""
 
-    def __init__(self, files: PeriodFiles, folder: Path, prices: Optional[Path] = None, seed: int = 1) -> None:
-        self.folder, self.prices, self.progress, self._seed = folder, prices, Progress(sys.stderr), seed
+    def __init__(self, files: PeriodFiles, folder: Path, proof: Optional[Path] = None, seed: int = 1) -> None:
+        self.folder, self._proof, self.progress, self._seed = folder, proof, Progress(sys.stderr), seed
         check_no_pipes(files.all())
         self.weeks = PlannedWeeks(files)
         self.numbers = self.weeks.numbers
@@ -41,18 +41,17 @@ class Period:
             # Files of an earlier run may be replaced.
             check_inputs_stay(files.all(), folder / roster_name(number), f"the roster of week {number}", "folder")
             check_inputs_stay(files.all(), folder / history_name(number + 1), f"the history of week {number + 1}", "folder")
-            if prices:
-                check_inputs_stay(files.all(), prices / prices_name(number), f"the prices of week {number}", "folder")
         find_program()
-        for path in (folder, prices):
-            if path:
-                _make_folder(path)
+        if proof:
+            check_no_pipe_is_written(proof)
+            check_target(proof)
+            check_inputs_stay(files.all(), proof, "the certificate")
+        _make_folder(folder)
 
     def name_replaced(self) -> None:
         """Says which files of an earlier run get new contents."""
         later = [number + 1 for number in self.numbers if number + 1 < self.weeks.scenario.weeks]
         written = [self.folder / name for name in (*map(roster_name, self.numbers), *map(history_name, later))]
-        written += [self.prices / prices_name(number) for number in self.numbers if self.prices]
         old = [str(path) for path in written if path.exists()]
         if old:
             _say(f"files that are replaced: {', '.join(old)}")
@@ -63,7 +62,7 @@ class Period:
         _say(f"{weeks}, at most {seconds:g} s")
         for hint in self.weeks.hints:
             self.progress.warn(hint)
-        running = PeriodSearch(self.weeks, self._keep, Clock(seconds), self.progress, self.prices, self._earlier(), self._seed)
+        running = PeriodSearch(self.weeks, self._keep, Clock(seconds), self.progress, self._proof, self._earlier(), self._seed)
         with interrupts() as signals:
             try:
                 with signals.calling(running.interrupt):
@@ -100,10 +99,9 @@ class Period:
         with interrupts() as signals:
             for number in self.numbers:
                 week = WrittenWeek(self.weeks.week_files(number, path), self.folder / roster_name(number))
-                prices = self.prices / prices_name(number) if self.prices else None
                 _say(f"week {number}, {week.files.week}")
                 try:
-                    outcome = search(week.files, week.roster, None, seconds, solver, prices, Progress(sys.stderr), self._seed)
+                    outcome = search(week.files, week.roster, None, seconds, solver, self._proof, Progress(sys.stderr), self._seed)
                 except (FileFault, Misuse, ProgramFault) as fault:
                     raise Misuse(f"week {number}: {fault_line(fault)}") from fault
                 self._report(number, week)
@@ -179,7 +177,7 @@ def _options() -> argparse.ArgumentParser:
     options = parser(
         "Plans the weeks of a period together, and reports what they cost, with a lower bound of their sum.",
         "The folder gets roster-N.txt of each week N and history-N.txt of each next one; they always have the best plan of this run.\n"
-        "Ctrl-C ends the search and keeps it. `inrc2pb-period-bound` proves the lower bound, if the time is enough. With --solver\n"
+        "Ctrl-C ends the search and keeps it. `inrc2pb-bound` proves the lower bound, if the time is enough. With --solver\n"
         "each week is planned before the next ones, by that solver.",
     )
     options.add_argument("--sce", metavar="FILE", type=Path, required=True, help="the scenario")
@@ -199,7 +197,7 @@ def _options() -> argparse.ArgumentParser:
     )
     options.add_argument("--time", metavar="SECONDS", type=number_of_seconds, default=60, help="seconds for each week (default: 60)")
     options.add_argument(
-        "--prices", metavar="FOLDER", type=Path, help="the folder for the prices that prove the lower bound, for inrc2pb-period-bound"
+        "--proof", metavar="FILE", type=Path, help="the file for the certificate of the lower bound, for inrc2pb-bound"
     )
     add_seed_option(options)
     add_solver_option(options)
@@ -214,10 +212,10 @@ def main() -> Optional[int]:
         find_solver(given.solver)
         if given.ahead:
             raise Misuse("--ahead is a plan of all weeks, and --solver plans one: leave one of them out")
-    if given.prices and (given.solver or given.ahead):
-        raise Misuse(f"with {'--solver' if given.solver else '--ahead'} there are no prices: leave out --prices")
+    if given.proof and (given.solver or given.ahead):
+        raise Misuse(f"with {'--solver' if given.solver else '--ahead'} there is no certificate: leave out --proof")
     files = PeriodFiles(given.sce, given.his, given.week, fixes_by_week(given.fix), given.early, given.ahead, given.facts)
-    period = Period(files, given.out, given.prices, given.seed)
+    period = Period(files, given.out, given.proof, given.seed)
     period.name_replaced()
     with interrupts() as signals:
         try:

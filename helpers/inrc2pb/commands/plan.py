@@ -1,6 +1,7 @@
 """Plans a ward from one folder: its spreadsheet, and what verbs have made of it."""
 
 import argparse
+import shlex
 import sys
 from pathlib import Path
 from typing import Callable, Dict, List, Optional, Sequence
@@ -9,13 +10,14 @@ from ..plans.local_jobs import Jobs
 from ..plans.local_server import LocalServer
 from ..plans.plan_days import PlanDays
 from ..plans.written_absences import WrittenAbsence, with_written
-from ..plans.verbs import Means, Verbs
+from ..plans.plan_store import Means
+from ..plans.verbs import Verbs
 from ..plans.ward_folder import WardFolder
 from ..plans.ward_plan import Sheet
 from ..programs.interrupts import interrupts
 from ..programs.program import find_program
 from ..programs.progress import Progress
-from ..sheets.plan_sheets import AWAY, read_days
+from ..sheets.plan_sheets import AWAY, COUNTED, read_days
 from ..sheets.sheet_files import read_book
 from ..sheets.ward_sheets import shift_times
 from ..week.faults import Misuse
@@ -23,8 +25,6 @@ from ..week.slots import did_you_mean
 from .command import check_seconds, number_of_seconds, parser
 from .ward import ward_files, ward_name
 
-# The reasons of absences that count as work.
-CREDITED = tuple(word for word in AWAY if word not in ("away", "unpaid"))
 # The verbs and their effects, in the order of the help. Verbs that only read need no lock.
 VERBS = {
     "check": "name the mistakes of the spreadsheet, and print the ward in sentences",
@@ -37,7 +37,7 @@ VERBS = {
     "undo": "the plan before the last verb holds again",
     "serve": "a page in your browser that does the same",
 }
-_NAMES = (*(usage.split(" ")[0] for usage in VERBS), *AWAY)
+_NAMES = tuple(dict.fromkeys((*(usage.split(" ")[0] for usage in VERBS), *AWAY)))
 LOCAL = "127.0.0.1"
 
 
@@ -53,7 +53,7 @@ def _options() -> argparse.ArgumentParser:
     options.add_argument(
         "folder", metavar="FOLDER", type=Path, help="the folder that has the ward's spreadsheet, or its sheets as .csv files"
     )
-    options.add_argument("verb", metavar="VERB", help="what to do")
+    options.add_argument("verb", metavar="VERB", nargs="?", help="what to do")
     options.add_argument("words", metavar="WORD", nargs="*", default=[], help="names and days")
     options.add_argument(
         "--time",
@@ -78,15 +78,21 @@ def read_sheet(path: Path, name: Optional[str], written: Sequence[WrittenAbsence
     book = read_book(path)
     book = with_written(book, read_days(book), written)
     days = read_days(book)
-    files = ward_files(book, name or ward_name(path), days, days.weeks, CREDITED)
+    files = ward_files(book, name or ward_name(path), days, days.weeks, COUNTED)
     credit = {nurse: shifts for nurse, (_, shifts) in files.credit.items()}
-    return Sheet(files.texts, files.warnings, PlanDays(days.monday, days.weeks), credit, shift_times(book))
+    return Sheet(files.texts, files.warnings, PlanDays(days.monday, days.weeks), credit, shift_times(book), files.holidays)
 
 
 def _check(given: argparse.Namespace) -> None:
     """Options and verbs fit."""
+    otherwise = f"write one of {', '.join(_NAMES)}"
+    if given.verb is None:
+        raise Misuse(f"a verb is missing after the folder: {otherwise}")
+    if given.verb not in _NAMES and Path(f"{given.folder} {given.verb}").is_dir():
+        raise Misuse(f"write the folder in quotes: inrc2pb-plan '{given.folder} {given.verb}' {' '.join(given.words)}".rstrip())
+    if given.verb not in _NAMES and str(given.folder) in _NAMES and not given.folder.exists():
+        raise Misuse(f"the folder comes first: type inrc2pb-plan {shlex.quote(given.verb)} {given.folder}")
     if given.verb not in _NAMES:
-        otherwise = f"write one of {', '.join(_NAMES)}"
         raise Misuse(f"'{given.verb}' is no verb: {did_you_mean(given.verb, _NAMES, otherwise)}")
     if given.do and given.verb != "swap":
         raise Misuse("--do is for swap: leave it out")
@@ -133,10 +139,19 @@ def _done(verbs: Verbs, given: argparse.Namespace) -> List[str]:
 def _serve(folder: WardFolder, given: argparse.Namespace) -> None:
     """Serves the local page until Ctrl-C."""
     with interrupts() as signals:
-        server = LocalServer(Jobs(folder, read_sheet, signals), given.host, given.port)
+        try:
+            server = LocalServer(Jobs(folder, read_sheet, signals), given.host, given.port)
+        except OSError as fault:
+            cure = "give the name of this machine, and a free port"
+            raise Misuse(f"--host {given.host} --port {given.port}: {fault.strerror}: {cure}") from fault
         print(f"open this address in a browser, and give it to nobody else: {server.address}", flush=True)
         _say("Ctrl-C ends it")
         server.run(signals)
+
+
+def _verbs(folder: WardFolder) -> Verbs:
+    """The verbs of a folder. Their progress counts from now on."""
+    return Verbs(folder, Means(read_sheet, Progress(sys.stderr), _say))
 
 
 def main() -> Optional[int]:
@@ -144,16 +159,22 @@ def main() -> Optional[int]:
     given = _options().parse_args(_options_first(sys.argv[1:]))
     _check(given)
     folder = WardFolder(given.folder)
-    verbs = Verbs(folder, Means(read_sheet, Progress(sys.stderr), _say))
     if given.verb == "check":
-        print("\n".join(verbs.check()))
+        print("\n".join(_verbs(folder).check()))
         return 0
     folder.spreadsheet()
     find_program()
     if given.verb == "serve":
         _serve(folder, given)
         return 0
-    with folder.locked(_say):
-        lines = _done(verbs, given)
+    last = folder.last()
+    try:
+        with folder.locked(_say):
+            verbs = _verbs(folder)
+            lines = _done(verbs, given)
+    except KeyboardInterrupt:
+        if folder.last() == last:
+            _say("nothing was written")
+        raise
     print("\n".join(lines))
     return verbs.status

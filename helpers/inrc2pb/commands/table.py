@@ -1,4 +1,4 @@
-"""Shows rosters as a table of nurses by days, as a picture, or as a spreadsheet."""
+"""Shows rosters as a table of nurses by days, as a page, or as a spreadsheet."""
 
 import argparse
 import csv
@@ -17,7 +17,6 @@ from ..shown.page import page_text
 from ..shown.page_tables import Content
 from ..programs.program import BROKEN_RULE
 from ..shown.roster_files import RosterFiles, read_old, read_view
-from ..shown.roster_picture import picture
 from ..shown.roster_text import TextTable, spreadsheet
 from ..shown.roster_view import AWAY, HELD, REFUSED, RosterView
 from ..week.targets import check_inputs_stay
@@ -56,7 +55,6 @@ def _options() -> argparse.ArgumentParser:
     form.add_argument("--swap", metavar='"NURSE DAY"', nargs=2, action="append", default=[],
                       help="write what it saves and costs if two nurses swap these days, as in \"Chen Fri\" \"Grace Fri\"")  # fmt: skip
     form.add_argument("--html", action="store_true", help="write a page to print, with totals, coverage, wishes and charges (HTML)")
-    form.add_argument("--svg", action="store_true", help="write a picture (SVG)")
     form.add_argument("--csv", action="store_true", help="write rows for a spreadsheet (CSV), without the lines below the table")
     return options
 
@@ -87,7 +85,7 @@ def _check_options(given: argparse.Namespace) -> None:
         raise Misuse(f"{'--why' if given.why else '--swap'} needs --sce, --his and --week: give the files of each week")
     if given.swap and given.old:
         raise Misuse("--swap and --old are two changes: give one of them")
-    if given.old and (given.svg or given.csv):
+    if given.old and given.csv:
         raise Misuse("--old is for the table, --why and --html: leave it out")
     if given.only_table and not given.html:
         raise Misuse("--only-table is for --html: give both")
@@ -111,8 +109,6 @@ def table_text(view: RosterView, given: argparse.Namespace, content: Content) ->
         return page_text(content)
     if given.csv:
         return csv_text(view)
-    if given.svg:
-        return _lines(picture(view))
     changed = [f"changed: {line}" for line in changed_lines(content.old, view)] if content.old else []
     return _lines([*TextTable(view, not given.out and _wants_color()).lines(), *changed])
 

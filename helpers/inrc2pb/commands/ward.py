@@ -3,8 +3,9 @@
 import argparse
 import contextlib
 import re
+import shlex
 from pathlib import Path
-from typing import Dict, Iterator, List, NamedTuple, Optional, Sequence, TextIO, Tuple
+from typing import Dict, FrozenSet, Iterator, List, NamedTuple, Optional, Sequence, TextIO, Tuple
 
 from ..judging.absences import NO_SKILL, TooMany, joined, readable, with_requests
 from .command import parser
@@ -18,8 +19,10 @@ from ..week.records import Scenario, Solution, WeekData
 from ..week.writing import replacing
 from ..week.hints import quoted
 from ..judging.odd_values import history_warnings, scenario_warnings, week_warnings
-from ..sheets.plan_sheets import AWAY, LEAVE, Days, WeekSheet, check_held, days_away, plan_warnings, read_days, read_weeks
+from ..sheets.plan_sheets import AWAY, COUNTED, Days, WeekSheet, check_held, days_away, plan_warnings, read_days, read_weeks
+from ..sheets.part_contracts import with_part_contracts
 from ..sheets.sheet_facts import absence_reasons, claims_of
+from ..sheets.sheet_looks import look_warnings
 from ..sheets.sheet_files import Book, read_book
 from ..sheets.sheet_rows import tidy
 from ..week.slots import MAX_NUMBER
@@ -42,7 +45,7 @@ def _options() -> argparse.ArgumentParser:
     options.add_argument("--out", metavar="FOLDER", type=Path, help="the folder for the files; it is made if there is none")
     options.add_argument("--weeks", metavar="N", type=int, help="the weeks of the period (default: the weeks of the sheet plan)")
     options.add_argument(
-        "--credit", metavar="WORDS", default=LEAVE,
+        "--credit", metavar="WORDS", default=",".join(COUNTED),
         help=f"absences that count as work in history-0.txt, some of {','.join(AWAY)}, or none (default: %(default)s)",
     )
     options.add_argument(
@@ -74,11 +77,13 @@ def _reasons(text: str) -> List[str]:
 
 
 class WardFiles(NamedTuple):
-    """The text of each file by its name, warnings, and for each nurse with days away that count as work these days and shifts."""
+    """The text of each file by its name, warnings, for each nurse with days away that count as work these days and shifts, and the days
+    with numbers of their own."""
 
     texts: Dict[str, str]
     warnings: List[str]
     credit: Dict[str, Tuple[int, int]]
+    holidays: FrozenSet[int] = frozenset()
 
 
 def ward_files(book: Book, name: str, days: Days, weeks: int, reasons: Sequence[str], requests: bool = False) -> WardFiles:
@@ -89,6 +94,7 @@ def ward_files(book: Book, name: str, days: Days, weeks: int, reasons: Sequence[
     credit = dict(days_away(sheets, reasons))
     shifts = shifts_of_leave(ward.scenario, credit)
     history = credited(ward.history, shifts)
+    ward = with_part_contracts(ward, sheets)
     claims = claims_of(ward, history, sheets)
     if len(claims) > MAX_NUMBER:
         most = f"and a file {MAX_NUMBER} facts at most: {NO_SKILL}"
@@ -99,15 +105,19 @@ def ward_files(book: Book, name: str, days: Days, weeks: int, reasons: Sequence[
     warnings += [f"sheet nurses: {line}" for line in history_warnings(ward.history)]
     asked = {place.skill for sheet in sheets for place in sheet.requirements}
     warnings += [f"sheet nurses: {line}" for line in skill_warnings(ward, asked)]
-    warnings += [*book_warnings(book), *ward_warnings(ward), *(f"sheet plan: {line}" for line in plan_warnings(days, ward.scenario))]
+    warnings += [*book_warnings(book), *look_warnings(book, days), *ward_warnings(ward)]
+    warnings += [f"sheet plan: {line}" for line in plan_warnings(days, ward.scenario)]
     datas = [_week(ward.scenario, sheet, claims, number) for number, sheet in enumerate(sheets)]
+    odd: Dict[str, List[int]] = {}
     for number, (sheet, data) in enumerate(zip(sheets, datas)):
         found[f"week-{number}.txt"] = week_text(_with_requests(book, ward.scenario, data, number) if requests else data)
         found[f"fix-{number}.txt"] = solution_text(Solution(number, name, tuple(held.row for held in sheet.held)))
-        odd = (*week_warnings(ward.scenario, data), *demand_warnings(ward.scenario, None if number else history, data))
-        warnings += [f"sheet needs, week {number}: {line}" for line in odd]
+        for line in (*week_warnings(ward.scenario, data), *demand_warnings(ward.scenario, None if number else history, data)):
+            odd.setdefault(line, []).append(number)
+    warnings += [f"sheet needs, week {', '.join(map(str, numbers))}: {line}" for line, numbers in odd.items()]
     warnings += [f"sheet needs: {line}" for line in supply_warnings(ward.scenario, history, datas)]
-    return WardFiles(found, warnings, {nurse: (days, shifts[nurse]) for nurse, days in credit.items()})
+    holidays = frozenset(7 * number + day for number, sheet in enumerate(sheets) if len(sheet.holidays) < 7 for day in sheet.holidays)
+    return WardFiles(found, warnings, {nurse: (days, shifts[nurse]) for nurse, days in credit.items()}, holidays)
 
 
 def _week(scenario: Scenario, sheet: WeekSheet, claims: Sequence[Claim], number: int) -> WeekData:
@@ -160,7 +170,8 @@ def main() -> int:
     given = _options().parse_args()
     if given.template and not (given.tables or given.out):
         write_template(given.template)
-        print(f"{given.template}: change its rows into those of your ward, then type: inrc2pb-ward {given.template} --out FOLDER")
+        folder = shlex.quote(str(given.template.parent))
+        print(f"written: {given.template}; change its rows into those of your ward, then type: inrc2pb-plan {folder} check")
         return 0
     if given.template or not (given.tables and given.out):
         raise Misuse("give a spreadsheet and --out with a folder for the ward's files, or --template alone, with the .ods file to write")

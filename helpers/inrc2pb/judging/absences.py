@@ -6,7 +6,7 @@ They are facts that plans keep. For solvers that know only a week's file they ar
 
 import collections
 from dataclasses import replace
-from typing import Collection, Dict, FrozenSet, Iterable, List, NamedTuple, Tuple
+from typing import Collection, Dict, FrozenSet, Iterable, List, NamedTuple, Sequence, Tuple
 
 from ..week.hints import plural
 from ..week.records import DAYS, Absence, Cell, Request, Scenario, WeekData
@@ -43,13 +43,13 @@ def working_while_away(absences: Collection[Absence], cells: Iterable[Cell]) -> 
     return [cell for cell in cells if is_broken_by(absences, cell)]
 
 
-def in_words(cells: Iterable[Cell]) -> str:
-    """Who works when, as `Chen works Late on Fri and Sat, Grace works Night on Sun`."""
+def in_words(cells: Iterable[Cell], names: Sequence[str] = DAYS) -> str:
+    """Who works when, as `Chen works Late on Fri and Sat, Grace works Night on Sun`. The days of the week have these names."""
     days: Dict[Tuple[str, str], List[int]] = {}
     for cell in cells:
         days.setdefault((cell.nurse, cell.shift), []).append(cell.day)
     return ", ".join(
-        f"{readable(nurse)} works {readable(shift)} on {joined(DAYS[day] for day in sorted(on))}" for (nurse, shift), on in days.items()
+        f"{readable(nurse)} works {readable(shift)} on {joined(names[day] for day in sorted(on))}" for (nurse, shift), on in days.items()
     )
 
 

@@ -1,11 +1,11 @@
 """Limits that are never exceeded: who exceeds one in a roster, in words, and who could work instead."""
 
-from typing import Collection, Iterable, Iterator, List, Sequence, Set
+from typing import Collection, Iterable, Iterator, List, Sequence
 
 from ..week.facts import SHIFTS, WEEKENDS, WORK_DAYS
 from ..week.hints import plural
 from ..week.records import DAYS, Cell, KeptLimit, Week
-from .absences import joined, readable
+from .absences import absences_of, is_broken_by, joined, readable
 from .rules import SATURDAY, Charge, charges
 
 # The kinds of charges, by their rules and their words.
@@ -30,35 +30,42 @@ def excess(charged: Iterable[Charge]) -> int:
     return sum(charge.times for charge in charged)
 
 
-def limits_in_words(charged: Iterable[Charge], cells: Sequence[Cell]) -> str:
-    """Who exceeds which limit with these assignments, as `Amara has 6 days of work in a row, Tue to Sun, of at most 5`."""
-    return ", ".join(_in_words(charge, sorted({cell.day for cell in cells if cell.nurse == charge.nurse})) for charge in charged)
+def limits_in_words(charged: Iterable[Charge], cells: Sequence[Cell], names: Sequence[str] = DAYS) -> str:
+    """Who exceeds which limit with these assignments, as `Amara has 6 days of work in a row, Tue to Sun, of at most 5`. The days of the
+    week have these names."""
+    return ", ".join(_in_words(charge, sorted({cell.day for cell in cells if cell.nurse == charge.nurse}), names) for charge in charged)
 
 
-def _in_words(charge: Charge, worked: Sequence[int]) -> str:
+def _in_words(charge: Charge, worked: Sequence[int], names: Sequence[str]) -> str:
     """The same of one limit. The shifts above are the last of the days on which the nurse works."""
     nurse = readable(charge.nurse or "")
     if charge.rule == "S2":
         first, last = charge.days or (0, 0)
-        days = f", to {DAYS[last]}," if charge.before else f", {DAYS[first]} to {DAYS[last]},"
+        days = f", to {names[last]}," if charge.before else f", {names[first]} to {names[last]},"
         return f"{nurse} has {plural(charge.number, 'day')} of work in a row{days} of at most {charge.limit}"
     what, above = ("shift", worked[-charge.times :]) if charge.rule == "S6" else ("weekend", [day for day in worked if day >= SATURDAY])
-    return f"{nurse} has {plural(charge.number, what)} of at most {charge.limit}, above on {joined(DAYS[day] for day in above)}"
+    return f"{nurse} has {plural(charge.number, what)} of at most {charge.limit}, above on {joined(names[day] for day in above)}"
 
 
 def limits_way_out(week: Week, charged: Sequence[Charge], cells: Sequence[Cell]) -> str:
     """What to do if a roster exceeds limits."""
     over = {charge.nurse for charge in charged}
-    skills = {cell.skill for cell in cells if cell.nurse in over}
-    spare = list(_with_shifts_left(week, over, skills, cells))
+    spare = list(_with_shifts_left(week, [cell for cell in cells if cell.nurse in over], cells))
     others = f"; with these skills shifts are left for {joined(spare[:6])}" if spare else "; nobody with these skills has shifts left"
     return f"lower minimum numbers, hold fewer shifts, or allow these nurses more{others}"
 
 
-def _with_shifts_left(week: Week, over: Collection[object], skills: Set[str], cells: Sequence[Cell]) -> Iterator[str]:
-    """The nurses with one of these skills whose contracts have shifts left after this week, and how many."""
+def _with_shifts_left(week: Week, too_many: Sequence[Cell], cells: Sequence[Cell]) -> Iterator[str]:
+    """The nurses who could have one of these assignments, since they are off on its day and not away, and whose contracts have shifts left
+    after this week; and how many."""
+    away, works = absences_of(week.data), {(cell.nurse, cell.day) for cell in cells}
+    over = {cell.nurse for cell in too_many}
     for nurse, owner in week.scenario.nurses.items():
         worked = week.history.nurses[nurse].assignments + sum(cell.nurse == nurse for cell in cells)
         left = week.scenario.contract_of(nurse).assignments.maximum - worked
-        if nurse not in over and left > 0 and skills & set(owner.skills):
+        could = [
+            cell for cell in too_many
+            if cell.skill in owner.skills and (nurse, cell.day) not in works and not is_broken_by(away, cell._replace(nurse=nurse))
+        ]  # fmt: skip
+        if nurse not in over and left > 0 and could:
             yield f"{readable(nurse)} ({left})"

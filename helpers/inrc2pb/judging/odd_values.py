@@ -14,7 +14,7 @@ def scenario_warnings(scenario: Scenario) -> Iterator[str]:
     """Warnings of a scenario."""
     names = (*scenario.skills, *scenario.shift_types, *scenario.contracts, *scenario.nurses)
     if not all(map(is_utf8, names)):
-        yield "it is not saved as UTF-8, so tables and pictures have wrong letters: save each file of the ward as UTF-8"
+        yield "it is not saved as UTF-8, so tables and pages have wrong letters: save each file of the ward as UTF-8"
     for shift in scenario.shift_types.values():
         yield from _reversed_limits(f"shift type {shift.name}", shift.consecutive)
     for contract in scenario.contracts.values():

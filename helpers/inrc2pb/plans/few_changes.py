@@ -6,15 +6,27 @@ from typing import Collection, Dict, Iterator, Optional, Tuple
 from ..judging.rules import REQUEST
 from ..week.records import Cell, Request, Scenario, WeekData
 
-# The cost of another shift for a nurse, in points, in addition to the charges of the rules.
-POINTS = 20
+# The cost of another shift for a nurse, in points, in addition to the charges of the rules; and on a day that she has agreed on. It is
+# less than an absence.
+POINTS, AGREED_POINTS = 20, 250
 
 
-def with_few_changes(scenario: Scenario, data: WeekData, old: Collection[Cell], days: Collection[int], points: int = POINTS) -> WeekData:
-    """The week's file with requests against all shifts on these days but those of the old roster."""
+def with_few_changes(
+    scenario: Scenario,
+    data: WeekData,
+    old: Collection[Cell],
+    days: Collection[int],
+    points: int = POINTS,
+    agreed: Collection[Tuple[str, int]] = (),
+    new: Collection[str] = (),
+) -> WeekData:
+    """The week's file with requests against all shifts on these days, and on agreed days of nurses, but those of the old roster. A new
+    nurse may have any shift."""
     shift_on = {(cell.nurse, cell.day): cell.shift for cell in old}
-    asked = [request for nurse in scenario.nurses for day in days for request in _requests(scenario, nurse, day, shift_on)]
-    return replace(data, requests=(*data.requests, *(request for request in asked for _ in range(points // REQUEST))))
+    costs = {(nurse, day): points for nurse in scenario.nurses if nurse not in new for day in days}
+    costs.update({one: AGREED_POINTS for one in agreed})
+    asked = [(request, cost) for (nurse, day), cost in costs.items() for request in _requests(scenario, nurse, day, shift_on)]
+    return replace(data, requests=(*data.requests, *(request for request, cost in asked for _ in range(cost // REQUEST))))
 
 
 def _requests(scenario: Scenario, nurse: str, day: int, shift_on: Dict[Tuple[str, int], str]) -> Iterator[Request]:

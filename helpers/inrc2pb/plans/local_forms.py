@@ -7,35 +7,49 @@ from ..shown.markup import Markup, element, joined
 from ..sheets.plan_sheets import AWAY
 from ..week.faults import Misuse
 from ..week.hints import quoted
+from .plan_days import WEEK_DAYS
 from .verbs import Verbs
 from .ward_plan import WardPlan
 
 Fields = Mapping[str, str]
 _MOST_SECONDS = 3600.0
+_NEW_PLAN = "a new plan, and its pages"
+# The field of a form that writes, after the user was asked.
+SURE = "sure"
 
 
 class Form(NamedTuple):
-    """A verb with its button, a sentence on it, its fields, and whether it needs a plan."""
+    """A verb with its heading, if it has fields, its button, a sentence on it, its fields, whether it needs a plan, and what it writes, if
+    it does."""
 
     verb: str
+    heading: str
     button: str
     text: str
     fields: Tuple[str, ...] = ()
     needs_plan: bool = True
+    writes: str = _NEW_PLAN
 
 
 FORMS = (
-    Form("check", "Read the spreadsheet", "names its mistakes, and prints the ward in sentences", (), False),
-    Form("plan", "Plan", "the weeks that are not over", ("from", "seconds", "free"), False),
-    Form("away", "Write an absence", "all days before stay as they are", ("nurse", "first", "last", "reason")),
-    Form("back", "Back", "from a day on", ("nurse", "first")),
-    Form("swap", "Look for a swap", "what it costs, and who else could swap", ("nurse", "first", "other", "other day", "write it")),
-    Form("over", "The week is over", "as it was planned, or with corrections such as Chen Fri off", ("corrections",)),
-    Form("page", "Publish", "writes all pages and calendars; from now on plans change little"),
-    Form("undo", "Undo", "the plan before the last verb holds again", (), False),
+    Form("check", "", "Read the spreadsheet", "names its mistakes, and prints the ward in sentences; writes nothing", (), False, ""),
+    Form("plan", "Plan", "Plan", "the weeks that are not over", ("from", "seconds", "free"), False),
+    Form("away", "A nurse is away", "Write an absence", "and plan from its first day on", ("nurse", "first", "last", "reason")),
+    Form("back", "A nurse is back", "Back", "from a day on, with few changes", ("nurse", "first")),
+    Form("swap", "Two nurses swap", "Look", "what it costs, and who else could swap", ("nurse", "first", "other", "other day", "write it")),
+    Form("over", "The week is over", "End the week", "as it was planned, or with corrections such as Chen Fri off", ("corrections",)),
+    Form("page", "", "Publish", "the plan; from now on plans change little", (), True, "the page for the wall and the calendars"),
+    Form("undo", "", "Undo", "the plan before the last verb holds again", (), False, "its pages"),
 )
 _CHECKS = ("free", "write it")
-_LABELS = {"first": "day", "other": "with", "free": "all shifts may change", "from": "from"}
+_LABELS = {"first": "day", "last": "last day", "other": "with", "free": "all shifts may change"}
+
+
+def writes(fields: Fields) -> str:
+    """What the verb of a form writes; nothing if it only reads."""
+    if fields.get("verb") == "swap" and "write it" not in fields:
+        return ""
+    return next((form.writes for form in FORMS if form.verb == fields.get("verb")), "")
 
 
 def verb_of(fields: Fields) -> Callable[[Verbs], List[str]]:
@@ -73,11 +87,38 @@ def _reason(fields: Fields) -> str:
     return reason
 
 
-def form_markup(form: Form, plan: WardPlan, address: str) -> Markup:
-    """A form of the page. With the choice `-` a field is left out."""
-    fields = [_field(name, plan) for name in form.fields]
+def form_markup(form: Form, plan: WardPlan, address: str, kept: Fields = {}) -> Markup:
+    """A form of the page, with these values in its fields. With the choice `-` a field is left out."""
+    fields = [_field(name, plan, kept.get(name, "")) for name in form.fields]
     button = element("button", form.button, name="verb", value=form.verb)
-    return element("form", *fields, button, " ", element("small", form.text), method="post", action=address)
+    text = f"{form.text}; writes {form.writes}" if form.writes else form.text
+    text = f"{form.text}; writes nothing, but with 'write it' {_NEW_PLAN}" if form.verb == "swap" else text
+    inside = [*fields, button, " ", element("small", text)]
+    if form.heading:
+        inside = [element("fieldset", element("legend", form.heading), *inside)]
+    return element("form", *inside, method="post", action=address)
+
+
+def sure_markup(fields: Fields, plan: WardPlan, address: str) -> Markup:
+    """The question before a verb writes."""
+    form = next(form for form in FORMS if form.verb == fields["verb"])
+    named = [plan.days.span([plan.first, plan.first + WEEK_DAYS - 1])] if form.verb == "over" else []
+    named += [readable(f"{_LABELS.get(name, name)} {_shown(plan, value)}") for name, value in fields.items() if name != "verb" and value]
+    given = ", ".join(named)
+    hidden = [element("input", type="hidden", name=name, value=value) for name, value in {**fields, SURE: "yes"}.items()]
+    yes = element("button", "Yes, write it", autofocus="")
+    return element(
+        "section",
+        element("h2", f"{form.heading or form.button}{f': {given}' if given else ''}?"),
+        element("p", f"This writes {form.writes}." + " Undo takes it back." * (form.verb != "undo")),
+        element("form", *hidden, yes, " ", element("a", "No", href=address), method="post", action=address),
+    )
+
+
+def _shown(plan: WardPlan, value: str) -> str:
+    """The value of a field; a day as in sentences."""
+    heads = {plan.days.head(day): plan.days.text(day) for day in range(plan.days.total)}
+    return heads.get(value, value)
 
 
 def swap_markup(words: Mapping[str, str], text: str, address: str) -> Markup:
@@ -86,13 +127,13 @@ def swap_markup(words: Mapping[str, str], text: str, address: str) -> Markup:
     return element("form", *hidden, element("button", text, name="verb", value="swap"), method="post", action=address)
 
 
-def _field(name: str, plan: WardPlan) -> Markup:
+def _field(name: str, plan: WardPlan, kept: str) -> Markup:
     label = f"{_LABELS.get(name, name)} "
     if name in _CHECKS:
         return joined(element("label", element("input", type="checkbox", name=name, value="yes"), label), " ")
     if name in ("seconds", "corrections"):
         kind = {"type": "number", "min": "1", "max": f"{_MOST_SECONDS:.0f}"} if name == "seconds" else {"type": "text"}
-        return joined(element("label", label, element("input", name=name, **kind)), " ")
+        return joined(element("label", label, element("input", name=name, value=kept or None, **kind)), " ")
     if name == "reason":
         choices: Sequence[Tuple[str, str]] = [(word, word) for word in ("ill", *(word for word in AWAY if word != "ill"))]
     elif name in ("nurse", "other"):
@@ -101,5 +142,5 @@ def _field(name: str, plan: WardPlan) -> Markup:
         choices = [(plan.days.head(day), plan.days.text(day)) for day in range(plan.first, plan.days.total)]
     if name in ("from", "other", "other day", "last"):
         choices = [("", "-"), *choices]
-    options = [element("option", text, value=value) for value, text in choices]
+    options = [element("option", text, value=value, selected="" if value and value == kept else None) for value, text in choices]
     return joined(element("label", label, element("select", *options, name=name)), " ")

@@ -7,7 +7,8 @@ from typing import Callable, List, NamedTuple, Optional
 from ..programs.interrupts import Interrupts
 from ..programs.progress import Progress
 from ..week.faults import FileFault, FileFaults, Misuse, ProgramFault, fault_line
-from .verbs import Means, Reader, Verbs
+from .plan_store import Means, Reader
+from .verbs import Verbs
 from .ward_folder import WardFolder
 
 
@@ -32,7 +33,7 @@ class Jobs:
     def verbs(self, spoken: Optional[io.StringIO] = None) -> Verbs:
         """The verbs of the folder, which say to this text how far they are."""
         text = spoken or io.StringIO()
-        return Verbs(self.folder, Means(self._read, Progress(text), lambda line: print(line, file=text)))
+        return Verbs(self.folder, Means(self._read, Progress(text), lambda line: print(line, file=text), ""))
 
     @property
     def runs(self) -> bool:

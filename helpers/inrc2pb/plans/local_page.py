@@ -1,16 +1,19 @@
 """The local page of a ward: its forms, what the last verb has said, the roster, and the charges and swaps of one cell."""
 
-from typing import List, NamedTuple, Optional
-from urllib.parse import urlencode
+from dataclasses import replace
+from typing import Collection, List, NamedTuple, Optional, Sequence
+from urllib.parse import quote, urlencode
 
 from ..judging.absences import readable
+from ..shown.calendars import file_names
 from ..shown.charge_words import in_words
 from ..shown.markup import Markup, element, joined
 from ..shown.page import page_style
 from ..shown.page_tables import Content, RosterTable
-from ..week.dates import DAY, day_names
-from .local_forms import FORMS, form_markup, swap_markup
+from ..week.dates import day_names
+from .local_forms import FORMS, Fields, form_markup, sure_markup, swap_markup
 from .local_jobs import Said
+from .pages import CALENDARS, roster_content
 from .plan_days import WEEK_DAYS
 from .swap_words import MOST_OFFERS, offer_text
 from .swaps import Swaps
@@ -19,14 +22,16 @@ from .ward_plan import WardPlan
 REFRESH_SECONDS = 2
 STYLE = """
 form { margin: .5em 0 }
+fieldset { border: 1px solid #999; padding: .2em .5em .4em }
+legend { font-weight: 600; padding: 0 .3em }
 label { display: inline-block; margin: .1em .3em }
 button, input, select { font: inherit; padding: .25em .5em }
 button { min-width: 11em }
 button:focus-visible, input:focus-visible, select:focus-visible, a:focus-visible { outline: 3px solid #05c; outline-offset: 1px }
 pre { background: #eee; padding: .6em; white-space: pre-wrap }
 pre.fault { background: #fdd }
+.links a { margin-right: 1em }
 td a { display: block; color: inherit; text-decoration: none; min-height: 1.4em }
-@media screen { .roster { min-width: 44em } .many { min-width: 84em } }
 @media screen and (max-width: 40em) { button { width: 100% } label { display: block } }
 """
 
@@ -38,27 +43,45 @@ class Place(NamedTuple):
     day: int
 
 
-def page_markup(plan: Optional[WardPlan], said: Said, place: Optional[Place], address: str) -> str:
+class Shown(NamedTuple):
+    """What a page shows beside the plan: what was said, the cell that was clicked, the form that asks whether to write, and the fields of
+    the last form."""
+
+    said: Said
+    place: Optional[Place] = None
+    asks: Fields = {}
+    kept: Fields = {}
+
+
+def page_markup(plan: Optional[WardPlan], shown: Shown, address: str) -> str:
     """The page. While a verb runs it loads itself again and again."""
-    name = readable(plan.scenario.name) if plan else "Ward"
-    parts: List[Markup] = [element("h1", name), *_said(said, address)]
-    if plan and not said.runs:
-        if place and plan.is_planned:
-            parts.append(_cell(plan, place, address))
-        parts += [form_markup(form, plan, address) for form in FORMS if plan.is_planned or not form.needs_plan]
-    if plan and plan.is_planned:
+    name, said = readable(plan.scenario.name) if plan else "Ward", shown.said
+    # A cell that was clicked, and a question, take the place of an older verb's answer.
+    is_old = bool(shown.asks) or (shown.place is not None and not said.is_fault and not said.runs)
+    parts: List[Markup] = [element("h1", name), *([] if is_old else _said(said, address))]
+    if plan and shown.asks:
+        parts.append(sure_markup(shown.asks, plan, address))
+    elif plan and not said.runs:
+        if shown.place and plan.is_planned:
+            parts.append(_cell(plan, shown.place, address))
+        parts.append(element("p", "A button that writes asks first, and Undo takes back what the last one wrote."))
+        clicked = {"nurse": shown.place.nurse, "first": plan.days.head(shown.place.day)} if shown.place else {}
+        for form in FORMS:
+            kept = shown.kept if form.verb == shown.kept.get("verb") and not clicked else clicked
+            parts += [form_markup(form, plan, address, kept)] * (plan.is_planned or not form.needs_plan)
+    if plan and plan.is_planned and plan.weeks:
         parts.append(_roster(plan, address))
     refresh = [element("meta", http_equiv="refresh", content=str(REFRESH_SECONDS))] * said.runs
     style = element("style", Markup((page_style(_content(plan, address)) if plan and plan.is_planned else "") + STYLE))
-    head = [
-        element("meta", charset="utf-8"),
-        element("meta", name="viewport", content="width=device-width"),
-        *refresh,
-        element("title", name),
-        style,
-    ]
+    return page_of(name, [*refresh, style], parts)
+
+
+def page_of(name: str, head: Sequence[Markup], parts: Sequence[Markup]) -> str:
+    """A page with this title."""
+    width = element("meta", name="viewport", content="width=device-width")
+    heads = [element("meta", charset="utf-8"), width, element("title", name), *head]
     body = element("body", element("main", *(joined(part, Markup("\n")) for part in parts)))
-    return f"<!DOCTYPE html>\n{element('html', element('head', *head), body, lang='en')}\n"
+    return f"<!DOCTYPE html>\n{element('html', element('head', *heads), body, lang='en')}\n"
 
 
 def _said(said: Said, address: str) -> List[Markup]:
@@ -72,15 +95,27 @@ def _content(plan: WardPlan, address: str) -> Content:
     def link(week: int, nurse: str, day: int) -> str:
         return f"{address}?{urlencode({'nurse': nurse, 'day': plan.first + WEEK_DAYS * week + day})}"
 
-    monday = None if plan.days.monday is None else plan.days.monday + plan.first * DAY
-    return Content(plan.view(), None, monday, plan.sheet.times, link=link)
+    return replace(roster_content(plan), link=link)
 
 
 def _roster(plan: WardPlan, address: str) -> Markup:
     table = RosterTable(_content(plan, address))
     legend = element("ul", *(element("li", line) for line in table.legend()), class_="legend")
-    cost = element("p", f"{plan.view().penalty} points. ", element("a", "Costs, totals and coverage", href=f"{address}roster"))
-    return element("section", element("h2", "Roster"), cost, *table.tables(), legend)
+    links = [("Costs, totals and coverage", "roster"), ("Page for the wall", "wall"), *[("Calendars", CALENDARS)] * bool(plan.days.monday)]
+    pages = joined(*(joined(element("a", text, href=f"{address}{page}"), " ") for text, page in links))
+    hint = element("p", "Click a nurse's day: what her week costs, and who could take her shift.")
+    cost = element("p", "" if plan.view().penalty is None else f"{plan.view().penalty} points. ", pages, class_="links")
+    return element("section", element("h2", "Roster"), cost, hint, *table.tables(), legend)
+
+
+def calendars_markup(plan: WardPlan, address: str, there: Collection[str]) -> str:
+    """The page with a link to the calendar of each nurse, as far as they are there."""
+    links = [(readable(nurse), name) for nurse, name in file_names(plan.scenario.nurses).items() if name in there]
+    items = [element("li", element("a", nurse, href=f"{address}{CALENDARS}/{quote(name)}")) for nurse, name in links]
+    text = "Each opens in a calendar program." if items else "There are none yet: the button Publish writes them, if the plan has dates."
+    back = element("p", element("a", "Back", href=address))
+    style = element("style", Markup(STYLE))
+    return page_of("Calendars", [style], [element("h1", "Calendars"), element("p", text), element("ul", *items), back])
 
 
 def _cell(plan: WardPlan, place: Place, address: str) -> Markup:

@@ -3,24 +3,25 @@
 import hmac
 import secrets
 import threading
+from dataclasses import replace
 from http.server import BaseHTTPRequestHandler, ThreadingHTTPServer
 from typing import Dict, Optional, Tuple
-from urllib.parse import parse_qsl, urlsplit
+from urllib.parse import parse_qsl, quote, urlsplit
 
 from ..programs.interrupts import Interrupts
+from ..shown.calendars import file_names
 from ..shown.page import page_text
 from ..week.faults import Misuse
-from .local_forms import verb_of
+from .local_forms import SURE, verb_of, writes
 from .local_jobs import Jobs, Said, fault_lines
-from .local_page import Place, page_markup
-from .pages import roster_content
+from .local_page import Place, Shown, calendars_markup, page_markup
+from .pages import CALENDARS, roster_content
 from .ward_plan import WardPlan
 
 # The most bytes of a form and of its address, its most fields, and the seconds that a browser has for a request.
 _MOST_BYTES, _MOST_FIELDS, _SECONDS = 10_000, 20, 20
 _PAUSE = 0.2
 _HEADERS = {
-    "Content-Type": "text/html; charset=utf-8",
     "Content-Security-Policy": "default-src 'none'; style-src 'unsafe-inline'; form-action 'self'; frame-ancestors 'none'; base-uri 'none'",
     "Referrer-Policy": "same-origin",
     "X-Content-Type-Options": "nosniff",
@@ -35,6 +36,8 @@ class Site:
         self.jobs, self.host, self.port = jobs, host, 0
         self.base = f"/{secrets.token_urlsafe(16)}/"
         self.fault: Optional[Said] = None
+        # The fields of the last form.
+        self.kept: Dict[str, str] = {}
 
     def plan(self) -> Tuple[Optional[WardPlan], Said]:
         """The plan that holds, and what is said above it: a fault of the spreadsheet, or of a form, if there is one."""
@@ -47,15 +50,25 @@ class Site:
             said, self.fault = self.fault, None
         return plan, said
 
-    def post(self, fields: Dict[str, str]) -> None:
-        """Does what a form asks for. A form that no page has is a fault, which the next page shows."""
+    def post(self, fields: Dict[str, str]) -> bool:
+        """Does what a form asks for. A form that no page has is a fault, which the next page shows. Returns whether the user has to be
+        asked first, since the verb writes."""
+        self.kept = fields
         try:
             if fields.get("verb") == "stop":
                 self.jobs.stop()
-            else:
-                self.jobs.begin(verb_of(fields))
+                return False
+            verb = verb_of(fields)
+            if writes(fields) and SURE not in fields and not self.jobs.runs:
+                return True
+            self.jobs.begin(verb)
         except Misuse as fault:
             self.fault = Said([str(fault)], True)
+        return False
+
+    def fields(self, said: Said) -> Dict[str, str]:
+        """The values that stay in the form that was sent last: those of a look for a swap, or of a verb that failed."""
+        return self.kept if said.is_fault or self.kept.get("verb") == "swap" else {}
 
 
 class _Handler(BaseHTTPRequestHandler):
@@ -71,12 +84,29 @@ class _Handler(BaseHTTPRequestHandler):
         if path is None:
             return
         plan, said = self.site.plan()
-        if path == "roster" and plan and plan.is_planned:
-            self._answer(page_text(roster_content(plan)))
+        if path and plan and plan.is_planned and plan.weeks:
+            self._page(path, plan)
         elif path:
             self._refuse(404, "there is no such page")
         else:
-            self._answer(page_markup(plan, said, _place(plan, query), self.site.base))
+            shown = Shown(said, _place(plan, query), kept=self.site.fields(said))
+            self._answer(page_markup(plan, shown, self.site.base))
+
+    def _page(self, path: str, plan: WardPlan) -> None:
+        """Shows another page of a plan: with costs, for the wall, or of calendars; or sends a calendar."""
+        folder = self.site.jobs.folder.top / CALENDARS
+        there = {file.name for file in folder.iterdir()} if plan.published and folder.is_dir() else set()
+        names = {f"{CALENDARS}/{quote(name)}": name for name in file_names(plan.scenario.nurses).values() if name in there}
+        if path == "roster":
+            self._answer(page_text(roster_content(plan)))
+        elif path == "wall":
+            self._answer(page_text(replace(roster_content(plan), only_table=True)))
+        elif path == CALENDARS:
+            self._answer(calendars_markup(plan, self.site.base, there))
+        elif path in names:
+            self._answer((folder / names[path]).read_bytes().decode("utf-8"), kind="text/calendar; charset=utf-8")
+        else:
+            self._refuse(404, "there is no such page")
 
     def do_POST(self) -> None:
         """Takes a form, and leads to the page."""
@@ -92,7 +122,9 @@ class _Handler(BaseHTTPRequestHandler):
             fields = dict(parse_qsl(self.rfile.read(int(length)).decode(), max_num_fields=_MOST_FIELDS))
         except ValueError:
             return self._refuse(400, "this is no form of the page")
-        self.site.post(fields)
+        if self.site.post(fields):
+            plan, said = self.site.plan()
+            return self._answer(page_markup(plan, Shown(said, asks=fields), self.site.base))
         self.send_response(303)
         self.send_header("Location", self.site.base)
         self.send_header("Content-Length", "0")
@@ -118,10 +150,10 @@ class _Handler(BaseHTTPRequestHandler):
             f"{name}:{port}" for name in (self.site.host, *(["localhost"] if self.site.host == "127.0.0.1" else []))
         }
 
-    def _answer(self, text: str, status: int = 200) -> None:
+    def _answer(self, text: str, status: int = 200, kind: str = "text/html; charset=utf-8") -> None:
         data = text.encode("utf-8", errors="replace")
         self.send_response(status)
-        for name, value in _HEADERS.items():
+        for name, value in {"Content-Type": kind, **_HEADERS}.items():
             self.send_header(name, value)
         self.send_header("Content-Length", str(len(data)))
         self.end_headers()

@@ -3,8 +3,9 @@
 import tempfile
 from dataclasses import replace
 from pathlib import Path
-from typing import Iterator, List, NamedTuple, Sequence
+from typing import Collection, Iterator, List, NamedTuple, Sequence, Tuple
 
+from ..judging.absences import absences_of, is_broken_by, readable
 from ..programs.clock import Clock
 from ..programs.interrupts import interrupts
 from ..programs.program import WeekFiles
@@ -15,20 +16,28 @@ from ..search.why_none import EXISTS, why_none
 from ..week.facts import Choice, Claim, Fact, facts_text
 from ..week.faults import FileFault, fault_line
 from ..week.files import history_text, solution_text, week_text
-from ..week.records import Cell, Solution, Week, WeekData
+from ..week.records import DAYS, Cell, Solution, Week, WeekData
 from ..week.writing import write_text
+from .agreed_days import AgreedDay
 from .few_changes import with_few_changes
 from .plan_days import WEEK_DAYS
 from .skill_labels import with_old_skills
 from .ward_plan import FACTS, WardPlan
 
+# The end of a line on a nurse who is away.
+IS_AWAY = " is away"
+# How a search keeps agreed days.
+NONE, MOST, ALL = "none", "most", "all"
+
 
 class Asked(NamedTuple):
-    """What a search is asked for: the first day that may change, whether few shifts may change, and how many seconds it has."""
+    """What a search is asked for: the first day that may change, whether few shifts may change, how many seconds it has, and how it keeps
+    agreed days: not at all, as far as that costs little, or all of them."""
 
     first: int
     few_changes: bool
     seconds: float
+    agreed: str = ALL
 
 
 class Found(NamedTuple):
@@ -71,26 +80,53 @@ def _weeks(files: PeriodFiles) -> PlannedWeeks:
 def _files(old: WardPlan, asked: Asked, folder: Path) -> PeriodFiles:
     """The files of a search, in this folder."""
     history, given = folder / history_name(old.open_week), folder / FACTS
+    agreed = _kept_agreed(old, asked)
+    claims = [*_later_claims(old, asked.first), *_past_claims(old, asked.first)]
+    claims += _agreed_off(old, agreed) if asked.agreed == ALL else []
     write_text(folder / "ward.txt", old.sheet.texts["ward.txt"])
     write_text(history, history_text(old.histories[old.open_week]))
-    write_text(given, facts_text(old.scenario.name, [*_later_claims(old, asked.first), *_past_claims(old, asked.first)]))
+    write_text(given, facts_text(old.scenario.name, claims))
     weeks, fixes = [], {}
     for number in old.weeks:
         first = asked.first - WEEK_DAYS * number
         path, fixes[number] = folder / f"week-{number}.txt", folder / f"fix-{number}.txt"
-        write_text(path, week_text(_week(old, number, range(max(first, 0), WEEK_DAYS if asked.few_changes else 0))))
+        of_week = {(nurse, day - WEEK_DAYS * number) for nurse, day in agreed if day // WEEK_DAYS == number}
+        softly = range(max(first, 0), WEEK_DAYS if asked.few_changes else 0)
+        write_text(path, week_text(_week(old, number, softly, of_week if asked.agreed == MOST else ())))
         cells = old.rosters.get(number, ())
         held = [*(cell for cell in old.held[number] if cell.day >= first), *(cell for cell in cells if cell.day < first)]
+        held += [cell for cell in cells if (cell.nurse, cell.day) in of_week] if asked.agreed == ALL else []
         write_text(fixes[number], solution_text(Solution(number, old.scenario.name, tuple(held))))
         weeks.append(path)
     return PeriodFiles(folder / "ward.txt", history, weeks, fixes, given=given)
 
 
-def _week(old: WardPlan, number: int, softly: range) -> WeekData:
-    """The file of a week. On these days few shifts change."""
+def _week(old: WardPlan, number: int, softly: range, agreed: Collection[Tuple[str, int]]) -> WeekData:
+    """The file of a week. On these days few shifts change, and as few agreed ones of nurses as possible."""
     if number not in old.rosters:
         return old.data[number]
-    return with_few_changes(old.scenario, old.data[number], old.rosters[number], softly)
+    new = set(old.scenario.nurses) - {nurse for nurse, _ in old.works}
+    return with_few_changes(old.scenario, old.data[number], old.rosters[number], softly, agreed=agreed, new=new)
+
+
+def _kept_agreed(old: WardPlan, asked: Asked) -> List[AgreedDay]:
+    """The agreed days that can be kept: nobody is away on them, and the spreadsheet holds no shift."""
+    held = {(cell.nurse, WEEK_DAYS * number + cell.day) for number in old.weeks for cell in old.held[number]}
+    works = {(cell.nurse, cell.day): cell for cell in old.cells()}
+
+    def can_be_kept(one: AgreedDay) -> bool:
+        cell = works.get(one)
+        away = absences_of(old.data[one.day // WEEK_DAYS])
+        is_away = cell is not None and is_broken_by(away, cell._replace(day=cell.day % WEEK_DAYS))
+        return one.day >= asked.first and one not in held and not is_away
+
+    return [one for one in old.agreed if asked.agreed != NONE and old.is_planned and can_be_kept(one)]
+
+
+def _agreed_off(old: WardPlan, agreed: Sequence[AgreedDay]) -> List[Claim]:
+    """That nurses are off on agreed days on which they have no shift."""
+    works = {(cell.nurse, cell.day) for cell in old.cells()}
+    return [Claim(Choice(day // WEEK_DAYS + 1, nurse, day % WEEK_DAYS, None)) for nurse, day in agreed if (nurse, day) not in works]
 
 
 def _later_claims(old: WardPlan, first: int) -> List[Claim]:
@@ -118,8 +154,22 @@ def why_no_plan(plan: WardPlan) -> List[str]:
             week = Week(plan.scenario, replace(past, week=number), plan.data[number])
             lines = list(why_none(_week_files(plan, week, Path(name)), week))
             if not lines[0].startswith(EXISTS):
-                return [f"week {number}: {line}" for line in lines]
+                return [f"week {number}: {lines[0]}", *_with_dates(plan, number, lines[1:])]
     return []
+
+
+def _with_dates(plan: WardPlan, number: int, lines: Sequence[str]) -> Iterator[str]:
+    """The lines on the minimum numbers of a week, with the dates of its days, and the nurses who are away in one line."""
+    away: List[str] = []
+    for line in [*lines, ""]:
+        if line.endswith(IS_AWAY):
+            away.append(line[: -len(IS_AWAY)].strip())
+            continue
+        if away:
+            yield readable(f"    away: {', '.join(away)}")
+            away = []
+        day, _, rest = line.partition(" ")
+        yield from [readable(f"{plan.days.text(WEEK_DAYS * number + DAYS.index(day))} {rest}" if day in DAYS else line)] * bool(line)
 
 
 def _week_files(plan: WardPlan, week: Week, folder: Path) -> WeekFiles:

@@ -1,11 +1,13 @@
-"""The shifts that differ in two plans of the same days. A nurse who counts with another skill keeps her shift."""
+"""The shifts and skills that differ in two plans of the same days."""
 
-from typing import Iterable, List, NamedTuple, Optional
+from typing import Iterable, List, Mapping, NamedTuple, Optional, Tuple
 
 from ..judging.absences import readable
 from ..week.hints import plural, quoted
 from ..week.records import Cell
 from .plan_days import PlanDays
+
+OFF = "off"
 
 
 class ShiftChange(NamedTuple):
@@ -18,20 +20,31 @@ class ShiftChange(NamedTuple):
 
 
 def shift_changes(old: Iterable[Cell], new: Iterable[Cell]) -> List[ShiftChange]:
-    """The nurses' days with another shift type, in the order of days."""
+    """The nurses' days with another shift type or skill, in the order of days."""
     before, now = ({(cell.day, cell.nurse): cell for cell in cells} for cells in (old, new))
     found = [ShiftChange(nurse, day, before.get((day, nurse)), now.get((day, nurse))) for day, nurse in sorted({*before, *now})]
-    return [one for one in found if (one.before and one.before.shift) != (one.now and one.now.shift)]
+    return [one for one in found if one.before != one.now]
 
 
-def change_lines(changes: List[ShiftChange], days: PlanDays, absent: str = "") -> List[str]:
-    """A line for each change, and the nurses to call: all of them but the one who is absent."""
-    called = list(dict.fromkeys(one.nurse for one in changes if one.nurse != absent))
-    lines = [f"{readable(one.nurse)}, {days.text(one.day)}: {_text(one.now)}, before {_text(one.before)}" for one in changes]
-    if called:
-        lines.append(f"{plural(len(called), 'nurse')} to call: {quoted(map(readable, called), len(called))}")
-    return lines
+Away = Mapping[Tuple[str, int], str]
 
 
-def _text(cell: Optional[Cell]) -> str:
-    return readable(f"{cell.shift} {cell.skill}") if cell else "off"
+def change_lines(changes: List[ShiftChange], days: PlanDays, away: Away = {}) -> List[str]:
+    """A line for each change. `away` has words for the nurses' days on which they are away."""
+
+    def line(one: ShiftChange) -> str:
+        now = cell_text(one.now) if one.now else away.get((one.nurse, one.day), OFF)
+        return f"{readable(one.nurse)}, {days.text(one.day)}: {now}, before {cell_text(one.before)}"
+
+    return [line(one) for one in changes]
+
+
+def call_lines(changes: List[ShiftChange], away: Away = {}) -> List[str]:
+    """The nurses to call, if there are some: those with a change on a day on which they are not away."""
+    called = list(dict.fromkeys(one.nurse for one in changes if (one.nurse, one.day) not in away))
+    return [f"{plural(len(called), 'nurse')} to call: {quoted(map(readable, called), len(called))}"] * bool(called)
+
+
+def cell_text(cell: Optional[Cell]) -> str:
+    """A shift with its skill in words, or `off`."""
+    return readable(f"{cell.shift} {cell.skill}") if cell else OFF

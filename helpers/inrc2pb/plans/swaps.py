@@ -103,7 +103,9 @@ class Swaps:
     def _above(self, nurse: str, cells: Dict[int, Cell]) -> Tuple[int, List[str]]:
         """How much these assignments of the nurse have above limits that hold, and in words."""
         weeks = [(exceeded(week, week.data.limits, of_week), of_week) for week, of_week in self._weeks(nurse, cells)]
-        return sum(excess(charges) for charges, _ in weeks), [limits_in_words(charges, of_week) for charges, of_week in weeks if charges]
+        named = [self._plan.day_names(number) for number in self._plan.weeks]
+        words = [limits_in_words(charges, of_week, names) for (charges, of_week), names in zip(weeks, named) if charges]
+        return sum(excess(charges) for charges, _ in weeks), words
 
     def _faults(self, nurse: str, cells: Dict[int, Cell], days: Sequence[int]) -> Iterator[str]:
         """Why the nurse cannot have these assignments, of which those on these days are new."""
@@ -128,7 +130,10 @@ class Swaps:
     def _cell_faults(self, cell: Cell) -> Iterator[str]:
         """Why the nurse cannot have this assignment alone."""
         plan = self._plan
-        if is_broken_by(self._away[cell.day // WEEK_DAYS], cell._replace(day=cell.day % WEEK_DAYS)):
-            yield readable(f"{cell.nurse} is away on {plan.days.text(cell.day)}, or never works {cell.shift}")
+        why = plan.away.get((cell.nurse, cell.day))
+        if why:
+            yield readable(f"{cell.nurse} is away on {plan.days.text(cell.day)} ({why})")
+        elif is_broken_by(self._away[cell.day // WEEK_DAYS], cell._replace(day=cell.day % WEEK_DAYS)):
+            yield readable(f"{cell.nurse} never works {cell.shift}")
         if cell.skill not in plan.scenario.nurses[cell.nurse].skills:
             yield readable(f"{cell.nurse} does not have the skill {cell.skill} (rule H4)")

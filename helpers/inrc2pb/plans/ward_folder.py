@@ -82,10 +82,18 @@ class WardFolder:
     @contextlib.contextmanager
     def locked(self, wait: Callable[[str], None]) -> Iterator[None]:
         """Within the block no other run writes to the folder. `wait` is called with what to say, if one does now."""
-        self.plans.mkdir(exist_ok=True)
-        with open(self.plans / LOCK, "a+", encoding="utf-8") as file:
+        with self._lock_file() as file:
             self._take(file, wait)
             yield
+
+    def _lock_file(self) -> TextIO:
+        """The file that is locked, open. A fault names the folder."""
+        try:
+            self.plans.mkdir(exist_ok=True)
+            return open(self.plans / LOCK, "a+", encoding="utf-8")
+        except OSError as fault:
+            fault.filename = str(self.top if isinstance(fault, PermissionError) else self.plans)
+            raise
 
     def _take(self, file: TextIO, wait: Callable[[str], None]) -> None:
         try:

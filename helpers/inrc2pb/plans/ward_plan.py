@@ -3,9 +3,9 @@
 from dataclasses import dataclass, field, replace
 from functools import cached_property
 from pathlib import Path
-from typing import Dict, Iterable, List, Mapping, NamedTuple, Optional, Sequence, Set, Tuple
+from typing import Dict, FrozenSet, Iterable, List, Mapping, NamedTuple, Optional, Sequence, Set, Tuple
 
-from ..judging.absences import readable
+from ..judging.absences import absences_of, readable
 from ..judging.given import read_given, with_given
 from ..judging.leave import credited
 from ..judging.next_history import next_history
@@ -20,24 +20,28 @@ from ..week.reasons import read_reasons
 from ..week.records import Cell, History, Scenario, Solution, Week, WeekData
 from ..week.writing import write_text
 from . import record
+from .agreed_days import NAME as AGREED
+from .agreed_days import AgreedDay, agreed_text, read_agreed
 from .plan_days import WEEK_DAYS, PlanDays
 from .record import Record, read_record
 from .written_absences import WrittenAbsence, read_written, written_text
 from .written_absences import NAME as ABSENCES
 
 START, FACTS, REASONS = "start.txt", "facts.txt", "reasons.txt"
+ALWAYS_OFF = "off"
 Cells = Tuple[Cell, ...]
 
 
 class Sheet(NamedTuple):
-    """A spreadsheet as the texts of a ward's files by their names, warnings, the shifts as which days away count in its history, and the
-    times of shift types."""
+    """A spreadsheet as the texts of a ward's files by their names, warnings, the shifts as which days away count in its history, the times
+    of shift types, and the days for which the needs have numbers of their own, as for a bank holiday."""
 
     texts: Dict[str, str]
     warnings: Sequence[str]
     days: PlanDays
     credit: Dict[str, int]
     times: Mapping[str, Times] = {}
+    holidays: FrozenSet[int] = frozenset()
 
 
 class Stored(NamedTuple):
@@ -48,6 +52,7 @@ class Stored(NamedTuple):
     start: History
     rosters: Dict[int, Cells]
     written: Tuple[WrittenAbsence, ...]
+    agreed: Tuple[AgreedDay, ...] = ()
 
 
 def read_stored(folder: Path) -> Stored:
@@ -56,7 +61,7 @@ def read_stored(folder: Path) -> Stored:
     start = read_history(folder / START, read_scenario(folder / "ward.txt"))
     weeks = [number for number in range(of_plan.days.weeks) if (folder / roster_name(number)).exists()]
     rosters = {number: read_solution(folder / roster_name(number)).cells for number in weeks}
-    return Stored(folder, of_plan, start, rosters, read_written(folder, of_plan.days))
+    return Stored(folder, of_plan, start, rosters, read_written(folder, of_plan.days), read_agreed(folder, of_plan.days))
 
 
 def published_days(folders: Iterable[Path], days: PlanDays) -> Dict[str, Set[int]]:
@@ -88,6 +93,8 @@ class WardPlan:
     published: bool = False
     # The planned assignments that were left out, since the spreadsheet does not have their names.
     unknown: Tuple[Cell, ...] = ()
+    # The days of swaps that were written, whose shifts later plans keep.
+    agreed: Tuple[AgreedDay, ...] = ()
 
     @property
     def days(self) -> PlanDays:
@@ -142,9 +149,24 @@ class WardPlan:
             found.append(next_history(self.scenario, found[-1], self.rosters[number]))
         return found
 
+    @cached_property
+    def works(self) -> Dict[Tuple[str, int], Cell]:
+        """The assignment of each nurse's day in the weeks that are not over."""
+        return {(cell.nurse, cell.day): cell for cell in self.cells()}
+
+    @cached_property
+    def away(self) -> Dict[Tuple[str, int], str]:
+        """The nurses' days, in the weeks that are not over, on which they are away, and why."""
+        weeks = ((number, self.reasons(number)) for number in self.weeks)
+        return {(nurse, WEEK_DAYS * number + day): word for number, away in weeks for (nurse, day), word in away.items()}
+
     def week(self, number: int) -> Week:
         """A week's ward, history and file."""
         return Week(self.scenario, self.histories[number], self.data[number])
+
+    def day_names(self, number: int) -> List[str]:
+        """The days of a week in sentences."""
+        return [self.days.text(WEEK_DAYS * number + day) for day in range(WEEK_DAYS)]
 
     def cells(self) -> List[Cell]:
         """The assignments of the weeks that are not over, with the days of the plan."""
@@ -161,16 +183,21 @@ class WardPlan:
     def _order(self, cell: Cell) -> Tuple[int, int]:
         return list(self.scenario.nurses).index(cell.nurse), cell.day
 
-    def view(self) -> RosterView:
-        """The weeks that are not over, to be shown."""
-        reasons = read_reasons(REASONS, self.scenario, self.sheet.texts[REASONS])
-        weeks = []
-        for number in self.weeks:
-            why = {(away.nurse, away.day): word for away, word in reasons.items() if away.week == number + 1}
-            view = WeekView(number, self.rosters[number], self.data[number], self.week(number), self.held[number], reasons=why)
-            weeks.append(view)
-        scenario = self.scenario
-        return RosterView(scenario.name, list(scenario.nurses), list(scenario.shift_types), list(scenario.skills), weeks)
+    def view(self, shown: Optional[range] = None) -> RosterView:
+        """Some weeks, or those that are not over, to be shown."""
+        weeks = [
+            WeekView(
+                number, self.rosters[number], self.data[number], self.week(number), self.held[number], reasons=self.reasons(number)
+            ) for number in (self.weeks if shown is None else shown)
+        ]  # fmt: skip
+        names = (list(self.scenario.nurses), list(self.scenario.shift_types), list(self.scenario.skills))
+        return RosterView(self.scenario.name, *names, weeks, credit=self.sheet.credit)
+
+    def reasons(self, number: int) -> Dict[Tuple[str, int], str]:
+        """Why nurses are away on the days of a week: a word of the sheet plan, or `off` for days on which they are always off."""
+        known = read_reasons(REASONS, self.scenario, self.sheet.texts[REASONS])
+        always = {(away.nurse, away.day): ALWAYS_OFF for away in absences_of(self.data[number]) if away.shift is None}
+        return {**always, **{(away.nurse, away.day): word for away, word in known.items() if away.week == number + 1}}
 
     def texts(self, of_plan: Record) -> Dict[str, str]:
         """The files of the plan's folder."""
@@ -179,6 +206,7 @@ class WardPlan:
             **self.sheet.texts,
             START: history_text(self.start),
             ABSENCES: written_text(self.written, self.days),
+            AGREED: agreed_text(self.agreed, self.days),
             record.NAME: of_plan.text(),
         }
         found.update({f"history-{number}.txt": history_text(past) for number, past in enumerate(self.histories[: self.open_week + 1])})
@@ -218,7 +246,10 @@ def continued(stored: Stored, sheet: Sheet) -> WardPlan:
     open_cells = [(number, cell) for number, cells in stored.rosters.items() if number >= before.open_week for cell in cells]
     unknown = tuple(cell for _, cell in open_cells if not _is_known(plan.scenario, cell))
     rosters = {number: tuple(cell for cell in cells if cell not in unknown) for number, cells in stored.rosters.items()}
-    return replace(plan, open_week=before.open_week, rosters=rosters, written=stored.written, published=before.published, unknown=unknown)
+    first = WEEK_DAYS * before.open_week
+    agreed = tuple(one for one in stored.agreed if one.nurse in plan.scenario.nurses and first <= one.day < sheet.days.total)
+    begun = replace(plan, open_week=before.open_week, written=stored.written, published=before.published)
+    return replace(begun, rosters=rosters, unknown=unknown, agreed=agreed)
 
 
 def _check_days(now: PlanDays, before: PlanDays) -> None:

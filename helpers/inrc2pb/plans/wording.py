@@ -1,6 +1,6 @@
 """The names and days that follow a verb."""
 
-from typing import Collection, NoReturn, Optional, Sequence
+from typing import Collection, NoReturn, Optional, Sequence, Tuple
 
 from ..judging.absences import readable
 from ..sheets.sheet_rows import tidy
@@ -11,10 +11,11 @@ from .plan_days import PlanDays, is_day
 
 
 class Wording:
-    """The words after a verb, which are taken one after another. `usage` is an example of the whole line."""
+    """The words after a verb, which are taken one after another; a comma after a word counts for nothing. `usage` is an example of the
+    whole line."""
 
     def __init__(self, words: Sequence[str], nurses: Collection[str], days: PlanDays, first: int, usage: str) -> None:
-        self._left = [tidy(word) for word in words]
+        self._left = [text for text in (tidy(word).rstrip(",;") for word in words) if text]
         self._nurses, self._days, self._first, self._usage = nurses, days, first, usage
 
     @property
@@ -50,11 +51,12 @@ class Wording:
             raise Misuse(f"{self._days.text(found)} is in a week that is over: the plan goes on from {self._days.text(self._first)}")
         return found
 
-    def one_of(self, kind: str, names: Collection[str]) -> str:
-        """One of these names."""
+    def shift(self, names: Collection[str], skills: Collection[str]) -> Tuple[str, str]:
+        """One of these shift types, and the skill that follows it, as in `Late/Nurse`, or nothing."""
         if self.is_over:
-            self._misuse(f"a {kind} is missing")
-        return self._known(kind, self._left.pop(0), names)
+            self._misuse("a shift type is missing")
+        shift, _, skill = self._left.pop(0).partition("/")
+        return self._known("shift type", shift, names), self._known("skill of hers", skill, skills) if skill else ""
 
     def end(self) -> None:
         """No word may be left."""

@@ -70,16 +70,16 @@ def with_written(book: Book, days: Days, written: Sequence[WrittenAbsence]) -> B
     """The spreadsheet with these absences in its plan. A nurse without a row there gets one, unless she has none in the sheet nurses."""
     rows = [list(row) for row in book.sheets["plan"]]
     head = days.plan.columns["nurse"]
-    at = {_name(row.of("nurse")): row.of("nurse").row - 1 for row in days.plan.rows}
+    places = {_name(row.of("nurse")): row.of("nurse").row - 1 for row in days.plan.rows}
     known = {_name(row.of("nurse")) for row in table_of(book, "nurses").rows}
     for one in written:
         nurse = one.nurse.casefold()
         if one.day >= len(days.columns) or nurse not in known:
             continue
-        if nurse not in at:
-            at[nurse] = len(rows)
+        if nurse not in places:
+            places[nurse] = len(rows)
             rows.append([""] * head + [readable(one.nurse)])
-        row, column = rows[at[nurse]], days.columns[one.day].column
+        row, column = rows[places[nurse]], days.columns[one.day].column
         row.extend([""] * (column + 1 - len(row)))
         row[column] = _cell(row[column], one.word)
     return book._replace(sheets={**book.sheets, "plan": rows})

@@ -4,18 +4,18 @@ from typing import Dict, NamedTuple, Optional, Set, Tuple
 
 from ..week.facts import SHIFT_RUNS, AtPlace, Charged, Choice, Claim
 from .certificate import Case
-from .plan import POINT, STEP, WEEK_DAYS
-from .pricing import Crews
+from .plan import STEP, WEEK_DAYS, Points, Thousandths
+from .pricing import Crews, in_steps
 
 # The number of a nurse, a day of the plan, and a choice.
 NurseChoice = Tuple[int, int, int]
 
 
 class Count(NamedTuple):
-    """A limit of the number of charges of shift runs, and the place of its fact in the case."""
+    """A limit of the number of charges of shift runs, and the index of its fact in the case."""
 
     number: int
-    at: int
+    fact: int
 
 
 class CaseLimits:
@@ -34,11 +34,11 @@ class CaseLimits:
         self.most: Optional[Count] = None
         self.odd: Optional[bool] = None
         self._nurses, self._shifts = nurses, shifts
-        self._places = {place: at for at, place in enumerate(crews.places)}
-        for at, claim in enumerate(case):
-            self._take(at, claim)
+        self._places = {place: number for number, place in enumerate(crews.places)}
+        for index, claim in enumerate(case):
+            self._take(index, claim)
 
-    def _take(self, at: int, claim: Claim) -> None:
+    def _take(self, index: int, claim: Claim) -> None:
         fact, holds = claim
         if isinstance(fact, Choice):
             self._choice(fact, holds)
@@ -46,12 +46,12 @@ class CaseLimits:
             self._at_place(fact, holds)
         elif not isinstance(fact, Charged):
             self.odd = not holds
-            self._at_least(Count(int(not holds), at))
+            self._at_least(Count(int(not holds), index))
         elif fact.kind == SHIFT_RUNS and fact.nurse is None:
             if not holds:
-                self._at_least(Count(fact.most + 1, at))
+                self._at_least(Count(fact.most + 1, index))
             elif self.most is None or fact.most < self.most.number:
-                self.most = Count(fact.most, at)
+                self.most = Count(fact.most, index)
 
     def _at_least(self, count: Count) -> None:
         if count.number > (self.least.number if self.least else 0):
@@ -63,21 +63,21 @@ class CaseLimits:
         self.forbidden.setdefault(self._nurses[fact.nurse], set()).update((day, other) for other in others)
 
     def _at_place(self, fact: AtPlace, holds: bool) -> None:
-        at = self._places[fact.place._replace(day=WEEK_DAYS * (fact.week - 1) + fact.place.day)]
+        place = self._places[fact.place._replace(day=WEEK_DAYS * (fact.week - 1) + fact.place.day)]
         if holds:
-            self.is_empty = self.is_empty or fact.most < self.minimum[at]
-            self.given_up += max(0, self.optimal[at] - fact.most)
-            self.optimal[at] = min(self.optimal[at], fact.most)
+            self.is_empty = self.is_empty or fact.most < self.minimum[place]
+            self.given_up += max(0, self.optimal[place] - fact.most)
+            self.optimal[place] = min(self.optimal[place], fact.most)
         else:
-            self.minimum[at] = max(self.minimum[at], fact.most + 1)
-            self.optimal[at] = max(self.optimal[at], fact.most + 1)
+            self.minimum[place] = max(self.minimum[place], fact.most + 1)
+            self.optimal[place] = max(self.optimal[place], fact.most + 1)
 
-    def in_steps(self, thousandths: int) -> int:
-        """The least penalty of a roster of the case that is not below a number of thousandths, in points. None is below 0."""
-        points = STEP * -(-max(0, thousandths) // (STEP * POINT))
-        return points + STEP * (self.odd is not None and (points // STEP) % 2 != self.odd)
+    def in_steps(self, cost: Thousandths) -> Points:
+        """The minimum penalty of a roster of the case that costs no less than this. None is below 0."""
+        points = in_steps(cost)
+        return Points(points + STEP * (self.odd is not None and (points // STEP) % 2 != self.odd))
 
-    def below(self, target: int) -> int:
+    def below(self, target: Points) -> Points:
         """The greatest penalty of a roster of the case that is below this one."""
         points = target - STEP
-        return points - STEP * (self.odd is not None and (points // STEP) % 2 != self.odd)
+        return Points(points - STEP * (self.odd is not None and (points // STEP) % 2 != self.odd))

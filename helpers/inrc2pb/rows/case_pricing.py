@@ -5,8 +5,8 @@ from typing import Any, Dict, List, NamedTuple, Optional, Set, Tuple
 from ..judging.rules import SHIFT_RUN
 from ..judging.runs import NEVER
 from .case_limits import CaseLimits
-from .certificate import Case, Leaf
-from .plan import POINT, Plan
+from .certificate import Case, Certificate, Leaf
+from .plan import POINT, Plan, Points, Thousandths
 from .pricing import Crews, Prices, Pricing, NurseWeek
 from .row_arrays import Block, Member, blocks_of, numpy
 from .row_graph import Check
@@ -16,21 +16,19 @@ _CODE = 10_000_000
 
 
 class PricedRow(NamedTuple):
-    """A row of a nurse, its cost in points, and its number of charges of shift runs."""
+    """A row of a nurse, its cost, and its number of charges of shift runs."""
 
     nurse: int
     row: NurseWeek
-    cost: int
+    cost: Points
     runs: int
 
 
 class Found(NamedTuple):
-    """The cheapest row of each nurse at some prices, what it costs less what it earns, and what no roster of the case costs less than by
-    these prices, in thousandths."""
+    """The cheapest row of each nurse at some prices, and what no roster of the case costs less than by these prices."""
 
     rows: List[PricedRow]
-    values: List[int]
-    bound: int
+    bound: Thousandths
 
 
 def _split(coded: int) -> Tuple[int, int]:
@@ -63,7 +61,7 @@ class CasePricing:
     def __init__(self, plan: Plan, crews: Crews, check: Check) -> None:
         pricing = Pricing(plan, crews, check, _CODE)
         self.plan, self.crews = plan, crews
-        self.numbers = {nurse: at for at, nurse in enumerate(plan.nurses)}
+        self.numbers = {nurse: number for number, nurse in enumerate(plan.nurses)}
         self.shifts = {shift: number for number, shift in enumerate(plan.scenario.shift_types, 1)}
         self._starts, self._base = pricing.starts, pricing.base
         self._graphs = pricing.graphs
@@ -84,13 +82,13 @@ class CasePricing:
     def counted(self, nurse: int, row: NurseWeek) -> Optional[PricedRow]:
         """A row with its cost and its charges; None if a hard rule forbids it."""
         node, cost, number = self._starts[nurse], self._base[nurse], 0
-        for at, (day, choice) in enumerate(zip(self._graphs[nurse].days, row)):
-            if day.costs[choice][node] >= NEVER // 2 or self._wishes[nurse, at, choice] >= NEVER // 2:
+        for day, (arcs, choice) in enumerate(zip(self._graphs[nurse].days, row)):
+            if arcs.costs[choice][node] >= NEVER // 2 or self._wishes[nurse, day, choice] >= NEVER // 2:
                 return None
-            step, runs = _split(day.costs[choice][node])
-            cost, number = cost + step + int(self._wishes[nurse, at, choice]), number + runs
-            node = day.heads[choice][node]
-        return PricedRow(nurse, row, cost // POINT + SHIFT_RUN * number, number)
+            step, runs = _split(arcs.costs[choice][node])
+            cost, number = cost + step + int(self._wishes[nurse, day, choice]), number + runs
+            node = arcs.heads[choice][node]
+        return PricedRow(nurse, row, Points(cost // POINT + SHIFT_RUN * number), number)
 
     def price(self, limits: CaseLimits, prices: Prices, surcharge: int) -> Optional[Found]:
         """The cheapest rows of a case at these prices, and its bound; None if it has no roster. A surcharge below 0 is for charges of shift
@@ -101,7 +99,7 @@ class CasePricing:
         surcharge = surcharge if limit else 0
         pay = self._pay(prices, limits.forbidden)
         weight = NEVER if limits.most and limits.most.number == 0 else SHIFT_RUN * POINT + surcharge
-        values: List[int] = [0] * len(self._starts)
+        total = sum(self._base) + self._places_cost(limits, prices) - surcharge * (limit.number if limit else 0)
         found: List[PricedRow] = []
         for block in self._blocks:
             least, rows = block.cheapest(pay, weight)
@@ -110,8 +108,8 @@ class CasePricing:
                 if priced is None:
                     return None
                 found.append(priced)
-                values[nurse] = value + self._base[nurse]
-        return Found(found, values, sum(values) + self._places_cost(limits, prices) - surcharge * (limit.number if limit else 0))
+                total += value
+        return Found(found, Thousandths(total))
 
     def _pay(self, prices: Prices, forbidden: Dict[int, Set[Tuple[int, int]]]) -> Any:
         """What each choice costs each nurse beside the costs of her row."""
@@ -128,17 +126,22 @@ class CasePricing:
             least * price + (best - least) * min(self._missing, price) for least, best, price in asked
         )
 
-    def bound(self, case: Case, leaf: Leaf) -> Optional[int]:
-        """What no roster of a case costs less than by a leaf, in points; None if it has no roster."""
+    def bound(self, case: Case, leaf: Leaf) -> Optional[Points]:
+        """What no roster of a case costs less than by a leaf; None if it has no roster."""
         limits = self.limits(case)
         found = self.price(limits, leaf.prices, surcharge_of(limits, leaf))
         return None if found is None else limits.in_steps(found.bound)
 
+    def bound_of(self, certificate: Certificate) -> Points:
+        """What no roster costs less than by a certificate, each leaf priced anew."""
+        found = (self.bound(case, leaf) for case, leaf in certificate.leaves())
+        return min((points for points in found if points is not None), default=Points(NEVER))
+
 
 def surcharge_of(limits: CaseLimits, leaf: Leaf) -> int:
     """The surcharge of a leaf for a charge of a shift run: below 0 if charges are due."""
-    of = leaf.surcharges
-    most, least = (of[limit.at] if limit and limit.at < len(of) else 0 for limit in (limits.most, limits.least))
+    surcharges = leaf.surcharges
+    most, least = (surcharges[limit.fact] if limit and limit.fact < len(surcharges) else 0 for limit in (limits.most, limits.least))
     return most - least
 
 
@@ -147,4 +150,4 @@ def leaf_of(limits: CaseLimits, prices: Prices, surcharge: int) -> Leaf:
     limit = limits.most if surcharge > 0 else limits.least
     if not (surcharge and limit):
         return Leaf(prices)
-    return Leaf(prices, (*[0] * limit.at, abs(surcharge)))
+    return Leaf(prices, (*[0] * limit.fact, abs(surcharge)))

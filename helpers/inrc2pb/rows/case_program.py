@@ -14,6 +14,8 @@ from .row_program import BELOW_MINIMUM
 # The cost of what makes each program feasible: a nurse without a row, and charges of shift runs that are due or too many.
 _ARTIFICIAL = 20_000.0
 _ANY = 1e30
+# The most steps of the simplex method for one solution. The prices at which it was stopped prove something, too.
+SOLUTION_STEPS = 20_000
 # A share no greater than this is none.
 EXACT = 1e-6
 
@@ -41,11 +43,11 @@ class CaseProgram:
         self._pricing, self._crews, self._program = pricing, pricing.crews, program
         self._limits = pricing.limits(())
         self._known: Set[Tuple[int, NurseWeek]] = set()
-        self._of: List[List[int]] = [[] for _ in pricing.plan.nurses]
+        self._numbers: List[List[int]] = [[] for _ in pricing.plan.nurses]
         nurses, places = len(pricing.plan.nurses), len(self._crews.places)
         self._cover = range(nurses, nurses + places)
-        shared = [crew for crew, at in enumerate(self._crews.members) if len(at) > 1]
-        self._links = {crew: nurses + places + at for at, crew in enumerate(shared)}
+        shared = [crew for crew, members in enumerate(self._crews.members) if len(members) > 1]
+        self._links = {crew: nurses + places + index for index, crew in enumerate(shared)}
         self._runs = nurses + places + len(shared)
         program.add_rows([(1.0, 1.0)] * nurses + [(float(best), _ANY) for best in self._crews.optimal])
         program.add_rows([(0.0, _ANY)] * len(shared) + [(-_ANY, _ANY)])
@@ -56,49 +58,49 @@ class CaseProgram:
         program, crews, cost = self._program, self._crews, float(self._pricing.plan.missing_cost)
         asked = zip(self._cover, crews.minimum, crews.optimal)
         first = program.add_columns([Column(cost, 0.0, float(best - least), [(row, 1.0)]) for row, least, best in asked])
-        flows = [(crew, at) for crew in self._links for at in crews.members[crew]]
-        program.add_columns([Column(0.0, 0.0, _ANY, [(self._links[crew], -1.0), (self._cover[at], 1.0)]) for crew, at in flows])
+        flows = [(crew, place) for crew in self._links for place in crews.members[crew]]
+        program.add_columns([Column(0.0, 0.0, _ANY, [(self._links[crew], -1.0), (self._cover[place], 1.0)]) for crew, place in flows])
         below = program.add_columns([Column(float(BELOW_MINIMUM), 0.0, _ANY, [(row, 1.0)]) for row in self._cover])
         last = program.add_columns(
             [Column(_ARTIFICIAL, 0.0, 1.0, [(nurse, 1.0)]) for nurse in range(self._cover.start)]
             + [Column(_ARTIFICIAL, 0.0, _ANY, [(self._runs, sign)]) for sign in (1.0, -1.0)]
         )
-        return {at: first + at for at in range(len(self._cover))}, list(range(below, last + self._cover.start + 2))
+        return {place: first + place for place in range(len(self._cover))}, list(range(below, last + self._cover.start + 2))
 
     def add(self, found: Iterable[PricedRow]) -> int:
         """Adds the rows that are new. Returns their number."""
-        new = [of for of in found if (of.nurse, of.row) not in self._known]
-        first = self._program.add_columns([self._column(of) for of in new])
-        for number, of in enumerate(new, first):
-            self._known.add((of.nurse, of.row))
-            self.rows[number] = of
-            self._of[of.nurse].append(number)
+        new = [priced for priced in found if (priced.nurse, priced.row) not in self._known]
+        first = self._program.add_columns([self._column(priced) for priced in new])
+        for number, priced in enumerate(new, first):
+            self._known.add((priced.nurse, priced.row))
+            self.rows[number] = priced
+            self._numbers[priced.nurse].append(number)
         return len(new)
 
-    def _column(self, of: PricedRow) -> Column:
-        entries = {of.nurse: 1.0}
-        for crews, choice in zip(self._crews.of[of.nurse], of.row):
+    def _column(self, priced: PricedRow) -> Column:
+        entries = {priced.nurse: 1.0}
+        for crews, choice in zip(self._crews.of[priced.nurse], priced.row):
             places = self._crews.members[crews[choice]]
             if places:
                 entries[self._links[crews[choice]] if len(places) > 1 else self._cover[places[0]]] = 1.0
-        if of.runs:
-            entries[self._runs] = float(of.runs)
-        forbidden = self._limits.forbidden.get(of.nurse, ())
-        return Column(float(of.cost), 0.0, 0.0 if _is_forbidden(of.row, forbidden) else _ANY, list(entries.items()))
+        if priced.runs:
+            entries[self._runs] = float(priced.runs)
+        forbidden = self._limits.forbidden.get(priced.nurse, ())
+        return Column(float(priced.cost), 0.0, 0.0 if _is_forbidden(priced.row, forbidden) else _ANY, list(entries.items()))
 
     def take(self, limits: CaseLimits) -> None:
         """Goes on with the case of these limits."""
         old, self._limits = self._limits, limits
         rows, columns = {}, {}
-        for at, row in enumerate(self._cover):
-            if (old.minimum[at], old.optimal[at]) != (limits.minimum[at], limits.optimal[at]):
-                rows[row] = (float(limits.optimal[at]), _ANY)
-                columns[self._missing[at]] = (0.0, float(limits.optimal[at] - limits.minimum[at]))
+        for place, row in enumerate(self._cover):
+            if (old.minimum[place], old.optimal[place]) != (limits.minimum[place], limits.optimal[place]):
+                rows[row] = (float(limits.optimal[place]), _ANY)
+                columns[self._missing[place]] = (0.0, float(limits.optimal[place] - limits.minimum[place]))
         least, most = limits.least.number if limits.least else -_ANY, limits.most.number if limits.most else _ANY
         rows[self._runs] = (float(least), float(most))
         for nurse in {*old.forbidden, *limits.forbidden}:
             before, now = old.forbidden.get(nurse, set()), limits.forbidden.get(nurse, set())
-            for number in self._of[nurse] if before != now else ():
+            for number in self._numbers[nurse] if before != now else ():
                 columns[number] = (0.0, 0.0 if _is_forbidden(self.rows[number].row, now) else _ANY)
         self._program.bound_rows(rows)
         self._program.bound_columns(columns)
@@ -116,16 +118,16 @@ class CaseProgram:
         return self._value(found.value)
 
     def solve(self, clock: Clock, is_new_case: bool) -> CaseSolution:
-        """A solution of the program in the case that it has now."""
-        found = self._program.solve(clock, DUAL if is_new_case else PRIMAL)
-        if found.status not in (OPTIMAL, STOPPED):
-            found = self._program.solve(clock, PRIMAL)
-        if not found.prices:
+        """A solution of the program in the case that it has now, or where the method was stopped after its most steps."""
+        found = self._program.solve(clock, DUAL, SOLUTION_STEPS) if is_new_case else None
+        if found is None or found.status != OPTIMAL:
+            found = self._program.solve(clock, PRIMAL, SOLUTION_STEPS)
+        if not found.prices or found.status not in (OPTIMAL, STOPPED):
             raise SolverFault("a linear program that has solutions has none")
         prices = [min(MAX_PRICE, max(0, round(found.prices[row] * POINT))) for row in self._cover]
         nurses = [round(found.prices[nurse] * POINT) for nurse in range(self._cover.start)]
         shares = {number: found.columns[number] for number in self.rows if found.columns[number] > EXACT}
-        missing = {at: found.columns[number] for at, number in self._missing.items() if found.columns[number] > EXACT}
+        missing = {place: found.columns[number] for place, number in self._missing.items() if found.columns[number] > EXACT}
         is_real = all(found.columns[number] <= EXACT for number in self._fixed)
         return CaseSolution(self._value(found.value), prices, nurses, -round(found.prices[self._runs] * POINT), shares, missing, is_real)
 

@@ -9,7 +9,7 @@ from .case_limits import CaseLimits, NurseChoice
 from .case_pricing import CasePricing
 from .case_program import CaseProgram, CaseSolution
 from .certificate import Case
-from .plan import STEP, WEEK_DAYS
+from .plan import STEP, WEEK_DAYS, Points
 
 _Key = TypeVar("_Key", int, NurseChoice)
 # A share this near to a whole number is one.
@@ -51,13 +51,13 @@ def suggested(pricing: CasePricing, program: CaseProgram, now: CaseSolution, lim
         yield Charged(SHIFT_RUNS, None, math.floor(runs))
     names, shifts = pricing.plan.nurses, [None, *pricing.shifts]
     for partly in (on, off):
-        shares = {of: share for of, share in partly.items() if _is_partly(share)}
+        shares = {key: share for key, share in partly.items() if _is_partly(share)}
         for nurse, day, choice in _halves(shares):
             yield Choice(day // WEEK_DAYS + 1, names[nurse], day % WEEK_DAYS, shifts[choice])
-    there = {at: limits.optimal[at] - share for at, share in now.missing.items() if _is_partly(share)}
-    for at in _halves(there):
-        place = pricing.crews.places[at]
-        yield AtPlace(place.day // WEEK_DAYS + 1, place._replace(day=place.day % WEEK_DAYS), math.floor(there[at]))
+    there = {number: limits.optimal[number] - share for number, share in now.missing.items() if _is_partly(share)}
+    for number in _halves(there):
+        place = pricing.crews.places[number]
+        yield AtPlace(place.day // WEEK_DAYS + 1, place._replace(day=place.day % WEEK_DAYS), math.floor(there[number]))
 
 
 def _is_partly(number: float) -> bool:
@@ -70,7 +70,7 @@ def _halves(numbers: Dict[_Key, float]) -> List[_Key]:
 
 
 def best_split(
-    pricing: CasePricing, program: CaseProgram, now: CaseSolution, case: Case, facts: Sequence[Fact], target: int, clock: Clock
+    pricing: CasePricing, program: CaseProgram, now: CaseSolution, case: Case, facts: Sequence[Fact], target: Points, clock: Clock
 ) -> Rated:
     """The split whose cases cost most by the known rows. What they cost above the target does not count."""
     if len(facts) == 1:
@@ -85,4 +85,7 @@ def best_split(
         cases = [pricing.limits((*case, Claim(fact, holds))) for holds in (True, False)]
         holds, fails = (min(float(most), program.rise(limits, clock, STEPS)) - now.value for limits in cases)
         tried.append(Rated(fact, (holds, fails)))
+        if min(holds, fails) >= most - now.value:
+            # Both cases seem to be closed: no split is better.
+            break
     return max(tried, key=lambda split: split.score)

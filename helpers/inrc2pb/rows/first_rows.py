@@ -137,11 +137,11 @@ class Descent:
         self._number = [0] * len(crews.places)
         index = {place: number for number, place in enumerate(crews.places)}
         names = {nurse: number for number, nurse in enumerate(pricing.plan.nurses)}
-        self._at: List[List[int]] = [[] for _ in rows]
+        self._placed: List[List[int]] = [[] for _ in rows]
         for cell in staffed(pricing.plan, crews, rows).cells:
             place = index.get(Place(cell.day, cell.shift, cell.skill))
             if place is not None:
-                self._at[names[cell.nurse]].append(place)
+                self._placed[names[cell.nurse]].append(place)
                 self._number[place] += 1
 
     def sweep(self, check: Check) -> int:
@@ -151,7 +151,7 @@ class Descent:
     def _improve(self, nurse: int, check: Check) -> bool:
         check()
         crews, table = self._pricing.crews, self._pricing.crews.of[nurse]
-        for place in self._at[nurse]:
+        for place in self._placed[nurse]:
             self._number[place] -= 1
         worth = _Worth(self._pricing, self._number)
         old, found = self._pricing.cost(nurse, self.rows[nurse]), self._pricing.cheapest(nurse, worth)
@@ -162,7 +162,7 @@ class Descent:
         if better and found is not None:
             self.rows[nurse] = found.row
             members = (crews.members[table[day][choice]] for day, choice in enumerate(found.row))
-            self._at[nurse] = [max(places, key=worth.of_place) for places in members if places]
-        for place in self._at[nurse]:
+            self._placed[nurse] = [max(places, key=worth.of_place) for places in members if places]
+        for place in self._placed[nurse]:
             self._number[place] += 1
         return better

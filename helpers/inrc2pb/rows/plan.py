@@ -4,15 +4,18 @@ Days count from 0 through all weeks. A choice is 0 for a day off, and one more t
 """
 
 from dataclasses import dataclass, replace
-from typing import Dict, FrozenSet, Iterable, Iterator, List, NamedTuple, Optional, Sequence, Tuple
+from typing import Dict, FrozenSet, Iterable, Iterator, List, NamedTuple, NewType, Optional, Sequence, Tuple
 
 from ..judging.absences import MARK, absences_of
+from ..week.facts import SHIFTS, WEEKENDS, Charged, Choice, Claim
 from ..week.records import Absence, Cell, History, KeptLimit, Place, Request, Requirement, Scenario, WeekData
 from ..judging.rules import MISSING_NURSE, REQUEST
 from ..judging.runs import NEVER
 
 WEEK_DAYS = 7
-# Costs and prices are whole numbers of thousandths of a point.
+# The units of costs. Prices are whole numbers of thousandths of a point.
+Points = NewType("Points", int)
+Thousandths = NewType("Thousandths", int)
 POINT = 1000
 # The costs of all rosters are multiples of it.
 STEP = 5
@@ -27,7 +30,7 @@ class Keeping(NamedTuple):
     limit: int
 
 
-STRICT, FREE = Keeping(NEVER, NEVER), Keeping(0, 0)
+STRICT, ONLY_ABSENCES, FREE = Keeping(NEVER, NEVER), Keeping(NEVER, 0), Keeping(0, 0)
 # If no roster keeps all: absences come first.
 ABSENCES_KEPT, FEW_BROKEN = Keeping(NEVER, 600), Keeping(3000, 600)
 
@@ -112,6 +115,23 @@ class Plan:
     def most_above(self, nurse: str, kind: str) -> Optional[int]:
         """How often the nurse may exceed her contract's maximum of this kind; None if no limit of hers is kept."""
         return min((limit.most for limit in self.limits if limit[:2] == (nurse, kind)), default=None)
+
+    def facts(self) -> Tuple[Claim, ...]:
+        """The absences and limits that its rows keep, as facts about its weeks."""
+        found: List[Claim] = []
+        if self.keeping.absence == NEVER:
+            for nurse, day, shift in sorted(self.away, key=lambda absence: (absence.day, absence.nurse, absence.shift or "")):
+                found.append(Claim(Choice(day // WEEK_DAYS + 1, nurse, day % WEEK_DAYS, shift), shift is None))
+        for nurse, kind, most in sorted(self.limits) if self.keeping.limit == NEVER else ():
+            # Nobody can take back the part of the past above a total.
+            found.append(Claim(Charged(kind, nurse, max(most, self._above(nurse, kind)))))
+        return tuple(found)
+
+    def _above(self, nurse: str, kind: str) -> int:
+        """How much the history has above a total of the nurse's contract; 0 or less: nothing."""
+        contract, past = self.scenario.contract_of(nurse), self.history.nurses[nurse]
+        above = {SHIFTS: past.assignments - contract.assignments.maximum, WEEKENDS: past.weekends - contract.max_weekends}
+        return above.get(kind, 0)
 
     def is_away(self, nurse: str, day: int, shift: str) -> bool:
         """Whether an absence forbids the nurse this shift type."""

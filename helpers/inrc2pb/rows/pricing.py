@@ -3,7 +3,7 @@
 import copy
 from typing import Any, Dict, List, NamedTuple, Optional, Sequence, Tuple, Union
 
-from .plan import FREE, POINT, STEP, Plan
+from .plan import FREE, POINT, STEP, Plan, Points, Thousandths
 from ..judging.runs import NEVER, Runs, RunState
 from ..judging.rules import SHIFT_RUN
 from ..week.facts import WORK_DAYS
@@ -24,9 +24,9 @@ _Pay = List[List[int]]
 class Priced(NamedTuple):
     """A nurse's cheapest row at some prices: its cost less what it earns, in thousandths, and its own cost in points."""
 
-    value: int
+    value: Thousandths
     row: NurseWeek
-    cost: int
+    cost: Points
 
 
 class Crews:
@@ -158,7 +158,7 @@ class Pricing:
             return None
         value += self.base[nurse]
         earned = sum(gains[crews[choice]] for crews, choice in zip(self.crews.of[nurse], row))
-        return Priced(value, row, (value + earned) // POINT)
+        return Priced(Thousandths(value), row, Points((value + earned) // POINT))
 
     def cheapest_of(self, nurses: Sequence[int], gains: Sequence[int]) -> List[Optional[Priced]]:
         """The cheapest row of each of these nurses."""
@@ -168,22 +168,22 @@ class Pricing:
             self._batch = _Batch(self.graphs, self.starts, self._days, self._rows)
         return self._batch.cheapest(nurses, gains, self)
 
-    def cost(self, nurse: int, row: NurseWeek) -> Optional[int]:
-        """What a row costs its nurse, in points; None if a hard rule forbids it."""
+    def cost(self, nurse: int, row: NurseWeek) -> Optional[Points]:
+        """What a row costs its nurse; None if a hard rule forbids it."""
         wishes = sum(costs[row[day]] for day, costs in self.wishes[nurse].items())
         cost = self.graphs[nurse].walked(self.starts[nurse], row)[1] + wishes + self.base[nurse]
-        return None if cost >= NEVER // 2 else cost // POINT
+        return None if cost >= NEVER // 2 else Points(cost // POINT)
 
     def within(self, nurse: int, gains: Gains, gap: int, most: int) -> List[NurseWeek]:
         """The nurse's rows that cost at most this gap more than her cheapest one, but no more than `most` + 1."""
         pay, graph, start = self._pay(nurse, gains), self.graphs[nurse], self.starts[nurse]
         return graph.within(start, pay, graph.cheapest(start, pay)[0] + gap, most)
 
-    def places_cost(self, prices: Prices) -> int:
-        """What all places cost at least, if they pay these prices to their nurses, in thousandths."""
+    def places_cost(self, prices: Prices) -> Thousandths:
+        """What all places cost at least, if they pay these prices to their nurses."""
         asked = zip(self.crews.minimum, self.crews.optimal, prices)
         most = self.plan.missing_cost * POINT
-        return sum(minimum * price + (best - minimum) * min(most, price) for minimum, best, price in asked)
+        return Thousandths(sum(minimum * price + (best - minimum) * min(most, price) for minimum, best, price in asked))
 
 
 class _Batch:
@@ -241,16 +241,16 @@ class _Batch:
             value += sum(int(self._wishes[nurse, day, row[day]] - earned[day, row[day]]) for day in others)
         value += pricing.base[nurse]
         income = int(earned[numpy.arange(len(row)), list(row)].sum())
-        return Priced(value, row, (value + income) // POINT)
+        return Priced(Thousandths(value), row, Points((value + income) // POINT))
 
 
-def plain_bound(pricing: Pricing, prices: Prices) -> int:
-    """What no roster of the plan costs less than by these prices, in points: no program has proved it."""
+def plain_bound(pricing: Pricing, prices: Prices) -> Points:
+    """What no roster of the plan costs less than by these prices: no program has proved it."""
     gains = pricing.crews.gains(prices)
     found = pricing.cheapest_of(range(len(pricing.plan.nurses)), gains)
-    return max(0, in_steps(pricing.places_cost(prices) + sum(priced.value for priced in found if priced)))
+    return in_steps(Thousandths(pricing.places_cost(prices) + sum(priced.value for priced in found if priced)))
 
 
-def in_steps(thousandths: int) -> int:
-    """The least multiple of STEP that is not below a number of thousandths, in points."""
-    return STEP * -(-thousandths // (STEP * POINT))
+def in_steps(cost: Thousandths) -> Points:
+    """The minimum penalty of a roster that costs no less than this. None is below 0."""
+    return Points(STEP * -(-max(0, cost) // (STEP * POINT)))

@@ -76,16 +76,16 @@ class Block:
     graph of her own, which lie side by side."""
 
     def __init__(self, members: Sequence[Member], last: int, first: int = 0) -> None:
-        self.nurses, self._first, self._last = [of.nurse for of in members], first, last
-        self._is_one = all(of.arrays is members[0].arrays for of in members)
-        graphs = [members[0].arrays] if self._is_one else [of.arrays for of in members]
-        offsets = [numpy.cumsum([0, *(of.nodes[day] for of in graphs)]) for day in range(first, last + 1)]
+        self.nurses, self._first, self._last = [member.nurse for member in members], first, last
+        self._is_one = all(member.arrays is members[0].arrays for member in members)
+        graphs = [members[0].arrays] if self._is_one else [member.arrays for member in members]
+        offsets = [numpy.cumsum([0, *(graph.nodes[day] for graph in graphs)]) for day in range(first, last + 1)]
         self._days = [self._day(graphs, day, offsets[day - first + 1]) for day in range(first, last)]
-        starts = numpy.array([of.start for of in members])
+        starts = numpy.array([member.start for member in members])
         self._starts = starts if self._is_one else starts + offsets[0][:-1]
         self._rest = numpy.zeros((offsets[-1][-1], 1), dtype=numpy.int64)
         if members[0].rest is not None:
-            rests = [of.rest for of in members]
+            rests = [member.rest for member in members]
             self._rest = numpy.stack(rests, axis=1) if self._is_one else numpy.concatenate(rests)[:, None]
 
     @property
@@ -103,11 +103,11 @@ class Block:
     def _day(graphs: Sequence[Arrays], day: int, offsets: Any) -> _Day:
         if len(graphs) == 1:
             return _Day(*graphs[0].days[day])
-        days = [of.days[day] for of in graphs]
+        days = [graph.days[day] for graph in graphs]
         choices = len(days[0][0])
-        heads = [of[1] + offset for of, offset in zip(days, offsets)]
-        paid = [of[2] + choices * owner for owner, of in enumerate(days)]
-        return _Day(numpy.concatenate([of[0] for of in days], axis=1), numpy.concatenate(heads, axis=1), numpy.concatenate(paid))
+        heads = [arcs[1] + offset for arcs, offset in zip(days, offsets)]
+        paid = [arcs[2] + choices * owner for owner, arcs in enumerate(days)]
+        return _Day(numpy.concatenate([arcs[0] for arcs in days], axis=1), numpy.concatenate(heads, axis=1), numpy.concatenate(paid))
 
     def cheapest(self, pay: Any, wanted: Sequence[int], starts: Optional[Sequence[int]] = None) -> Tuple[Any, Any]:
         """The minimum cost of a row of each of these nurses, who are numbers in the block, and the first row that has it, on the days of
@@ -151,15 +151,15 @@ def blocks_of(members: Sequence[Member], last: int, first: int = 0) -> List[Bloc
     together: List[List[Member]] = [[]]
     alone: Dict[int, List[Member]] = {}
     size = 0
-    for of in members:
-        if of.arrays.size > SMALL:
-            alone.setdefault(id(of.arrays), []).append(of)
+    for member in members:
+        if member.arrays.size > SMALL:
+            alone.setdefault(id(member.arrays), []).append(member)
             continue
         if size > BLOCK:
             together.append([])
             size = 0
-        together[-1].append(of)
-        size += of.arrays.size
+        together[-1].append(member)
+        size += member.arrays.size
     return [Block(found, last, first) for found in [*together, *alone.values()] if found]
 
 

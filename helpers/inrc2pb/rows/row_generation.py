@@ -9,7 +9,7 @@ from typing import Callable, Dict, Iterable, List, Optional, Sequence
 from ..programs.clock import Clock
 from ..solvers.linear_solvers import LinearSolver
 from ..solvers.resident_program import LinearProgram, no_solver
-from .plan import POINT, STEP
+from .plan import POINT, STEP, Points, Thousandths
 from .pricing import Priced, Prices, Pricing, NurseWeek, in_steps
 from ..week.records import Place
 from .row_program import MOST_BELOW, RowProgram, Solved
@@ -41,8 +41,8 @@ class RowGeneration:
         self._solver, self._heard = solver, heard
         self.program = RowProgram(self.plan, pricing.crews, solver.program() if solver else LinearProgram(None, no_solver))
         self.prices: Prices = [0] * len(pricing.crews.places)
-        # The lower bound in thousandths.
-        self.bound: Optional[int] = None
+        # No roster costs less, in thousandths.
+        self.bound: Optional[Thousandths] = None
         # Whether the linear program has all the rows that it needs.
         self.complete = False
         # The last solution of that program.
@@ -51,9 +51,9 @@ class RowGeneration:
         self.misses_minimums = False
 
     @property
-    def lower_bound(self) -> Optional[int]:
+    def lower_bound(self) -> Optional[Points]:
         """No roster costs less, by the best prices."""
-        return None if self.bound is None else max(0, in_steps(self.bound))
+        return None if self.bound is None else in_steps(self.bound)
 
     # ---- known rows
 
@@ -81,7 +81,7 @@ class RowGeneration:
         if cost is not None:
             self._add(nurse, row, cost, self.prices)
 
-    def _add(self, nurse: int, row: NurseWeek, cost: int, prices: Prices, places: Sequence[Optional[int]] = ()) -> bool:
+    def _add(self, nurse: int, row: NurseWeek, cost: Points, prices: Prices, places: Sequence[Optional[int]] = ()) -> bool:
         """Adds a row to those in use. Returns whether it was none of them."""
         return self.program.add(nurse, row, cost, prices, places)[1]
 
@@ -100,7 +100,7 @@ class RowGeneration:
     def _raise_bound(self, prices: Prices, found: Dict[int, Priced]) -> None:
         bound = sum(priced.value for priced in found.values()) + self.pricing.places_cost(prices)
         if self.bound is None or bound > self.bound:
-            self.bound, self.prices = bound, prices
+            self.bound, self.prices = Thousandths(bound), prices
             self._heard()
 
     def _earned(self, prices: Prices, nurse: int, row: NurseWeek) -> int:

@@ -11,11 +11,11 @@ from typing import Callable, Dict, List, NamedTuple, Optional, Sequence, Set, Tu
 from ..programs.clock import Clock, TimeIsOver
 from ..solvers.answers import SolverFault
 from ..solvers.linear_solvers import LinearSolver
-from .plan import POINT, STEP, WEEK_DAYS
+from .plan import POINT, STEP, WEEK_DAYS, Points
 from .pricing import Pricing, NurseWeek
 from ..week.records import Place, Requirement
 from .row_generation import NoRow
-from .row_search import RowSearch
+from .row_search import SHARES_OF_PERIOD, RowSearch
 from .skills import staffed
 
 # The nurses of the first neighborhood of one week, and the fewest of any.
@@ -32,6 +32,10 @@ DIVE_GAP, CHOOSE_GAP = STEP * POINT, 20 * POINT
 CHANGED_SHARE, MOST_CHANGED = 0.4, 2
 # The known rows of each nurse with which a neighborhood begins.
 MOST_KNOWN = 20
+# Above this gap, in thousandths, dives are made in a week, too.
+WIDE_GAP = 6 * STEP * POINT
+# The share of the time that is left for a dive in a period. After the first ones their work is at most this part of the work of all parts.
+DIVE_SHARE, DIVES = 0.5, 0.5
 # Up to this part of the bound a gap is small. The share of the time that is left for an integer program over the known rows of all
 # nurses then.
 SMALL_GAP, WHOLE_SHARE = 0.03, 0.3
@@ -56,9 +60,9 @@ class RowParts:
         self._known = search.cheapest_known(MOST_KNOWN)
         self._minimums = search.minimum_values()
         lengths = dict.fromkeys(math.ceil(share * search.plan.days) for share in DAYS_SHARES)
-        # For each number of days the number of nurses of the next neighborhood, and the work of all until now.
+        # For each number of days the number of nurses of the next neighborhood, and the work of all until now; the work of dives.
         self._sizes = {length: min(len(search.plan.nurses), FIRST_SIZE * (WEEK_DAYS / length) ** 0.5) for length in lengths}
-        self._spent = dict.fromkeys(lengths, 0)
+        self._spent, self._dived = dict.fromkeys(lengths, 0), 0
         # The days on which new choices of all nurses do not make the best roster better.
         self._closed: Set[range] = set()
         # Guards all that the threads share: the search, the chance and the lines above.
@@ -68,7 +72,7 @@ class RowParts:
         """Searches until the time is over or the best roster is proved."""
         shared = clock.part(clock.left())
         with concurrent.futures.ThreadPoolExecutor(len(self._solvers)) as pool:
-            workers = [pool.submit(self._work, solver, shared, number == 0) for number, solver in enumerate(self._solvers)]
+            workers = [pool.submit(self._work, solver, shared, number) for number, solver in enumerate(self._solvers)]
             left = len(workers)
             try:
                 for worker in concurrent.futures.as_completed(workers):
@@ -86,20 +90,55 @@ class RowParts:
             finally:
                 shared.stop()
 
-    def _work(self, solver: LinearSolver, clock: Clock, is_first: bool) -> None:
-        """One thread: neighborhoods of sizes that its time allows. If the gap is small, the first thread begins with all nurses."""
+    def _work(self, solver: LinearSolver, clock: Clock, number: int) -> None:
+        """One thread: neighborhoods of sizes that its time allows. In a period it begins with a dive. In a week with a small gap the first
+        thread begins with all nurses."""
         search = self._search
-        if is_first and search.bound is not None and search.penalty is not None and search.gap() < SMALL_GAP * search.bound:
+        if self._dives:
+            self._dive(solver, clock, SHARES_OF_PERIOD[number % len(SHARES_OF_PERIOD)])
+        elif number == 0 and search.bound is not None and search.penalty is not None and search.gap() < SMALL_GAP * search.bound:
             with contextlib.suppress(TimeIsOver):
                 everything = Part(tuple(range(len(search.plan.nurses))), range(search.plan.days), limited=False)
                 self.improve(everything, solver, clock.part(clock.left() * WHOLE_SHARE))
         while not search.is_proved:
             clock.check()
+            if self._dives and self._dived < DIVES * sum(self._spent.values()):
+                self._dive(solver, clock, self._chance.choice(SHARES_OF_PERIOD), self._chance)
+                continue
             part, penalty = self._next(), search.penalty
             ended, work = self.improve(part, solver, clock.part(MOST_SECONDS))
             self._learn(part, ended, work, search.penalty != penalty)
         clock.stop()
         solver.end_all()
+
+    @property
+    def _dives(self) -> bool:
+        """Whether more dives are worth their time: in a period, or if the gap is wide."""
+        return len(self._search.plan.weeks) > 1 or (self._search.bound is not None and self._search.gap() > WIDE_GAP)
+
+    def _dive(self, solver: LinearSolver, clock: Clock, share: float, chance: Optional[random.Random] = None) -> None:
+        """A dive over all nurses and days, which fixes this share of the rows at once."""
+        whole, part = self._search, clock.part(clock.left() * DIVE_SHARE)
+        search = RowSearch(whole.pricing, solver, part, self._offer, lambda: None)
+        search.penalty = whole.penalty
+        search.begin_at(whole)
+        for column in list(whole.program.columns):
+            search.add_row(column.nurse, column.row)
+        try:
+            search.generate(part)
+            found = search.dive(part, share, chance)
+            if found:
+                self._offer(found, "fixing rows")
+        except TimeIsOver:
+            clock.check()
+        finally:
+            search.program.close()
+            with self._lock:
+                self._dived += search.program.iterations
+
+    def _offer(self, rows: List[NurseWeek], finder: str) -> Optional[Points]:
+        """Keeps rows of all nurses if they are better than the best ones; their penalty then."""
+        return self._search.penalty if self._search.keep(rows, finder) else None
 
     def _learn(self, part: Part, ended: bool, work: int, is_better: bool) -> None:
         """Counts the work of a neighborhood, and changes the number of nurses of later ones of this length. `is_better` says whether the
@@ -156,7 +195,7 @@ class RowParts:
             assert whole.rows is not None
             rows = list(whole.rows)
 
-        def offer(found: List[NurseWeek], finder: str) -> Optional[int]:
+        def offer(found: List[NurseWeek], finder: str) -> Optional[Points]:
             # Meanwhile another thread may have found better rows of other nurses, or on other days.
             with self._lock:
                 assert whole.rows is not None
@@ -183,7 +222,7 @@ class RowParts:
         for number, day in part.changed:
             search.pricing.forbid(number, day, own[number][day])
         if part.changed and search.penalty is not None:
-            search.penalty += STEP
+            search.penalty = Points(search.penalty + STEP)
         search.add_roster(own)
         search.begin_at(whole)
         first, stop = part.days.start, part.days.stop

@@ -5,8 +5,8 @@ from typing import Dict, Iterable, List, NamedTuple, Optional, Sequence, Tuple
 
 from ..programs.clock import Clock, TimeIsOver
 from ..solvers.answers import SolverFault
-from ..solvers.resident_program import DUAL, OPTIMAL, PRIMAL, Column, LinearProgram
-from .plan import POINT, Plan
+from ..solvers.resident_program import DUAL, OPTIMAL, PRIMAL, STOPPED, Column, LinearProgram
+from .plan import POINT, Plan, Points
 from .pricing import MAX_PRICE, Crews, NurseWeek, Prices
 
 # The cost of a nurse below a minimum at first, in points, and the maximum cost.
@@ -19,11 +19,11 @@ _FREE, _OUT = (0.0, math.inf), (0.0, 0.0)
 
 
 class RowColumn(NamedTuple):
-    """A row of a nurse with its cost in points, and its number in the linear program."""
+    """A row of a nurse with its cost, and its number in the linear program."""
 
     nurse: int
     row: NurseWeek
-    cost: int
+    cost: Points
     number: int
 
 
@@ -49,7 +49,7 @@ class RowProgram:
         self.below = BELOW_MINIMUM if plan.charging else 1
         self._known: Dict[Tuple[int, NurseWeek, Tuple[int, ...]], int] = {}
         # The columns of each nurse, those that are not in use, and those that are out because another row of the nurse is held.
-        self._of: List[List[int]] = [[] for _ in plan.nurses]
+        self._numbers: List[List[int]] = [[] for _ in plan.nurses]
         self._dropped: Dict[int, None] = {}
         self._held: Dict[int, int] = {}
         # The row of each crew that has several places.
@@ -67,7 +67,7 @@ class RowProgram:
 
     # ---- columns
 
-    def add(self, nurse: int, row: NurseWeek, cost: int, prices: Prices, chosen: Sequence[Optional[int]] = ()) -> Tuple[int, bool]:
+    def add(self, nurse: int, row: NurseWeek, cost: Points, prices: Prices, chosen: Sequence[Optional[int]] = ()) -> Tuple[int, bool]:
         """Adds a row. Returns its column, and whether it was none in use. If columns name places, they are these on each day, or else those
         of the highest prices."""
         table = self._crews.of[nurse]
@@ -87,7 +87,7 @@ class RowProgram:
         entries = [(nurse, 1.0), *((row, 1.0) for row in rows if row is not None)]
         number = self._program.add_columns([Column(cost, *_FREE, entries)])
         self._known[key] = len(self.columns)
-        self._of[nurse].append(len(self.columns))
+        self._numbers[nurse].append(len(self.columns))
         self.columns.append(RowColumn(nurse, row, cost, number))
         return self._known[key], True
 
@@ -117,12 +117,12 @@ class RowProgram:
         """Lets a nurse have the row of this column only."""
         nurse = self.columns[column].nurse
         self._held[nurse] = column
-        self._program.bound_columns({self.columns[other].number: _OUT for other in self._of[nurse] if other != column})
+        self._program.bound_columns({self.columns[other].number: _OUT for other in self._numbers[nurse] if other != column})
 
     def free(self) -> None:
         """Lets all nurses have any row in use again."""
         for nurse, column in self._held.items():
-            back = (other for other in self._of[nurse] if other != column and other not in self._dropped)
+            back = (other for other in self._numbers[nurse] if other != column and other not in self._dropped)
             self._program.bound_columns({self.columns[other].number: _FREE for other in back})
         self._held.clear()
 
@@ -140,27 +140,30 @@ class RowProgram:
     def solve(self, clock: Clock, dual: bool = False) -> Solved:
         """Solves the linear program from the basis of its last solution; after changes of bounds by the `dual` method. Prices that are no
         prices are cut."""
-        if self.iterations > self.most_iterations:
+        left = self.most_iterations - self.iterations
+        if left < 1:
             raise TimeIsOver
-        found = self._program.solve(clock, DUAL if dual else PRIMAL)
+        found = self._program.solve(clock, DUAL if dual else PRIMAL, int(left) if left < math.inf else 0)
         self.iterations += found.iterations
+        if found.status == STOPPED:
+            raise TimeIsOver
         if found.status != OPTIMAL:
             raise SolverFault("the solver of linear programs found no solution")
         of_places = found.prices[self._nurses : self._nurses + len(self._crews.places)]
         prices = [min(MAX_PRICE, max(0, round(price * POINT))) for price in of_places]
         nurses = [round(price * POINT) for price in found.prices[: self._nurses]]
         values = found.columns
-        shares = {column: values[of.number] for column, of in enumerate(self.columns) if values[of.number] > _TINY}
+        shares = {index: values[column.number] for index, column in enumerate(self.columns) if values[column.number] > _TINY}
         missing = sum(values[number] for number in self._below)
-        return Solved(found.value, prices, nurses, shares, missing, [found.rises[of.number] for of in self.columns])
+        return Solved(found.value, prices, nurses, shares, missing, [found.rises[column.number] for column in self.columns])
 
     def text(self, use: Iterable[int]) -> str:
         """The integer program over these columns: column N is vN."""
         names = [f"x{number}" for number in range(self._program.columns)]
-        for of in self.columns:
-            names[of.number] = ""
-        for column in use:
-            names[self.columns[column].number] = f"v{column}"
+        for column in self.columns:
+            names[column.number] = ""
+        for index in use:
+            names[self.columns[index].number] = f"v{index}"
         return self._program.text(names, whole="v")
 
     def chosen(self, names: Iterable[str]) -> Optional[List[int]]:

@@ -2,23 +2,19 @@
 
 import concurrent.futures
 import contextlib
-import math
 import time
-from typing import Callable, List, Optional, Sequence, Tuple, TypeVar
+from typing import Callable, List, Optional, Sequence, TypeVar
 
-from .case_hunt import CaseHunt
-from .case_tree import tree_of
-from .cases import PricedCase
-from .certificate import Certificate
+from .case_tree import CaseTree, tree_of
+from .certificate import Certificate, Leaf
 from ..programs.clock import Clock, TimeIsOver
 from .first_rows import matched_rows
 from ..solvers.answers import SolverFault
 from ..solvers.linear_solvers import LinearSolver
-from .plan import POINT, STEP, Plan
+from .plan import POINT, STEP, Plan, Points
 from ..judging.runs import NEVER
-from .pricing import Crews, Prices, Pricing, NurseWeek
+from .pricing import Crews, Pricing, NurseWeek
 from ..programs.processes import processors
-from ..week.records import Place
 from .row_arrays import numpy
 from .row_generation import NoRow, RowGeneration
 from .row_parts import RowParts
@@ -30,37 +26,51 @@ from .skills import staffed
 ROWS_SHARE, DIVE_SHARE, LAST_DIVE_SHARE, KNOWN_SHARE, LISTED_SHARE = 0.5, 0.5, 0.8, 0.03, 0.5
 # The most rows of an integer program.
 MOST_LISTED = 6_000
-# Up to this gap, in thousandths, a tree of cases comes before a list of all rows, with this share of the time that is left.
-TREE_GAP, TREE_SHARE = 4 * STEP * POINT, 0.25
+# Up to this gap, in thousandths, a tree of cases may end soon: for this number of seconds nothing else is done.
+TREE_GAP, TREE_SECONDS = 4 * STEP * POINT, 1.0
+# The share of the time that is left for a tree alone, if the gap is one step.
+LAST_SHARE = 0.5
+# The seconds that a tree has after a solver's claim of the best roster, or more if the search took longer.
+PROOF_SECONDS = 5.0
 # Seconds between two looks whether the gap is small.
 WAIT_SECONDS = 0.2
-# The seconds for cases if a solver claims the best roster, or more if the search took longer. Without a claim cases are tried up to this
-# gap, in thousandths, in a share of the time that is left.
-CASES_SECONDS, CASES_GAP, CASES_SHARE = 5.0, STEP * POINT, 0.05
 Found = TypeVar("Found")
 
 
 class RowRun:
     """A search over the rows of a plan. `start` has the rows to begin with, if any; `heard` is called if the bound rises, and when it is
-    final. The `seed` begins its random choices. `proves` says whether a program proves by the certificate that
-    no roster costs less than the best one; without it there are no trees of cases."""
+    final. The `seed` begins its random choices. Without `splits` no cases raise the bound of the prices."""
 
     def __init__(
         self, plan: Plan, solver: Optional[LinearSolver], clock: Clock, offer: Offer, heard: Callable[[], None],
-        start: Optional[List[NurseWeek]] = None, seed: int = 1, proves: Optional[Callable[[], bool]] = None,
+        start: Optional[List[NurseWeek]] = None, seed: int = 1, splits: bool = True,
     ) -> None:
-        self._plan, self._solver, self._clock, self._offer, self._heard, self._start = plan, solver, clock, offer, heard, start
-        self._seed, self._proves = seed, proves
+        self.plan = plan
+        self._solver, self._clock, self._offer, self._heard, self._start = solver, clock, offer, heard, start
+        self._seed, self._splits = seed, splits and numpy is not None
         self.crews = Crews(plan)
         self.search: Optional[RowSearch] = None
-        # Places, and prices of them that prove that no roster keeps the minimums; or the nurse who has no row.
-        self.minimums: Optional[Tuple[List[Place], Prices]] = None
+        self._tree: Optional[CaseTree] = None
+        # Prices that prove that no roster keeps the minimums; or the nurse who has no row.
+        self.minimums: Optional[Certificate] = None
         self.without_row: Optional[str] = None
-        # Who claims that no roster costs less, and from what: the solver from all rows that such a roster can have, or cases. Days off that
-        # prove it, or a tree of cases.
+        # The solver that claims, from all rows that such a roster can have, that no roster costs less.
         self.claim = ""
-        self.cases: Optional[List[PricedCase]] = None
-        self.certificate: Optional[Certificate] = None
+
+    @property
+    def lower_bound(self) -> Optional[Points]:
+        """No roster of the plan costs less, by plain Python; None without prices."""
+        if self.search is None or self.search.lower_bound is None:
+            return None
+        return max(self.search.lower_bound, self._tree.bound) if self._tree else self.search.lower_bound
+
+    def certificate(self) -> Optional[Certificate]:
+        """What proves the lower bound: the best prices alone, or cases."""
+        if self.search is None or self.search.bound is None:
+            return None
+        if self._tree and self._tree.bound > (self.search.lower_bound or 0):
+            return self._tree.certificate()
+        return Certificate(len(self.plan.weeks), self.crews.places, Leaf(self.search.prices))
 
     def run(self) -> None:
         """Searches until the time is over, the best roster is proved, or no roster exists."""
@@ -72,9 +82,9 @@ class RowRun:
             self.without_row = none.nurse
 
     def _run(self) -> None:
-        first, finder = self._start or matched_rows(self._plan, self.crews, self._clock.check), GIVEN if self._start else "matching"
-        penalty = None if staffed(self._plan, self.crews, first).below else self._offer(first, finder)
-        pricing = Pricing(self._plan, self.crews, self._clock.check)
+        first, finder = self._start or matched_rows(self.plan, self.crews, self._clock.check), GIVEN if self._start else "matching"
+        penalty = None if staffed(self.plan, self.crews, first).below else self._offer(first, finder)
+        pricing = Pricing(self.plan, self.crews, self._clock.check)
         search = self.search = WholeSearch(pricing, self._solver, self._clock, self._offer, self._heard)
         search.begin(first, penalty)
         if self._solver is None:
@@ -83,6 +93,8 @@ class RowRun:
             self._try(search.generate, ROWS_SHARE)
             if search.complete and search.misses_minimums and (self._keeps_limits or self._no_roster()):
                 return
+            if search.complete and self._dives_beside:
+                break
             rows = self._try(search.dive, LAST_DIVE_SHARE if search.complete else DIVE_SHARE)
             if rows:
                 search.keep(rows, "fixing rows")
@@ -97,106 +109,94 @@ class RowRun:
             return None
 
     @property
+    def _dives_beside(self) -> bool:
+        """Whether several dives are made at once. They are long in a period, and each ends elsewhere."""
+        return len(self.plan.weeks) > 1 and self._solver is not None and self._solver.chooses
+
+    @property
     def _keeps_limits(self) -> bool:
         """Whether limits may be the reason that minimums are missed."""
-        return bool(self._plan.limits) and self._plan.keeping.limit == NEVER
+        return bool(self.plan.limits) and self.plan.keeping.limit == NEVER
 
     def _no_roster(self) -> bool:
         """Whether prices prove that no roster keeps the minimums."""
-        plan = self._plan.hard_only()
+        plan = self.plan.hard_only()
         generation = RowGeneration(Pricing(plan, Crews(plan), self._clock.check), self._solver, lambda: None)
         generation.generate(self._clock)
         if generation.bound is not None and generation.bound > 0:
-            self.minimums = generation.pricing.crews.places, generation.prices
+            self.minimums = Certificate(len(plan.weeks), generation.pricing.crews.places, Leaf(generation.prices))
         return self.minimums is not None
 
     def _close_gap(self, search: RowSearch, solver: LinearSolver) -> None:
-        """Looks for the best roster among the rows that a better one can have."""
-        clock = self._clock
-        if not search.is_proved:
+        """Looks for the best roster, with a tree of cases beside that."""
+        if not (self._dives_beside or search.is_proved):
             self._try(lambda part: search.choose(search.known_within(), part, "known rows"), KNOWN_SHARE)
-        if self._splits(search) and self._close_cases(search, solver, clock.part(clock.left() * TREE_SHARE)):
-            self._prove(search, solver)
+        if search.penalty is None or search.is_proved:
             return
-        while not search.is_proved and search.penalty is not None and solver.chooses:
-            before = search.penalty
-            use = search.list_within(MOST_LISTED, clock)
-            if use is None:
-                break
-            listed = use
-            if self._try(lambda part: search.choose(listed, part, f"{len(listed)} rows"), LISTED_SHARE):
-                self.claim = f"{solver.name}, over the rows that Python lists"
-                self._prove(search, solver)
-                return
-            if search.penalty == before:
-                break
-        if search.penalty is not None and solver.chooses:
-            if search.gap() <= CASES_GAP:
-                self._find_cases(search, solver, clock.left() * CASES_SHARE)
-            if not self.cases:
-                self._improve_parts(search, _side_by_side(solver))
-                self._prove(search, solver)
-
-    def _prove(self, search: RowSearch, solver: LinearSolver) -> None:
-        """Looks for days off that prove a claim, if no program proves it by the cases."""
-        if self.claim and not (self._proves and self._proves()):
-            self._find_cases(search, solver, max(CASES_SECONDS, time.monotonic() - self._clock.began))
-
-    def _improve_parts(self, search: RowSearch, solvers: Sequence[LinearSolver]) -> None:
-        """Improves parts of the best roster, with a tree of cases beside that."""
-        clock, beside = self._clock.part(self._clock.left()), solvers[0].beside(len(solvers))
+        clock = self._clock.part(self._clock.left())
         with concurrent.futures.ThreadPoolExecutor(1) as pool:
-            tree = pool.submit(self._close_beside, search, beside, clock)
+            tree = pool.submit(self._close_cases, search, solver, clock)
             try:
-                RowParts(search, solvers, self._seed).run(clock)
-            except TimeIsOver:
+                self._improve(search, solver, clock, tree)
+            except (TimeIsOver, SolverFault):
                 self._clock.check()
+                if not self._is_proved(search):
+                    raise
             finally:
                 clock.stop()
-                beside.end_all()
+                solver.end_all()
                 tree.result()
-                beside.close()
 
-    def _close_beside(self, search: RowSearch, solver: LinearSolver, clock: Clock) -> None:
-        """Closes cases, in a week as soon as the gap is small. If that ends the search, it ends all solvers."""
-        most_gap = TREE_GAP if len(self._plan.weeks) == 1 else math.inf
+    def _improve(self, search: RowSearch, solver: LinearSolver, clock: Clock, tree: "concurrent.futures.Future[None]") -> None:
+        """Improves the best roster: by an integer program over all rows that a better one can have, or part by part."""
+        if not self._dives_beside:
+            concurrent.futures.wait([tree], min(TREE_SECONDS, clock.left()) if self._is_narrow(search) else 0)
+            if self._choose_among_all(search, solver, clock):
+                concurrent.futures.wait([tree], min(clock.left(), max(PROOF_SECONDS, time.monotonic() - self._clock.began)))
+                return
+            if self._splits and search.gap() <= STEP * POINT:
+                concurrent.futures.wait([tree], clock.left() * LAST_SHARE)
+                clock.check()
+        if solver.chooses and not search.is_proved:
+            RowParts(search, _side_by_side(solver), self._seed).run(clock)
+
+    def _choose_among_all(self, search: RowSearch, solver: LinearSolver, clock: Clock) -> bool:
+        """Lets an integer program choose among the rows that a better roster can have. Returns whether the solver claims that there is
+        none."""
+        before: Optional[int] = None
+        while not search.is_proved and solver.chooses and search.penalty != before:
+            before, listed = search.penalty, search.list_within(MOST_LISTED, clock)
+            if listed is None:
+                return False
+            with contextlib.suppress(TimeIsOver):
+                if search.choose(listed, clock.part(clock.left() * LISTED_SHARE), f"{len(listed)} rows"):
+                    self.claim = f"{solver.name}, over the rows that Python lists"
+                    return True
+            clock.check()
+        return False
+
+    def _is_narrow(self, search: RowSearch) -> bool:
+        """Whether the gap is small enough for a tree of cases to close it soon."""
+        return self._splits and search.penalty is not None and search.gap() <= TREE_GAP
+
+    def _close_cases(self, search: RowSearch, solver: LinearSolver, clock: Clock) -> None:
+        """Looks for cases that show that no roster costs less than the best one, and for better rosters: in a week as soon as the gap is
+        small. If that ends the search, it ends all solvers."""
+        if not self._splits or search.program.names_places:
+            return
         with contextlib.suppress(SolverFault, TimeIsOver):
-            while not self._splits(search, most_gap):
+            while not (self._is_narrow(search) or len(self.plan.weeks) > 1):
                 clock.check()
                 time.sleep(WAIT_SECONDS)
-            if self._close_cases(search, solver, clock):
+            self._tree = tree_of(search, solver.beside(processors()), clock.check, self._heard)
+            self._tree.run(clock)
+            if self._is_proved(search):
                 clock.stop()
                 solver.end_all()
 
-    def _splits(self, search: RowSearch, most_gap: float = TREE_GAP) -> bool:
-        """Whether a tree of cases is worth its time: up to this gap, in thousandths."""
-        if search.is_proved or search.penalty is None or search.gap() > most_gap:
-            return False
-        return self._proves is not None and numpy is not None and not search.program.names_places
-
-    def _close_cases(self, search: RowSearch, solver: LinearSolver, clock: Clock) -> bool:
-        """Looks for cases that show that no roster costs less than the best one, and for better rosters. Returns whether there is no better
-        one."""
-        tree = tree_of(search, solver, clock.check)
-        with contextlib.suppress(SolverFault, TimeIsOver):
-            tree.run(clock)
-        found, penalty = tree.certificate(), search.penalty
-        if tree.bound > (search.lower_bound or 0) and not self._plan.asks:
-            self.certificate = found
-        if not search.is_proved and penalty is not None and tree.bound == tree.bound_of(found) == penalty:
-            self.claim = f"Python, by {len(found.leaves())} cases"
-        return bool(self.claim) or search.is_proved
-
-    def _find_cases(self, search: RowSearch, solver: LinearSolver, seconds: float) -> None:
-        """Looks for cases of a single week that prove that no roster costs less than the best one."""
-        if search.is_proved or search.program.names_places or len(self._plan.weeks) > 1:
-            return
-        hunt = CaseHunt(search, _side_by_side(solver))
-        # Without cases all is as before.
-        with contextlib.suppress(SolverFault, TimeIsOver):
-            hunt.run(self._clock.part(seconds))
-        self.cases = hunt.found
-        self._clock.check()
+    def _is_proved(self, search: RowSearch) -> bool:
+        """Whether the best roster costs no more than the bound."""
+        return search.penalty is not None and self.lower_bound is not None and search.penalty <= self.lower_bound
 
 
 def _side_by_side(solver: LinearSolver) -> List[LinearSolver]:

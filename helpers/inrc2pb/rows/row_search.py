@@ -5,6 +5,7 @@ chooses among all rows that a better roster can have.
 """
 
 import math
+import random
 import threading
 from typing import Callable, Dict, List, Optional, Sequence, Tuple
 
@@ -12,24 +13,27 @@ from ..programs.clock import Clock, TimeIsOver
 from ..week.faults import Misuse
 from .first_rows import Descent
 from ..solvers.linear_solvers import LinearSolver
-from .plan import POINT, STEP
+from .plan import POINT, STEP, Points, Thousandths
 from .pricing import NurseWeek, Priced, Prices, Pricing
 from .row_generation import EXACT, WORTH, RowGeneration
 from .row_program import Solved
 from .skills import staffed
 
-# The share of the nurses whose rows are fixed at once: at first, at least, and at most.
+# The share of the nurses whose rows are fixed at once: at first, at least, and at most. In a period it is one of the last ones.
 FIRST_SHARE, LEAST_SHARE, MOST_SHARE = 0.06, 0.02, 0.5
+SHARES_OF_PERIOD = (0.06, 0.12, 0.04, 0.09)
 # How many times the part of the time that a step takes is fixed in it, if the time is short.
 HURRY = 1.5
-# Rounds of new rows between two fixings.
-DIVE_ROUNDS = 3
+# The most rounds of new rows between two fixings, and if the time is short.
+DIVE_ROUNDS, SHORT_ROUNDS = 30, 2
 MOST_SWEEPS = 4
+# A larger share counts as a whole row. The factors of shares in a dive by chance.
+WHOLE, BY_CHANCE = 0.999, (0.5, 1.0)
 # The name of what found the rows with which a search begins.
 GIVEN = "the given roster"
 
 # Takes rows of all nurses and the name of what found them, and returns their penalty, or None if they are no roster.
-Offer = Callable[[List[NurseWeek], str], Optional[int]]
+Offer = Callable[[List[NurseWeek], str], Optional[Points]]
 
 
 class WrongBound(Misuse):
@@ -47,7 +51,7 @@ class RowSearch(RowGeneration):
         self.clock, self._offer = clock, offer
         # The rows and the penalty of the best roster.
         self.rows: Optional[List[NurseWeek]] = None
-        self.penalty: Optional[int] = None
+        self.penalty: Optional[Points] = None
 
     @property
     def is_proved(self) -> bool:
@@ -77,17 +81,17 @@ class RowSearch(RowGeneration):
         self.rows = rows
         return True
 
-    def value_of(self, rows: Sequence[NurseWeek]) -> Optional[int]:
-        """What rows cost, in points; None if they break a hard rule."""
+    def value_of(self, rows: Sequence[NurseWeek]) -> Optional[Points]:
+        """What rows cost; None if they break a hard rule."""
         found = staffed(self.plan, self.pricing.crews, rows)
         costs = [self.pricing.cost(nurse, row) for nurse, row in enumerate(rows)]
         if found.below or None in costs:
             return None
-        return sum(cost for cost in costs if cost is not None) + self.plan.missing_cost * found.missing
+        return Points(sum(cost for cost in costs if cost is not None) + self.plan.missing_cost * found.missing)
 
     # ---- a first roster
 
-    def begin(self, rows: List[NurseWeek], penalty: Optional[int]) -> None:
+    def begin(self, rows: List[NurseWeek], penalty: Optional[Points]) -> None:
         """Begins with these rows, and the penalty of their roster if they are one. Makes them better without a solver, if that is easy."""
         value = None if penalty is None else self.value_of(rows)
         if value is not None:
@@ -103,12 +107,13 @@ class RowSearch(RowGeneration):
 
     # ---- fixed rows
 
-    def dive(self, clock: Clock) -> Optional[List[NurseWeek]]:
-        """Fixes rows a few at a time, with new ones in between. Returns a row of each nurse, None if they cannot be better than the
-        best. At the end of the time the other rows are those of the greatest shares, made better one after another."""
+    def dive(self, clock: Clock, share: float = 0.0, chance: Optional[random.Random] = None) -> Optional[List[NurseWeek]]:
+        """Fixes rows a few at a time, with new ones in between: this share of the nurses, if it is not 0, and by chance not only those of
+        the greatest shares. Returns a row of each nurse, None if they cannot be better than the best. At the end of the time the other rows
+        are those of the greatest shares, made better one after another."""
         chosen: Dict[int, int] = {}
         try:
-            found = self._dive(clock, chosen)
+            found = self._dive(clock, chosen, share, chance)
         except TimeIsOver:
             self.clock.check()
             self._round(chosen)
@@ -131,65 +136,69 @@ class RowSearch(RowGeneration):
         finally:
             self.keep(descent.rows, "fixing rows in a short time")
 
-    def _dive(self, clock: Clock, chosen: Dict[int, int]) -> bool:
+    def _dive(self, clock: Clock, chosen: Dict[int, int], fixed_share: float, chance: Optional[random.Random]) -> bool:
         """Chooses a column of each nurse, by number. Returns whether there is one."""
-        columns = self.program.columns
-        share, last, most_share = FIRST_SHARE, -math.inf, MOST_SHARE if len(self.plan.weeks) == 1 else FIRST_SHARE
-        while len(chosen) < len(self.plan.nurses):
+        columns, nurses = self.program.columns, len(self.plan.nurses)
+        share, hurry, last = fixed_share or FIRST_SHARE, 0.0, -math.inf
+        while len(chosen) < nurses:
             before = clock.left()
-            now = self._relaxed_beside(chosen, clock)
+            now = self._relaxed_beside(chosen, last, clock, SHORT_ROUNDS if hurry > share else DIVE_ROUNDS)
             if self.penalty is not None and now.value > self.penalty - STEP + EXACT:
                 return False
-            share = min(most_share, share * 1.5) if now.value <= last + EXACT else max(LEAST_SHARE, share * 0.7)
+            if not fixed_share:
+                share = min(MOST_SHARE, share * 1.5) if now.value <= last + EXACT else max(LEAST_SHARE, share * 0.7)
             last = now.value
-            free = len(self.plan.nurses) - len(chosen)
+            free = nurses - len(chosen)
             # So many at once that the time is enough.
             hurry = HURRY * (before - clock.left()) / max(EXACT, clock.left())
             most = max(1, int(max(share, hurry) * free))
-            fixed = 0
-            for number in sorted(
-                (number for number in now.shares if columns[number].nurse not in chosen), key=lambda number: -now.shares[number]
-            ):
-                if columns[number].nurse not in chosen and (fixed < most or now.shares[number] > 0.999):
+            before_fixing, fixed = len(chosen), 0
+            weights = {number: share * (chance.uniform(*BY_CHANCE) if chance else 1) for number, share in now.shares.items()}
+            for number in sorted(weights, key=weights.__getitem__, reverse=True):
+                if columns[number].nurse not in chosen and (fixed < most or now.shares[number] > WHOLE):
                     chosen[columns[number].nurse] = number
                     self.program.hold(number)
-                    fixed += 1
-            if not fixed:
+                    fixed += now.shares[number] <= WHOLE
+            if len(chosen) == before_fixing:
                 return False
         return True
 
-    def _relaxed_beside(self, chosen: Dict[int, int], clock: Clock) -> Solved:
-        """The linear program with these columns fixed, and some new rows for the other nurses."""
+    def _relaxed_beside(self, chosen: Dict[int, int], last: float, clock: Clock, rounds: int) -> Solved:
+        """The linear program with these columns fixed. While its value is above the last one, the other nurses get new rows."""
         free = [nurse for nurse in range(len(self.plan.nurses)) if nurse not in chosen]
-        rounds = DIVE_ROUNDS if chosen else 1
-        for turn in range(rounds):
-            now, new = self.program.solve(clock, dual=turn == 0), 0
-            for nurse, priced in self._priced(now.prices, free, clock).items() if turn < rounds - 1 else ():
+        now = self.program.solve(clock, dual=True)
+        for _ in range(rounds if chosen else 0):
+            if now.value <= last + EXACT:
+                break
+            new = 0
+            for nurse, priced in self._priced(now.prices, free, clock).items():
                 if priced.value - now.nurses[nurse] < -WORTH:
                     new += self._add(nurse, priced.row, priced.cost, now.prices)
             if not new:
                 break
+            now = self.program.solve(clock)
         return now
 
     # ---- the rows of a better roster
 
-    def gap(self) -> int:
-        """By how much rows of a better roster may cost more than the cheapest ones, together, in thousandths."""
+    def gap(self) -> Thousandths:
+        """By how much rows of a better roster may cost more than the cheapest ones, together."""
         assert self.penalty is not None and self.bound is not None
-        return (self.penalty - STEP) * POINT - self.bound
+        return Thousandths((self.penalty - STEP) * POINT - self.bound)
 
-    def minimum_values(self) -> List[int]:
-        """What each nurse's cheapest row costs at the best prices, in thousandths."""
+    def minimum_values(self) -> List[Thousandths]:
+        """What each nurse's cheapest row costs at the best prices."""
         found = self._priced(self.prices, range(len(self.plan.nurses)), self.clock)
         return [priced.value for priced in found.values()]
 
-    def costly(self, rows: Sequence[NurseWeek], minimum: Sequence[int]) -> List[int]:
+    def costly(self, rows: Sequence[NurseWeek], minimum: Sequence[Thousandths]) -> List[int]:
         """The nurses whose rows cost more at the best prices than these minimums."""
-        return [nurse for nurse, row in enumerate(rows) if self._reduced(nurse, row, self.pricing.cost(nurse, row) or 0) > minimum[nurse]]
+        costs = [self.pricing.cost(nurse, row) or Points(0) for nurse, row in enumerate(rows)]
+        return [nurse for nurse, row in enumerate(rows) if self._reduced(nurse, row, costs[nurse]) > minimum[nurse]]
 
-    def _reduced(self, nurse: int, row: NurseWeek, cost: int) -> int:
-        """What a row costs less what it earns at the best prices, in thousandths."""
-        return cost * POINT - self._earned(self.prices, nurse, row)
+    def _reduced(self, nurse: int, row: NurseWeek, cost: Points) -> Thousandths:
+        """What a row costs less what it earns at the best prices."""
+        return Thousandths(cost * POINT - self._earned(self.prices, nurse, row))
 
     def known_within(self) -> List[int]:
         """The known columns that a better roster can have."""

@@ -23,10 +23,10 @@ class _Shift:
         self.free = {crew: len(nurses) for crew, nurses in members.items()}
         # How many of each crew are at each place.
         self.given: Dict[Tuple[int, int], int] = {}
-        self.at: Dict[int, List[int]] = {}
+        self._able: Dict[int, List[int]] = {}
         for crew in members:
             for place in crews.members[crew]:
-                self.at.setdefault(place, []).append(crew)
+                self._able.setdefault(place, []).append(crew)
 
     def missing(self, place: int, wanted: int) -> int:
         """Gives this number of nurses to a place, if there are so many. Returns how many are missing."""
@@ -39,7 +39,7 @@ class _Shift:
         came: Dict[int, Tuple[int, int]] = {}
         open_places, seen = [place], {place}
         for target in open_places:
-            for crew in self.at.get(target, ()):
+            for crew in self._able.get(target, ()):
                 if self.free[crew]:
                     self.free[crew] -= 1
                     self._move(crew, target, came)

@@ -11,7 +11,7 @@ from ..judging.absences import in_words, way_out
 from ..judging.given import read_given, with_given
 from ..judging.limits import limits_in_words, limits_way_out
 from .best_roster import BestRoster
-from .bounds import PLAIN, PRICES, PROVER
+from .bounds import PROVER
 from ..programs.clock import Clock
 from ..week.faults import Misuse, ProgramFault
 from ..week.files import read_files
@@ -30,23 +30,20 @@ SECONDS = 120.0
 class SearchResult:
     """The result of a search: the report of the best roster, and the lower bound or None, with what proved or computed it.
 
-    `proved` says whether no roster costs less, `breaks` whether this one breaks an absence and `exceeds` whether a limit, `stopped`
-    whether the user stopped the search; `fault` is the fault that ended it.
+    `proved` says whether no roster that keeps what `bound_only` names costs less, `breaks` whether this one breaks an absence, `exceeds`
+    whether it exceeds a limit, and `stopped` whether the user stopped the search; `fault` is the fault that ended it.
     """
 
     def __init__(
-        self, report: Report, search: WeekSearch, best: BestRoster, stopped: bool, fault: Optional[BaseException],
-        prices: Optional[Path] = None,
+        self, report: Report, search: WeekSearch, best: BestRoster, stopped: bool, fault: Optional[BaseException]
     ) -> None:
         self.report = report
         self.breaks = bool(best.breaks())
         self.exceeds = bool(best.exceeds())
-        self.kept_bound = 0 if self.breaks or self.exceeds else search.kept_bound
         self.bound = search.bound.points if search.bound else None
         self.bound_by = search.bound.by if search.bound else ""
-        # What reads the file of what proves the bound, if that is not prices.
-        option = search.bound.option if search.bound else PRICES
-        self.reads = f"{PROVER} {option} reads {prices}" if prices and option != PRICES else ""
+        # The facts that the bound is about; none: it is about all rosters.
+        self.bound_only = search.bound.only if search.bound else ""
         self.claimed_by = search.claimed_by
         self.proved = best.proved
         self.stopped = stopped
@@ -54,43 +51,31 @@ class SearchResult:
 
     def lines(self) -> List[str]:
         """The lines that follow the report."""
-        return [*self._bound_lines(), *([self.reads] if self.reads else [])]
-
-    def _bound_lines(self) -> List[str]:
         if self.bound is None:
             return ["no lower bound"]
-        line, best = f"lower bound {self.bound} ({self.bound_by})", max(self.bound, self.kept_bound)
-        if best > self.bound:
-            line += f", {best} with all absences and limits ({PLAIN})"
-        if self.proved and self.breaks:
-            return [line, "no roster costs less, but this one breaks an absence"]
-        if self.proved and self.exceeds:
-            return [line, "no roster costs less, but this one exceeds a limit"]
-        reached = self.bound_by != self.claimed_by and self.bound >= self.report.penalty
-        if self.proved and self.claimed_by and not reached:
-            only = "; without that only the lower bound is known" if self.bound < self.report.penalty else ""
-            return [line, f"no roster costs less, says {self.claimed_by}{only}"]
-        if self.proved:
-            return [line, "no roster costs less" + (", proved" if self.bound_by == PROVER else "")]
-        if best >= self.report.penalty:
-            return [line, "no roster that keeps all absences and limits costs less"]
+        only = f" with all {self.bound_only}" if self.bound_only else ""
+        line = f"lower bound {self.bound}{only} ({self.bound_by})"
+        less = f"no roster that keeps all {self.bound_only} costs less" if self.bound_only else "no roster costs less"
+        if self.bound >= self.report.penalty:
+            but = ", but this one breaks an absence" if self.breaks else ", but this one exceeds a limit" if self.exceeds else ""
+            says = f", says {self.claimed_by}" if self.bound_by == self.claimed_by else ", proved" if self.bound_by == PROVER else ""
+            return [line, less + (but or says)]
         if self.claimed_by:
-            says = f"no roster that keeps all absences and limits costs less, says {self.claimed_by}"
-            return [line, f"{says}; without that only the lower bound is known"]
-        return [f"{line}: the gap is {self.report.penalty - best}, {gap_share(self.report.penalty, best)}"]
+            return [line, f"{less}, says {self.claimed_by}; without that only the lower bound is known"]
+        return [f"{line}: the gap is {self.report.penalty - self.bound}, {gap_share(self.report.penalty, self.bound)}"]
 
 
 def improve(
     files: WeekFiles, solution: Path, *, start: Optional[Path] = None, seconds: float = SECONDS, solver: Optional[str] = None,
-    prices: Optional[Path] = None, seed: int = 1,
+    proof: Optional[Path] = None, seed: int = 1,
 ) -> SearchResult:
     """Searches for these seconds, writes the best roster to `solution`, and returns its report and lower bound.
 
     `start` is the roster to begin with, if it is not the one that `solution` has of this week, `solver` a command that solves the whole
-    week in place of the search over rows, and `prices` the file for the prices, or the cases with prices, that prove the bound. The `seed`
-    begins the random choices. Ctrl-C, TERM or a fault end the search: the roster is written, then KeyboardInterrupt or the fault is raised.
+    week in place of the search over rows, and `proof` the file for the certificate of the bound. The `seed` begins the random choices.
+    Ctrl-C, TERM or a fault end the search: the roster is written, then KeyboardInterrupt or the fault is raised.
     """
-    outcome = search(files, solution, start, seconds, solver, prices, Progress(None), seed)
+    outcome = search(files, solution, start, seconds, solver, proof, Progress(None), seed)
     if outcome.fault:
         raise outcome.fault
     if outcome.stopped:
@@ -99,7 +84,7 @@ def improve(
 
 
 def search(
-    files: WeekFiles, solution: Path, start: Optional[Path], seconds: float, solver: Optional[str], prices: Optional[Path],
+    files: WeekFiles, solution: Path, start: Optional[Path], seconds: float, solver: Optional[str], proof: Optional[Path],
     progress: Progress, seed: int = 1,
 ) -> SearchResult:
     """As `improve`, with its progress printed. A fault is raised only if there is no roster; a signal is no fault."""
@@ -110,13 +95,13 @@ def search(
     own = find_solver(solver) if solver else None
     week = read_week_given(files)
     held = held_rows(files.fix, week, progress) if files.fix else ()
-    for target, what in ((solution, "the roster"), (prices, "the prices")):
+    for target, what in ((solution, "the roster"), (proof, "the certificate")):
         if target:
             check_no_pipe_is_written(target)
             check_target(target)
             check_inputs_stay(inputs, target, what)
-    if prices and os.path.realpath(solution) == os.path.realpath(prices) != os.devnull:
-        raise Misuse(f"{prices} gets the roster, so the prices cannot be written to it: choose another file")
+    if proof and os.path.realpath(solution) == os.path.realpath(proof) != os.devnull:
+        raise Misuse(f"{proof} gets the roster, so the certificate cannot be written to it: choose another file")
     best = BestRoster(files, week, solution, progress.improved)
     running = WeekSearch(files, week, held, best, clock, progress, seed)
     fault: Optional[BaseException] = None
@@ -128,13 +113,13 @@ def search(
                 if own:
                     running.by_solver(own, folder)
                 else:
-                    running.over_rows(folder, rows, prices)
+                    running.over_rows(folder, rows, proof)
         except Exception as found:
             fault = found
         finally:
             progress.finish()
             shutil.rmtree(folder, ignore_errors=True)
-        outcome = _result(best, running, bool(signals.caught), fault, seconds, prices)
+        outcome = _result(best, running, bool(signals.caught), fault, seconds)
         for line in _not_kept(week, held, best):
             progress.warn(line)
         return outcome
@@ -161,12 +146,11 @@ def _not_kept(week: Week, held: Sequence[Cell], best: BestRoster) -> Iterator[st
 
 
 def _result(
-    best: BestRoster, running: WeekSearch, stopped: bool, fault: Optional[BaseException], seconds: float, prices: Optional[Path]
+    best: BestRoster, running: WeekSearch, stopped: bool, fault: Optional[BaseException], seconds: float
 ) -> SearchResult:
     """The result of a search that has ended. Without a roster it is a ProgramFault that says why."""
     bound = running.bound
-    claimed = bool(running.claimed_by) and not running.claims_kept
-    best.proved = best.penalty is not None and (claimed or (bound is not None and best.penalty <= bound.points))
+    best.proved = best.penalty is not None and (bool(running.claimed_by) or (bound is not None and best.penalty <= bound.points))
     try:
         report = best.report()
     except (ProgramFault, OSError) as unreported:
@@ -177,7 +161,7 @@ def _result(
         late = f"no roster was found in {round(seconds, 1):g} s: give it more time"
         ended = "no roster was found, and no proof that none exists: try --solver clasp"
         raise fault or ProgramFault(NO_ROSTER, ended if running.has_time else late)
-    return SearchResult(report, running, best, stopped, fault, prices)
+    return SearchResult(report, running, best, stopped, fault)
 
 
 def held_rows(fix: Path, week: Week, progress: Progress) -> Sequence[Cell]:

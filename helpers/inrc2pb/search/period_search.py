@@ -4,15 +4,14 @@ import tempfile
 from pathlib import Path
 from typing import Callable, List, Optional, Sequence, Tuple
 
-from .bounds import PLAIN, Bound
+from .bounds import PLAIN, PROOF_SECONDS, STOPPED_SECONDS, Bound, Bounds
 from ..programs.clock import Clock
 from ..week.faults import ProgramFault
 from ..week.records import Cell
 from ..solvers.linear_solvers import INSTALL, LinearSolver, LinearSolvers, installed
 from ..judging.next_history import next_history
-from .period_bound import PeriodBound
 from ..judging.runs import NEVER
-from ..rows.plan import ABSENCES_KEPT, STRICT, WEEK_DAYS, Plan
+from ..rows.plan import ABSENCES_KEPT, FREE, ONLY_ABSENCES, STRICT, WEEK_DAYS, Plan, Points
 from .planned_weeks import PlannedWeeks
 from ..rows.pricing import NurseWeek
 from ..programs.processes import Processes
@@ -34,57 +33,49 @@ Keep = Callable[[Sequence[Cell]], None]
 
 
 class PeriodSearch:
-    """A search within the time of its clock. `keep` gets each better plan, after `inrc2pb extend` has checked its rosters; `prices` is the
-    folder for the prices of the bound, and `start` the plan to begin with, if any. It may break rules: then its weeks of nurses are of use.
-    The `seed` begins the random choices of the search.
+    """A search within the time of its clock. `keep` gets each better plan, after `inrc2pb extend` has checked its rosters; `proof` is the
+    file for the certificate of the bound, and `start` the plan to begin with, if any. It may break rules: then its weeks of nurses are of
+    use. The `seed` begins the random choices of the search.
 
     `penalty` is that of the best plan, with the forecast of weeks that are not known; `bound` is what no plan costs less than.
     """
 
     def __init__(
-        self, weeks: PlannedWeeks, keep: Keep, clock: Clock, progress: Progress, prices: Optional[Path] = None,
+        self, weeks: PlannedWeeks, keep: Keep, clock: Clock, progress: Progress, proof: Optional[Path] = None,
         start: Optional[Sequence[Cell]] = None, seed: int = 1,
     ) -> None:
-        self._weeks, self._keep, self._clock, self._progress, self._prices = weeks, keep, clock, progress, prices
+        self._weeks, self._keep, self._clock, self._progress = weeks, keep, clock, progress
         self._processes = Processes()
-        self._proof = PeriodBound(weeks, clock, progress.warn)
+        self._bounds = Bounds(weeks.options(), weeks.scenario.name, proof, progress.warn)
         self._start, self._seed = start, seed
         self.penalty: Optional[int] = None
         self.bound: Optional[Bound] = None
+        self._proves = False
         self._cells: Sequence[Cell] = ()
         # How much of the absences and limits the best plan does not keep, and its penalty: a smaller rank is better.
         self._rank: Optional[Tuple[int, int, int]] = None
-        # A lower bound of the cost of all plans that keep all absences and limits, by plain Python.
-        self._kept_bound = 0
 
     def interrupt(self) -> None:
-        """Ends the search now: the best plan was kept."""
+        """Ends the search now: the best plan was kept. If a proof of its bound runs already, it is ended, too."""
         self._clock.stop()
         self._processes.stop()
-        self._proof.stop()
+        if self._proves:
+            self._bounds.stop()
 
     def run(self) -> None:
         """Searches until the time is over or the best plan is found. Without a plan it is a ProgramFault that says why.
 
         Plans keep all absences and limits, unless none can.
         """
+        runs: List[RowRun] = []
         with tempfile.TemporaryDirectory(prefix="inrc2pb-period-") as folder:
             try:
-                self._run(Path(folder))
-                self._proof.wait()
+                self._run(Path(folder), runs)
             finally:
-                self._proof.stop()
                 self._progress.finish()
-                self._end()
+                self._take_bound(runs)
 
-    def _end(self) -> None:
-        """Takes the bound of the best prices, and writes them."""
-        if self.penalty is not None and not self._weeks.later():
-            self.bound = self._proof.bound(self.penalty)
-            if self._prices:
-                self._proof.write(self._prices)
-
-    def _run(self, folder: Path) -> None:
+    def _run(self, folder: Path, runs: List[RowRun]) -> None:
         plan, names = self._weeks.plan(), installed()
         if not names:
             self._progress.warn(f"there is no cbc, clp or glpsol, so this is only a first plan: {INSTALL}")
@@ -93,21 +84,33 @@ class PeriodSearch:
         (folder / "trial").mkdir()
         solver = LinearSolvers(names, self._processes, folder, self._progress.warn, resident=True) if names else None
         try:
-            run = self._over_rows(plan, solver, folder / "trial")
+            self._over_rows(plan, solver, folder / "trial", runs)
             for less_strict in plan.less_strict():
                 broken, above, _ = self._rank or (1, 1, 0)
                 if broken or (above and less_strict.keeping.absence == NEVER):
-                    run = self._over_rows(less_strict, solver, folder / "trial")
+                    self._over_rows(less_strict, solver, folder / "trial", runs)
         finally:
             if solver:
                 solver.close()
         if self.penalty is None:
-            raise ProgramFault(NO_ROSTER, self._why_none(run))
+            raise ProgramFault(NO_ROSTER, self._why_none(runs[-1]))
 
-    def _over_rows(self, plan: Plan, solver: Optional[LinearSolver], trial: Path) -> RowRun:
-        """One search over the rows of the plan."""
+    def _take_bound(self, runs: Sequence[RowRun]) -> None:
+        """Takes the bound of the plans that keep as much as the best one."""
+        if self._rank is None or not runs or self._weeks.later():
+            return
+        keeping = FREE if self._rank[0] else ONLY_ABSENCES if self._rank[1] else STRICT
+        self._proves = True
+        seconds = STOPPED_SECONDS if self._clock.stopped else PROOF_SECONDS
+        self.bound = self._bounds.of(runs[0] if keeping == STRICT else runs[-1], keeping, seconds)
+        if self.bound and not self.bound.is_believed(self.penalty):
+            self._progress.warn(f"the lower bound {self.bound.points} ({self.bound.by}) is above the penalty of a plan: it is wrong")
+            self.bound = None
 
-        def offer(rows: List[NurseWeek], finder: str) -> Optional[int]:
+    def _over_rows(self, plan: Plan, solver: Optional[LinearSolver], trial: Path, runs: List[RowRun]) -> None:
+        """One search over the rows of the plan, which becomes the last of the runs."""
+
+        def offer(rows: List[NurseWeek], finder: str) -> Optional[Points]:
             cells = staffed(plan, run.crews, rows).cells
             penalty = self._checked(cells, trial)
             if penalty is None:
@@ -120,26 +123,17 @@ class PeriodSearch:
                 given = "week after week" if self._start is None else "the earlier plan"
                 self._progress.improved(penalty, given if finder == GIVEN else finder)
             # Before the search, the cost of the weeks that are not known is not known either.
-            return rank[2] if run.search or not self._weeks.later() else None
+            return Points(rank[2]) if run.search or not self._weeks.later() else None
 
         def heard() -> None:
-            if run.search is None or run.search.lower_bound is None or self._weeks.later():
-                return
-            self._proof.heard(run.search)
-            # With absences and limits it is a bound of the plans that keep them.
-            if not plan.asks:
-                self._progress.bound_rose(run.search.lower_bound)
-            elif plan.keeping == STRICT:
-                self._kept_bound = max(self._kept_bound, run.search.lower_bound)
+            keeps_all = self._rank is not None and not any(self._rank[:2])
+            if run.lower_bound is not None and plan.keeping == STRICT and keeps_all and not self._weeks.later():
+                self._progress.bound_rose(run.lower_bound)
 
-        def proves() -> bool:
-            return run.certificate is not None and self._proof.prove(run.certificate, self.penalty)
-
-        cases = self._proof.reads_certificates and not plan.asks and not self._weeks.later()
-        run = RowRun(plan, solver, self._clock, offer, heard, self._first(plan, solver), self._seed, proves if cases else None)
+        splits = not self._weeks.later()
+        run = RowRun(plan, solver, self._clock, offer, heard, self._first(plan, solver), self._seed, splits)
+        runs.append(run)
         run.run()
-        proves()
-        return run
 
     def _first(self, plan: Plan, solver: Optional[LinearSolver]) -> Optional[List[NurseWeek]]:
         """The rows to begin with: those of the given plan, as far as they keep the absences, or of one week after another."""
@@ -155,12 +149,12 @@ class PeriodSearch:
             held = [row._replace(day=row.day % WEEK_DAYS) for kept in plan.held.values() for row in kept if row.day // WEEK_DAYS == number]
             found: List[List[NurseWeek]] = []
 
-            def offer(better: List[NurseWeek], _finder: str) -> Optional[int]:
+            def offer(better: List[NurseWeek], _finder: str) -> Optional[Points]:
                 found.append(better)
                 return run.search.value_of(better) if run.search else None
 
             week = Plan.of(plan.scenario, history, [data], True, held, ABSENCES_KEPT if plan.keeping == STRICT else plan.keeping)
-            run = RowRun(week, solver, self._clock.part(seconds), offer, lambda: None)
+            run = RowRun(week, solver, self._clock.part(seconds), offer, lambda: None, splits=False)
             run.run()
             if not found:
                 return None
@@ -197,12 +191,9 @@ class PeriodSearch:
             return f"planned ahead of {len(self._weeks.later())} weeks that are not known: no lower bound"
         if self.bound is None or self.penalty is None:
             return "no lower bound"
-        bound = f"lower bound {self.bound.points} of the sum ({self.bound.by})"
+        only = f" with all {self.bound.only}" if self.bound.only else ""
+        bound = f"lower bound {self.bound.points} of the sum{only} ({self.bound.by})"
         if self.penalty <= self.bound.points:
-            return f"{bound}: no plan costs less" + (", proved" if self.bound.by != PLAIN else "")
-        best = self.bound.points
-        if self._rank and not any(self._rank[:2]) and self._kept_bound > best:
-            best, bound = self._kept_bound, f"{bound}, {self._kept_bound} with all absences and limits ({PLAIN})"
-        if self.penalty <= best:
-            return f"{bound}: no plan that keeps them costs less"
-        return f"{bound}: the gap is {self.penalty - best}, {gap_share(self.penalty, best)}"
+            less = "no plan that keeps them costs less" if only else "no plan costs less"
+            return f"{bound}: {less}" + (", proved" if self.bound.by != PLAIN else "")
+        return f"{bound}: the gap is {self.penalty - self.bound.points}, {gap_share(self.penalty, self.bound.points)}"

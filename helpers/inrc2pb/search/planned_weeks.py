@@ -86,10 +86,12 @@ class PlannedWeeks:
         files = self.files
         return WeekFiles(files.scenario, history or files.history, path, files.fixes.get(number), files.early, files.given)
 
-    def options(self) -> List[List[str]]:
-        """The files of each week as options of `inrc2pb-period-bound`; those of all weeks come with the first."""
-        of_all = ["--sce", str(self.files.scenario), "--his", str(self.files.history), *["--early"] * self.files.early]
-        return [[*(of_all if number == 0 else ()), "--week", str(path)] for number, path in enumerate(self.files.weeks)]
+    def options(self) -> List[str]:
+        """The files of all weeks as options of `inrc2pb-bound`, which counts them from 1."""
+        files = self.files
+        weeks = [word for path in files.weeks for word in ("--week", str(path))]
+        fixes = [word for number, path in files.fixes.items() for word in ("--fix", f"{number - self.numbers[0] + 1}={path}")]
+        return ["--sce", str(files.scenario), "--his", str(files.history), *weeks, *fixes, *["--early"] * files.early]
 
     def each(self, cells: Sequence[Cell]) -> Iterator[Tuple[Week, Tuple[Cell, ...]]]:
         """Each week with its history after the weeks before, and its assignments."""
@@ -145,8 +147,3 @@ def roster_name(number: int) -> str:
 def history_name(number: int) -> str:
     """The name of the file of a week's history."""
     return f"history-{number}.txt"
-
-
-def prices_name(number: int) -> str:
-    """The name of the file of a week's prices."""
-    return f"prices-{number}.txt"

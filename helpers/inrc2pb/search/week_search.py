@@ -4,15 +4,14 @@ from pathlib import Path
 from typing import List, Optional, Sequence
 
 from .best_roster import BestRoster
-from .bounds import PROVER, Bound, Bounds
-from ..rows.cases import plain_cases_bound
+from .bounds import PROOF_SECONDS, STOPPED_SECONDS, Bound, Bounds, week_options
 from ..programs.clock import Clock
 from ..week.faults import Misuse, ProgramFault, page
 from ..week.files import read_solution
 from ..week.records import Cell, Week
 from ..solvers.linear_solvers import INSTALL, LinearSolvers, installed
-from ..rows.plan import STRICT, Plan
-from ..rows.pricing import NurseWeek, plain_bound
+from ..rows.plan import FREE, ONLY_ABSENCES, STRICT, Plan, Points
+from ..rows.pricing import NurseWeek
 from ..programs.processes import Processes
 from ..programs.program import BROKEN_RULE, FAULT, NO_ROSTER, WeekFiles, decode
 from ..programs.progress import Progress
@@ -33,12 +32,8 @@ class WeekSearch:
         self._processes = Processes()
         self._asks = False
         self._bound: Optional[Bound] = None
-        # What claims without a proof of inrc2pb-bound that no roster costs less, and whether only of those that keep all absences and
-        # limits.
+        # What claims without a proof of inrc2pb-bound that no roster that keeps all absences and limits costs less.
         self.claimed_by = ""
-        self.claims_kept = False
-        # A lower bound of the cost of all rosters that keep them, by plain Python.
-        self.kept_bound = 0
 
     def interrupt(self) -> None:
         """Ends the search as the user asks: now, or as soon as a solver of the user has printed what it has."""
@@ -60,75 +55,57 @@ class WeekSearch:
 
     # ---- over rows
 
-    def over_rows(self, folder: Path, start: Optional[Sequence[Cell]], prices: Optional[Path]) -> None:
-        """Searches over the rows of the nurses. `prices` is the file for the prices of the bound. Without a roster it is a ProgramFault
+    def over_rows(self, folder: Path, start: Optional[Sequence[Cell]], proof: Optional[Path]) -> None:
+        """Searches over the rows of the nurses. `proof` is the file for the certificate of the bound. Without a roster it is a ProgramFault
         if none exists.
 
         Rows keep all absences and limits, unless no roster can.
         """
         plan = Plan.of(self._week.scenario, self._week.history, [self._week.data], self._files.early, self._held)
-        bounds = Bounds(self._files, self._week.history.week, plan.scenario, list(plan.demand), prices, self._progress.warn)
+        bounds = Bounds(week_options(self._files), plan.scenario.name, proof, self._progress.warn)
         names = installed()
         if not names:
             self._progress.warn(f"there is no cbc, clp or glpsol, so this is only a first roster: {INSTALL}")
         solver = LinearSolvers(names, self._processes, folder, self._progress.warn, resident=True) if names else None
-        rows = rows_of(plan, start) if start else None
+        runs: List[RowRun] = []
         try:
-            run = self._run_rows(plan, solver, bounds, rows)
+            self._run_rows(plan, solver, runs, start)
             if not plan.asks or self._best.keeps_all:
-                self.claimed_by = run.claim
-                self.claims_kept = plan.asks
+                self.claimed_by = runs[0].claim
             for less_strict in plan.less_strict():
                 keeps = not self._best.breaks() if less_strict.keeping.absence < NEVER else self._best.keeps_all
                 if self._best.penalty is None or not keeps:
-                    run = self._run_rows(less_strict, solver, bounds, rows)
+                    self._run_rows(less_strict, solver, runs, start)
         finally:
             if solver:
                 solver.close()
-        self._judge(run, bounds)
+            self._take_bound(runs, bounds)
+        self._judge(runs[-1], bounds)
 
-    def _run_rows(self, plan: Plan, solver: Optional[LinearSolvers], bounds: Bounds, start: Optional[List[NurseWeek]]) -> RowRun:
-        """One search over the rows of the plan."""
+    def _run_rows(self, plan: Plan, solver: Optional[LinearSolvers], runs: List[RowRun], start: Optional[Sequence[Cell]]) -> None:
+        """One search over the rows of the plan, which becomes the last of the runs."""
 
-        def offer(rows: List[NurseWeek], finder: str) -> Optional[int]:
-            self._see(run, bounds)
-            cells = staffed(plan, run.crews, rows).cells
-            return self._best.offer(cells, finder)
+        def offer(rows: List[NurseWeek], finder: str) -> Optional[Points]:
+            penalty = self._best.offer(staffed(plan, run.crews, rows).cells, finder)
+            return None if penalty is None else Points(penalty)
 
         def heard() -> None:
-            if self._progress.is_due():
-                self._see(run, bounds)
+            if run.lower_bound is not None and (not plan.asks or (plan.keeping == STRICT and self._best.keeps_all)):
+                self._progress.bound_rose(run.lower_bound)
 
-        def proves() -> bool:
-            self._see(run, bounds)
-            return self.bound is not None and self.bound.by == PROVER and self.bound.points == self._best.penalty
+        run = RowRun(plan, solver, self._clock, offer, heard, rows_of(plan, start) if start else None, self._seed)
+        runs.append(run)
+        run.run()
 
-        run = RowRun(plan, solver, self._clock, offer, heard, start, self._seed, proves)
-        try:
-            run.run()
-        finally:
-            self._see(run, bounds)
-        return run
-
-    def _see(self, run: RowRun, bounds: Bounds) -> None:
-        """Takes the bound of the best prices, and of the cases. It holds for rosters that break absences or exceed limits, too."""
-        search = run.search
-        if search and search.lower_bound is not None:
-            lower, prices, pricing = search.lower_bound, search.prices, search.pricing
-            if pricing.plan.asks and pricing.plan.keeping == STRICT:
-                self.kept_bound = max(self.kept_bound, lower)
-            bound = bounds.of(prices, lambda: plain_bound(pricing.free(), prices) if pricing.plan.asks else lower)
-            cases = run.cases
-            if cases:
-                bound = bounds.of_cases(pricing.plan.nurses, cases, lambda: plain_cases_bound(pricing.free(), cases or ()))
-            if run.certificate:
-                bound = bounds.prove(run.certificate) or bound
-            if self._bound is None or bound.points > self._bound.points:
-                self._bound = bound
-                if self.bound is None:
-                    self._progress.warn(f"the lower bound {bound.points} ({bound.by}) is above the penalty of a roster: it is wrong")
-                    return
-                self._progress.bound_rose(bound.points)
+    def _take_bound(self, runs: Sequence[RowRun], bounds: Bounds) -> None:
+        """Takes the bound of the rosters that keep as much as the best one."""
+        if not runs or self._best.penalty is None:
+            return
+        keeping = STRICT if self._best.keeps_all else FREE if self._best.breaks() else ONLY_ABSENCES
+        seconds = STOPPED_SECONDS if self._clock.stopped else PROOF_SECONDS
+        self._bound = bounds.of(runs[0] if keeping == STRICT else runs[-1], keeping, seconds)
+        if self._bound and self.bound is None:
+            self._progress.warn(f"the lower bound {self._bound.points} ({self._bound.by}) is above the penalty of a roster: it is wrong")
 
     def _judge(self, run: RowRun, bounds: Bounds) -> None:
         """A proof that no roster exists is a ProgramFault."""
@@ -138,7 +115,7 @@ class WeekSearch:
         why = f"{page('your_ward.md')} shows how to find out why"
         if run.without_row:
             raise ProgramFault(NO_ROSTER, f"no roster keeps the hard rules{held}: those of {run.without_row} contradict one another")
-        by = bounds.no_roster(*run.minimums) if run.minimums else None
+        by = bounds.no_roster(run.plan.hard_only(), run.minimums, PROOF_SECONDS) if run.minimums else None
         if by:
             raise ProgramFault(NO_ROSTER, f"no roster keeps the hard rules{held} ({by}): {why}")
 

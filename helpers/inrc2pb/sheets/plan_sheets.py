@@ -2,7 +2,7 @@
 
 import datetime
 import re
-from typing import Collection, Dict, Iterator, List, NamedTuple, Optional, Tuple
+from typing import Collection, Dict, Iterator, List, NamedTuple, Optional, Set, Tuple
 
 from ..judging.absences import is_broken_by, readable
 from ..week.faults import Gathering
@@ -13,9 +13,9 @@ from .sheet_rows import SheetCell, SheetRow, Table
 from ..week.slots import MAX_NUMBER
 from .ward_sheets import Ward, table_of
 
-# Reasons to be away. Leave counts as work, and unpaid leave does not.
-LEAVE = "leave"
-AWAY = ("away", "ill", LEAVE, "unpaid", "training")
+# Reasons to be away: those that count as work, and those for which a contract does not run, as before a nurse comes or after she leaves.
+AWAY = ("away", "ill", "leave", "unpaid", "training")
+COUNTED, NOT_EMPLOYED = ("ill", "leave", "training"), ("away", "unpaid")
 _WISH, _NO_WISH = ("wish", "wish off", "off?"), ("", "-")
 _NO_SHIFT = re.compile(r"(not|no)[ _-]*(\S.*)", re.IGNORECASE)
 _PAIR = re.compile(r"\(?([0-9]{1,4}) ?(\+|,|\.\.) ?([0-9]{1,4})\)?")
@@ -35,7 +35,8 @@ class Held(NamedTuple):
 
 
 class WeekSheet:
-    """What the sheets say of one week. `reasons` has the word that says why a nurse is away on a day."""
+    """What the sheets say of one week. `reasons` has the word that says why a nurse is away on a day, and `holidays` are days with numbers
+    of their own, unlike those of all weeks."""
 
     def __init__(self) -> None:
         self.requirements: Dict[Place, Requirement] = {}
@@ -43,6 +44,7 @@ class WeekSheet:
         self.absences: List[Absence] = []
         self.held: List[Held] = []
         self.reasons: Dict[Tuple[str, int], str] = {}
+        self.holidays: Set[int] = set()
 
 
 class Days(NamedTuple):
@@ -181,6 +183,8 @@ def _read_needs(table: Table, scenario: Scenario, weeks: List[WeekSheet], monday
             for day, cell in enumerate(of_week or ()):
                 base = of_all[day] if of_all and not cell.text else cell
                 sheet.requirements[Place(day, shift, skill)] = _needed(base)
+                if of_all and _needed(base) != _needed(of_all[day]):
+                    sheet.holidays.add(day)
 
 
 def _week_number(cell: SheetCell, weeks: int, monday: Optional[datetime.date]) -> Optional[int]:

@@ -18,7 +18,7 @@ from xml.parsers import expat
 
 from . import sheet_ods, sheet_xlsx
 from ..week.faults import FileFault
-from .sheet_parts import MAX_BYTES, MAX_COLUMNS, MAX_ROWS, Parts, Rows, trimmed
+from .sheet_parts import MAX_BYTES, MAX_COLUMNS, MAX_ROWS, Marks, Parts, Rows, trimmed
 
 _SEPARATORS = (";", ",", "\t")
 # The first bytes of an Excel file before 2007, and of a zip file.
@@ -32,12 +32,13 @@ _DAMAGED = (
 
 
 class Book(NamedTuple):
-    """The sheets by their names in small letters, the numbers of their hidden rows, and the day with the number 0, if the file has dates as
-    numbers."""
+    """The sheets by their names in small letters, the numbers of their hidden rows, the cells with a look that may mean something, and the
+    day with the number 0, if the file has dates as numbers."""
 
     path: Path
     sheets: Dict[str, Rows]
     hidden: Mapping[str, Sequence[int]] = {}
+    marks: Mapping[str, Marks] = {}
     day_zero: datetime.date = datetime.date(1899, 12, 30)
 
 

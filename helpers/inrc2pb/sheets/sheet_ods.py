@@ -3,24 +3,27 @@
 from typing import Dict, Iterator, List, Tuple
 from xml.etree.ElementTree import Element
 
-from .sheet_parts import SHEETS, Grid, Parts, Rows, formula_text, number_text
+from .sheet_parts import SHEETS, Grid, Marks, Parts, Rows, formula_text, number_text, ods_space
+from .sheet_styles import Look, is_struck_in_ods, ods_looks
 
-_SPACES = "{urn:oasis:names:tc:opendocument:xmlns:%s:1.0}"
-_TABLE, _TEXT, _OFFICE = (_SPACES % name for name in ("table", "text", "office"))
+_TABLE, _TEXT, _OFFICE = map(ods_space, ("table", "text", "office"))
 
 
-def sheets(parts: Parts) -> Tuple[Dict[str, Rows], Dict[str, List[int]]]:
-    """The sheets by their names in small letters, and the numbers of their hidden rows."""
+def sheets(parts: Parts) -> Tuple[Dict[str, Rows], Dict[str, List[int]], Dict[str, Marks]]:
+    """The sheets by their names in small letters, the numbers of their hidden rows, and the cells with a look that may mean something."""
     found: Dict[str, Rows] = {}
     hidden: Dict[str, List[int]] = {}
-    for book in parts.read("content.xml").iter(_OFFICE + "spreadsheet"):
+    marks: Dict[str, Marks] = {}
+    content = parts.read("content.xml")
+    looks = ods_looks(content)
+    for book in content.iter(_OFFICE + "spreadsheet"):
         for table in book.findall(_TABLE + "table"):
             name = table.get(_TABLE + "name", "").strip().lower()
             grid = Grid(name, parts)
             if name in SHEETS:
-                _read(table, grid)
-            found[name], hidden[name] = grid.rows(), grid.hidden
-    return found, hidden
+                _read(table, grid, looks)
+            found[name], hidden[name], marks[name] = grid.rows(), grid.hidden, grid.marks
+    return found, hidden, marks
 
 
 def _rows(element: Element) -> Iterator[Element]:
@@ -32,7 +35,7 @@ def _rows(element: Element) -> Iterator[Element]:
             yield from _rows(part)
 
 
-def _read(table: Element, grid: Grid) -> None:
+def _read(table: Element, grid: Grid, looks: Dict[str, Look]) -> None:
     """Reads the rows of a sheet. Empty ones at its end may be repeated a million times."""
     number = 0
     for row in _rows(table):
@@ -48,6 +51,9 @@ def _read(table: Element, grid: Grid) -> None:
                 value = _value(cell)
                 has_values = has_values or bool(value)
                 grid.put(rows, columns, value)
+                look = looks.get(cell.get(_TABLE + "style-name", ""), Look())
+                struck = bool(value.strip()) and (look.struck or is_struck_in_ods(cell, looks))
+                grid.mark(rows, columns, struck, look.colored)
                 _merge(cell, rows, columns, grid)
         if has_values and row.get(_TABLE + "visibility", "visible") != "visible":
             grid.hidden += [row + 1 for row in rows]

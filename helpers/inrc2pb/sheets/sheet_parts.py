@@ -3,7 +3,7 @@
 import re
 import zipfile
 from pathlib import Path
-from typing import Dict, List, Sequence, Tuple
+from typing import Dict, List, NamedTuple, Sequence, Set, Tuple
 from xml.etree import ElementTree
 from xml.parsers import expat
 
@@ -17,6 +17,22 @@ SHEETS = ("shifts", "contracts", "nurses", "needs", "plan")
 NEARLY = 1e-9
 _SUM = re.compile(r"(?:of:)?=?([0-9]{1,4}\+[0-9]{1,4})")
 Rows = List[List[str]]
+# The most rows and columns of one cell that is repeated, whose look counts: more are filled outside the table.
+_MOST_REPEATED = 50, 400
+# The namespaces of the parts of an XLSX file, and the beginning of an ODS file's.
+MAIN_SPACES = ("{http://schemas.openxmlformats.org/spreadsheetml/2006/main}", "{http://purl.oclc.org/ooxml/spreadsheetml/main}")
+
+
+def ods_space(name: str) -> str:
+    """A namespace of an ODS file."""
+    return f"{{urn:oasis:names:tc:opendocument:xmlns:{name}:1.0}}"
+
+
+class Marks(NamedTuple):
+    """The rows and columns of cells whose text is struck through, and of those that have a color."""
+
+    struck: Set[Tuple[int, int]]
+    colored: Set[Tuple[int, int]]
 
 
 class Parts:
@@ -68,6 +84,13 @@ class Grid:
         self._cells: Dict[int, Dict[int, str]] = {}
         self._merged: List[Tuple[range, range]] = []
         self.hidden: List[int] = []
+        self.marks = Marks(set(), set())
+
+    def mark(self, rows: range, columns: range, struck: bool, colored: bool) -> None:
+        """Keeps the look of cells."""
+        if len(rows) <= _MOST_REPEATED[0] and len(columns) <= _MOST_REPEATED[1]:
+            for marked, looks_so in zip(self.marks, (struck, colored)):
+                marked.update((row, column) for row in rows for column in columns if looks_so)
 
     def put(self, rows: range, columns: range, value: str) -> None:
         """Writes the value into these cells, if it is one."""

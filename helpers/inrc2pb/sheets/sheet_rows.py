@@ -86,7 +86,8 @@ class SheetCell(NamedTuple):
             return f"the sign {KEPT} is for shifts max, work max and weekends"
         if not pair and re.fullmatch(r"[0-9]+[.,][0-9]+", self.text):
             return "shifts are counted, not hours"
-        return f"write one, or {pair}" if pair else f"write one{'' if re.search('[0-9]', self.text) else empty}"
+        number = "write a number such as 2"
+        return f"{number}, or {pair}" if pair else f"{number}{'' if re.search('[0-9]', self.text) else empty}"
 
     def new_name(self, kind: str, taken: Collection[str]) -> str:
         """The cell as a new name of a file, with _ for a blank."""

@@ -2,12 +2,12 @@
 
 import datetime
 import re
-from typing import Dict, List, Sequence, Tuple
+from typing import Dict, List, NamedTuple, Sequence, Tuple
 from xml.etree.ElementTree import Element
 
-from .sheet_parts import SHEETS, Grid, Parts, Rows, formula_text, number_text
+from .sheet_parts import MAIN_SPACES, SHEETS, Grid, Marks, Parts, Rows, formula_text, number_text
+from .sheet_styles import Look, is_struck_in_xlsx, xlsx_looks
 
-_MAIN = ("{http://schemas.openxmlformats.org/spreadsheetml/2006/main}", "{http://purl.oclc.org/ooxml/spreadsheetml/main}")
 _LINK = (
     "{http://schemas.openxmlformats.org/officeDocument/2006/relationships}id", "{http://purl.oclc.org/ooxml/officeDocument/relationships}id"
 )  # fmt: skip
@@ -15,23 +15,37 @@ _RANGE = re.compile("([A-Z]{1,3})([0-9]{1,7}):([A-Z]{1,3})([0-9]{1,7})")
 _DAY_ZERO, _DAY_ZERO_1904 = datetime.date(1899, 12, 30), datetime.date(1904, 1, 1)
 
 
-def sheets(parts: Parts) -> Tuple[Dict[str, Rows], Dict[str, List[int]], datetime.date]:
-    """The sheets by their names in small letters, the numbers of their hidden rows, and the day with the number 0."""
+class _Texts(NamedTuple):
+    """The strings of a book, which of them are struck through, and the looks of its formats."""
+
+    shared: Sequence[str]
+    struck: Sequence[bool]
+    looks: Sequence[Look]
+
+
+Sheets = Tuple[Dict[str, Rows], Dict[str, List[int]], Dict[str, Marks], datetime.date]
+
+
+def sheets(parts: Parts) -> Sheets:
+    """The sheets by their names in small letters, the numbers of their hidden rows, the cells with a look that may mean something, and the
+    day with the number 0."""
     book = parts.read("xl/workbook.xml")
-    shared = [_text(item) for item in _all(parts.read("xl/sharedStrings.xml"), "si")] if parts.has("xl/sharedStrings.xml") else []
+    items = _all(parts.read("xl/sharedStrings.xml"), "si") if parts.has("xl/sharedStrings.xml") else []
+    texts = _Texts(list(map(_text, items)), list(map(is_struck_in_xlsx, items)), xlsx_looks(parts))
     targets = {link.get("Id", ""): _path(link.get("Target", "")) for link in parts.read("xl/_rels/workbook.xml.rels")}
     found: Dict[str, Rows] = {}
     hidden: Dict[str, List[int]] = {}
+    marks: Dict[str, Marks] = {}
     for sheet in _all(book, "sheet"):
         name = sheet.get("name", "").strip().lower()
         target = targets[next(filter(None, map(sheet.get, _LINK)), "")]
         if "worksheets" in target:
             grid = Grid(name, parts)
             if name in SHEETS:
-                _read(parts.read(target), grid, shared)
-            found[name], hidden[name] = grid.rows(), grid.hidden
+                _read(parts.read(target), grid, texts)
+            found[name], hidden[name], marks[name] = grid.rows(), grid.hidden, grid.marks
     from_1904 = any(part.get("date1904") in ("1", "true", "on") for part in _all(book, "workbookPr"))
-    return found, hidden, _DAY_ZERO_1904 if from_1904 else _DAY_ZERO
+    return found, hidden, marks, _DAY_ZERO_1904 if from_1904 else _DAY_ZERO
 
 
 def _path(target: str) -> str:
@@ -40,10 +54,10 @@ def _path(target: str) -> str:
 
 
 def _all(element: Element, name: str) -> List[Element]:
-    return [found for space in _MAIN for found in element.iter(space + name)]
+    return [found for space in MAIN_SPACES for found in element.iter(space + name)]
 
 
-def _read(sheet: Element, grid: Grid, shared: Sequence[str]) -> None:
+def _read(sheet: Element, grid: Grid, texts: _Texts) -> None:
     """Reads the rows of a sheet. A row or cell without a number follows the one before."""
     number = -1
     for row in _all(sheet, "row"):
@@ -53,12 +67,23 @@ def _read(sheet: Element, grid: Grid, shared: Sequence[str]) -> None:
         column = -1
         for cell in _all(row, "c"):
             column = _column(cell.get("r", "")) if cell.get("r") else column + 1
-            grid.put(range(number, number + 1), range(column, column + 1), _value(cell, shared))
+            place, value = (range(number, number + 1), range(column, column + 1)), _value(cell, texts.shared)
+            grid.put(*place, value)
+            look = _look(cell, texts)
+            grid.mark(*place, look.struck and bool(value.strip()), look.colored)
     for merged in _all(sheet, "mergeCell"):
         found = _RANGE.fullmatch(merged.get("ref", "").upper())
         if found:
             first, top, last, bottom = found.groups()
             grid.merge(range(int(top) - 1, int(bottom)), range(_column(first), _column(last) + 1))
+
+
+def _look(cell: Element, texts: _Texts) -> Look:
+    """The look of a cell: that of its format, and of its text."""
+    number, text = cell.get("s", ""), "".join(part.text or "" for part in _all(cell, "v")) if cell.get("t") == "s" else ""
+    look = texts.looks[int(number)] if number.isdigit() and int(number) < len(texts.looks) else Look()
+    in_text = bool(text) and texts.struck[int(text)] or any(map(is_struck_in_xlsx, _all(cell, "is")))
+    return look._replace(struck=look.struck or in_text)
 
 
 def _column(place: str) -> int:

@@ -1,1 +1,1 @@
-"""Rosters as tables, pages, pictures, calendars and words."""
+"""Rosters as tables, pages, calendars and words."""

@@ -6,7 +6,7 @@ from typing import Optional
 
 # All but the characters that XML allows. A byte that is not UTF-8 is a surrogate.
 _NOT_IN_XML = re.compile("[^\t\n\r\x20-\ud7ff\ue000-\ufffd\U00010000-\U0010ffff]")
-_EMPTY = ("br", "col", "meta")
+_EMPTY = ("br", "col", "input", "meta")
 
 
 class Markup(str):

@@ -6,7 +6,8 @@ from .charge_words import costs_text, in_words
 from ..week.dates import date_text
 from ..week.hints import plural
 from .markup import Markup, element, joined
-from .page_tables import Content, RosterTable, changes_table, coverage_tables, plain, totals_table, wishes_table
+from .page_lists import changes_table, wishes_table
+from .page_tables import Content, RosterTable, coverage_tables, plain, totals_table
 from .roster_text import COLORS, ink_on
 from ..judging.rules import Charge, cost_by_rule
 from .why import breach_lines
@@ -33,10 +34,18 @@ td small { font-size: .82em }
 .roster tbody th { overflow-wrap: anywhere }
 .many td, .many thead th { padding: .15em .2em; min-width: 1.5em }
 .many td small { font-size: .7em; margin-left: .1em }
-.many { table-layout: fixed }
-.many .date { font-size: .7em; white-space: normal }
-.mark { font-weight: bold; margin-left: .25em }
 .away { font-style: italic; font-size: .85em }
+.many { table-layout: fixed }
+.roster .sum { background: #f4f4f4 }
+@media screen {
+.roster { min-width: 44em }
+.many { min-width: 84em }
+.roster tbody th, .roster thead tr > :first-child { position: sticky; left: 0; background: #fff; z-index: 1; overflow-wrap: break-word }
+.roster thead tr > :first-child { background: #eee }
+}
+.many .date { font-size: .7em; white-space: normal }
+.many .away { font-size: .7em; letter-spacing: -.03em }
+.mark { font-weight: bold; margin-left: .25em }
 .changed { border: 2.5px dashed #111 }
 .few { border: 2.5px solid #111 }
 .coverage small { white-space: nowrap }
@@ -47,13 +56,17 @@ details { margin: 0 0 .5em; break-inside: avoid }
 summary { cursor: pointer }
 .legend { padding: 0 }
 .legend li { display: inline-block; margin-right: 1.4em }
-@page { size: A4 landscape; margin: 10mm }
+@page {
+size: A4 landscape; margin: 9mm 10mm 12mm;
+@bottom-right { content: "page " counter(page) " of " counter(pages); font: 8pt sans-serif }
+}
 @media print {
 body { margin: 0; font-size: 9pt; max-width: none; -webkit-print-color-adjust: exact; print-color-adjust: exact }
 section { overflow: visible }
 thead { display: table-header-group }
 .many { line-height: 1.15; margin: .2em 0 .4em }
 .many td, .many tbody th { padding-top: .02em; padding-bottom: .02em }
+.roomy td, .roomy tbody th { padding-top: .3em; padding-bottom: .3em }
 tr, caption, li, .coverage, .changes { break-inside: avoid }
 caption, h2, summary { break-after: avoid }
 .sheet { break-before: page }
@@ -79,7 +92,8 @@ def title(page: Content) -> str:
         return f"{plain(view.name)}, {view.weeks_text}"
     last = page.monday + (7 * len(view.weeks) - 1) * (page.monday.resolution)
     year = f" {page.monday.year}" if page.monday.year != last.year else ""
-    return f"{plain(view.name)}, {date_text(page.monday)}{year} to {date_text(last)} {last.year}"
+    number = f" (calendar week {last.isocalendar()[1]})" if len(view.weeks) == 1 else ""
+    return f"{plain(view.name)}, {date_text(page.monday)}{year} to {date_text(last)} {last.year}{number}"
 
 
 def _summary(page: Content) -> Iterator[str]:
@@ -90,7 +104,8 @@ def _summary(page: Content) -> Iterator[str]:
     old = page.old.penalty if page.old and not page.old.breaks_absences else None
     before = f", before {old}" if cost and old is not None else ""
     named = f"{view.weeks_text}: " if page.monday else ""
-    yield f"{named}{plural(len(view.nurses), 'nurse')}, {plural(count, 'shift')}{cost}{before}"
+    made = f"; as of {page.as_of:%A}, {date_text(page.as_of)} {page.as_of:%Y, %H:%M}" if page.as_of else ""
+    yield f"{named}{plural(len(view.nurses), 'nurse')}, {plural(count, 'shift')}{cost}{before}{made}"
     yield from breach_lines(view)
 
 

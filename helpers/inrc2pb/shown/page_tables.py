@@ -1,20 +1,25 @@
-"""The tables of a page: the roster, totals, coverage, wishes and changes. They mean the same without colors and without sight."""
+"""The tables of a page: the roster, totals and coverage. They mean the same without colors and without sight."""
 
 import datetime
 from dataclasses import dataclass, field
-from typing import Callable, Dict, Iterator, List, Mapping, Optional, Sequence
+from typing import Callable, Collection, Dict, Iterator, List, Mapping, Optional, Sequence
 
 from .changes import Change, cells_text, changes
 from ..judging.coverage import Covered, coverage
-from ..week.dates import Times, day_names
+from ..week.dates import DAY, Times, day_names
+from ..week.records import DAYS
 from .markup import Markup, element, hidden, joined, shown
 from .roster_text import COLORS, cuts
 from .roster_view import AWAY, MEANINGS, ShownCell, RosterView
-from .totals import Totals, Wish, totals
+from .totals import Totals, totals, worked
 
 # Weeks next to one another in a table of the roster and of the coverage, so that it fits a page.
 WEEKS_OF_ROSTER, WEEKS_OF_COVERAGE = 4, 2
+# The most nurses whose rows are high in print, so that a table fits one page.
+MOST_ROOMY = 25
 CHANGED, CHANGED_MEANING = "\u0394", "changed since the older roster"
+WEEKENDS = "WE"
+HOLIDAY, HOLIDAY_MEANING = "\u2022", "other numbers of nurses are needed, as on a bank holiday"
 MINUS = "\u2212"
 
 
@@ -28,7 +33,8 @@ class Content:
     """What a page shows: the roster, an older one, the date of the first Monday, and the times of shift types, as far as they are known.
 
     `only_table` is for a wall: nothing on what the roster costs, nor on wishes and held shifts. `link` has the address of a nurse's day
-    in a week of the table, if its cells are links.
+    in a week of the table, if its cells are links. `holidays` are days from the first Monday on with numbers of their own, as bank holidays
+    have, and `as_of` says when the page was made.
     """
 
     view: RosterView
@@ -37,6 +43,19 @@ class Content:
     times: Mapping[str, Times] = field(default_factory=dict)
     only_table: bool = False
     link: Optional[Callable[[int, str, int], str]] = None
+    holidays: Collection[int] = ()
+    as_of: Optional[datetime.datetime] = None
+
+    def week_name(self, week: int) -> str:
+        """The name of a week: its number, and that of the calendar if its dates are known."""
+        number = f"week {self.view.weeks[week].number}"
+        if self.monday is None:
+            return number
+        return f"{number}, calendar week {(self.monday + 7 * week * DAY).isocalendar()[1]}"
+
+    def is_holiday(self, week: int, day: int) -> bool:
+        """Whether a day has numbers of its own."""
+        return len(DAYS) * week + day in self.holidays
 
     def days(self, week: int) -> Sequence[str]:
         """The names of a week's days."""
@@ -83,11 +102,12 @@ def day_heads(page: Content, weeks: Sequence[int], corner: str) -> List[Markup]:
     for week in weeks:
         for day, name in enumerate(page.days(week)):
             word, _, date = name.partition(" ")
-            days.append(column(joined(word, *[element("span", f" {date}", class_="date")] * bool(date)), _weekend(day)))
+            sign = [joined(shown(HOLIDAY, class_="mark"), hidden(f", {HOLIDAY_MEANING}"))] * page.is_holiday(week, day)
+            days.append(column(joined(word, *sign, *[element("span", f" {date}", class_="date")] * bool(date)), _weekend(day)))
     row = joined(column(corner), *days)
     if len(page.view.weeks) == 1:
         return [row]
-    named = [element("th", f"week {page.view.weeks[week].number}", scope="colgroup", colspan="7") for week in weeks]
+    named = [element("th", page.week_name(week), scope="colgroup", colspan="7") for week in weeks]
     return [joined(element("td"), *named), row]
 
 
@@ -110,19 +130,38 @@ class RosterTable:
         self.changed = {(change.week, change.nurse, change.day): change for change in page.changes}
 
     def tables(self) -> Iterator[Markup]:
-        """A table for each four weeks."""
-        for weeks in _groups(len(self.view.weeks), WEEKS_OF_ROSTER):
+        """A table for each four weeks. On a wall the last one has the shifts of each type and the weekends of each nurse beside it."""
+        groups = _groups(len(self.view.weeks), WEEKS_OF_ROSTER)
+        counts = worked(self.view) if self.page.only_table else {}
+        for weeks in groups:
+            beside = counts if weeks == groups[-1] else {}
             rows = [
-                [first(plain(nurse)), *(self._cell(week, nurse, day) for week in weeks for day in range(7))] for nurse in self.view.nurses
+                [
+                    first(plain(nurse)),
+                    *(self._cell(week, nurse, day) for week in weeks for day in range(7)),
+                    *(element("td", str(number), class_="sum") for number in beside.get(nurse, ())),
+                ]
+                for nurse in self.view.nurses
             ]
-            yield table("Shifts of each nurse", day_heads(self.page, weeks, "nurse"), rows, "roster" if self.single else "roster many")
+            *above, days = day_heads(self.page, weeks, "nurse")
+            if beside:
+                above = [joined(head, element("th", "in all", scope="colgroup", colspan=str(len(self._sums())))) for head in above]
+                days = joined(days, *(column(name, "sum") for name in self._sums()))
+            room = " roomy" * (self.page.only_table and len(groups) == 1 and len(rows) <= MOST_ROOMY)
+            yield table("Shifts of each nurse", [*above, days], rows, ("roster" if self.single else "roster many") + room)
+
+    def _sums(self) -> List[str]:
+        """The heads of the columns with sums: names of shift types, as in the cells, and that of weekends."""
+        return [*(plain(shift) if self.single else self.short[shift] for shift in self.view.shifts), WEEKENDS]
 
     def _cell(self, week: int, nurse: str, day: int) -> Markup:
         cells = self.view.cells(week, nurse, day)
         change = self.changed.get((week, nurse, day))
         parts = [self._shift(cell) for cell in cells]
         if not cells and self.view.is_away(week, nurse, day):
-            parts.append(element("span", self.view.reason(week, nurse, day), class_="away"))
+            # On a wall nobody reads why.
+            why = "away" if self.page.only_table else self.view.reason(week, nurse, day)
+            parts.append(element("span", why, class_="away"))
         elif not cells and change:
             parts.append(element("span", "off", class_="away"))
         if change:
@@ -153,7 +192,9 @@ class RosterTable:
             lines += [f"{short} = {plain(skill)}" for skill, short in self.skills.items() if short != skill]
         marks = {mark for week in self.view.weeks for row in week.cells for mark in self.page.marks(week.marks(row))}
         meanings = {**MEANINGS, CHANGED: CHANGED_MEANING}
-        return lines + [f"{mark} = {meaning}" for mark, meaning in meanings.items() if mark in marks or mark == CHANGED and self.changed]
+        lines += [f"{mark} = {meaning}" for mark, meaning in meanings.items() if mark in marks or mark == CHANGED and self.changed]
+        lines += [f"{HOLIDAY} = {HOLIDAY_MEANING}"] * bool(self.page.holidays)
+        return lines + [f"{WEEKENDS} = weekends with work"] * self.page.only_table
 
 
 # ---- totals
@@ -175,12 +216,15 @@ def totals_table(page: Content) -> Optional[Markup]:
     if not found:
         return None
     is_last = any(week.week and week.week.is_last for week in view.weeks[-1:])
-    heads = ["nurse", "shifts", "contract", "difference", *map(plain, view.shifts), "weekends", "at most", "wishes", "granted", "missed"]
+    some_away = any(total.away for total in found.values())
+    heads = ["nurse", "shifts", *["of them for days away"] * some_away, "contract", "difference", *map(plain, view.shifts)]
+    heads += ["weekends", "at most", "wishes", "granted", "missed"]
     rows = []
     for nurse, total in found.items():
         over = total.weekends - total.max_weekends
         numbers = [
-            str(total.shifts), f"{total.contract.minimum} to {total.contract.maximum}", _left(total, is_last),
+            str(total.shifts), *[str(total.away)] * some_away,
+            f"{total.contract.minimum} to {total.contract.maximum}", _left(total, is_last),
             *map(str, total.by_shift.values()),
         ]
         numbers += [f"{total.weekends}{f' ({over} too many)' if over > 0 else ''}", str(total.max_weekends)]
@@ -231,32 +275,3 @@ def coverage_tables(page: Content) -> Iterator[Markup]:
             signs = f"{MINUS}1: one fewer than best; !: below the minimum; +1: one more than best"
             caption = f"Nurses at each place, and (minimum\u2013best). {signs}"
             yield table(caption, day_heads(page, weeks, "place"), rows, "coverage")
-
-
-# ---- wishes and changes
-
-
-def _wish(page: Content, wish: Wish) -> str:
-    asked = f"no {plain(wish.request.shift)}" if wish.request.shift else "off"
-    return f"{page.days(wish.week)[wish.request.day]} {asked}"
-
-
-def wishes_table(page: Content) -> Optional[Markup]:
-    """The wishes of each nurse who has some."""
-    rows = []
-    for nurse, total in (totals(page.view) or {}).items():
-        if total.wishes:
-            texts = [", ".join(_wish(page, wish) for wish in total.wishes if wish.granted == granted) for granted in (True, False)]
-            rows.append([first(plain(nurse)), *(element("td", text) for text in texts)])
-    return table("Wishes", [joined(*map(column, ("nurse", "granted", "missed")))], rows, "words") if rows else None
-
-
-def changes_table(page: Content) -> Optional[Markup]:
-    """The changes since the older roster."""
-    rows = [
-        [first(plain(change.nurse)), *(element("td", text) for text in (
-            page.days(change.week)[change.day], plain(cells_text(change.before)), plain(cells_text(change.now))))]
-        for change in page.changes
-    ]  # fmt: skip
-    heads = joined(*map(column, ("nurse", "day", "before", "now")))
-    return table(f"{len(rows)} changes since the older roster", [heads], rows, "words") if rows else None

@@ -8,8 +8,7 @@ from ..week.records import DAYS
 from .roster_view import RosterView
 from .totals import HEADS, LEGEND, totals
 
-# Colors that color-blind eyes distinguish (Okabe and Ito), and their numbers in a terminal. Shift types from the ninth on
-# have them again, in a picture with a dashed frame.
+# Colors that color-blind eyes distinguish (Okabe and Ito), and their numbers in a terminal. Shift types from the ninth on have them again.
 COLORS = ("#e69f00", "#56b4e9", "#0072b2", "#009e73", "#f0e442", "#cc79a7", "#d55e00", "#999999")
 TERMINAL_COLORS = (214, 74, 25, 36, 227, 175, 166, 246)
 # A nurse who is away, in a table of several weeks.

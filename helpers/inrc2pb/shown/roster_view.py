@@ -116,6 +116,8 @@ class RosterView:
     skills: Sequence[str]
     weeks: Sequence[WeekView]
     warnings: Sequence[str] = ()
+    # The shifts as which days away count in the histories, as far as they are known.
+    credit: Mapping[str, int] = field(default_factory=dict)
 
     @cached_property
     def _cells(self) -> Dict[object, List[ShownCell]]:

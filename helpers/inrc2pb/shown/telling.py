@@ -1,6 +1,6 @@
 """The files of a week in sentences, to be read by whoever knows the ward."""
 
-from typing import Collection, Dict, Iterable, Iterator, List, Optional, Tuple
+from typing import Collection, Dict, Iterable, Iterator, List, Mapping, Optional, Tuple
 
 from ..judging.absences import absences_of, joined, wishes_of
 from ..judging.demand import asked_shifts, supplied_shifts
@@ -9,7 +9,12 @@ from ..week.hints import plural
 from ..week.records import DAYS, Cell, Contract, History, Limits, Place, Request, Requirement, Scenario, WeekData
 
 _WEEK = len(DAYS)
-_LIMITS = {SHIFTS: "shifts", WORK_DAYS: "days of work in a row", WEEKENDS: "weekends"}
+# What nurses do who are away for a reason.
+_REASONS = {
+    "ill": "is ill", "leave": "has leave", "training": "has training", "unpaid": "has unpaid leave", "away": "is away",
+    "off": "is always off",
+}  # fmt: skip
+_LIMITS = {SHIFTS: "shift", WORK_DAYS: "working day", WEEKENDS: "weekend"}
 
 
 def scenario_sentences(scenario: Scenario) -> Iterator[str]:
@@ -59,12 +64,13 @@ def _in_a_row(limits: Limits) -> str:
     return f"{_numbers(low, limits.maximum)} day{'' if low == limits.maximum == 1 else 's'}"
 
 
-def history_sentences(history: History) -> Iterator[str]:
-    """A history in sentences: the last days, and the totals of the period."""
+def history_sentences(history: History, credit: Mapping[str, int] = {}) -> Iterator[str]:
+    """A history in sentences: the last days, and the totals of the period, with the shifts as which days away count."""
     yield f"{plural(history.week, 'week')} of the period {'is' if history.week == 1 else 'are'} over."
     for past in history.nurses.values():
+        counted = f" ({credit[past.nurse]} for days away)" if credit.get(past.nurse) else ""
         total = (
-            f"; {plural(past.assignments, 'shift')} and {plural(past.weekends, 'weekend')} in this period"
+            f"; {plural(past.assignments, 'shift')}{counted} and {plural(past.weekends, 'weekend')} in this period"
             if past.assignments or past.weekends else ""
         )
         if past.last_shift is None:
@@ -74,8 +80,10 @@ def history_sentences(history: History) -> Iterator[str]:
             yield f"{past.nurse} worked {past.last_shift} on Sunday, {row}{total}."
 
 
-def week_sentences(scenario: Scenario, history: Optional[History], data: WeekData) -> Iterator[str]:
-    """A week in sentences: its numbers, absences and wishes."""
+def week_sentences(
+    scenario: Scenario, history: Optional[History], data: WeekData, reasons: Mapping[Tuple[str, int], str] = {}
+) -> Iterator[str]:
+    """A week in sentences: its numbers, absences with their reasons, as far as they are known, and wishes."""
     rows: Dict[Tuple[str, str], List[Requirement]] = {}
     for place in data.requirements:
         rows[place.shift, place.skill] = [
@@ -87,20 +95,26 @@ def week_sentences(scenario: Scenario, history: Optional[History], data: WeekDat
     yield f"The week asks for {_numbers(minimum, best)} shifts; the contracts supply {_numbers(low, high)} a week."
     away = absences_of(data)
     for nurse in scenario.nurses:
-        for named in (None, *scenario.shift_types):
-            yield from _away(nurse, named, {one.day for one in away if (one.nurse, one.shift) == (nurse, named)})
-    yield from _limits_that_hold(scenario, data)
+        days = {one.day for one in away if (one.nurse, one.shift) == (nurse, None)}
+        for reason, says in _REASONS.items():
+            some = {day for day in days if reasons.get((nurse, day), "away") == reason}
+            if some:
+                yield f"{nurse} {says} on {_days(some)}."
+        for shift in scenario.shift_types:
+            yield from _never(nurse, shift, {one.day for one in away if (one.nurse, one.shift) == (nurse, shift)})
     yield from _wishes(wishes_of(data))
 
 
-def _limits_that_hold(scenario: Scenario, data: WeekData) -> Iterator[str]:
+def limit_sentences(scenario: Scenario, data: WeekData) -> Iterator[str]:
     """The maxima that are never exceeded, by contract or, if not all nurses of a contract have one, by nurse."""
-    for kind, what in _LIMITS.items():
-        held = {limit.nurse for limit in data.limits if limit.kind == kind}
-        for contract in scenario.contracts:
-            owners = [nurse.name for nurse in scenario.nurses.values() if nurse.contract == contract]
-            named = [contract] if held.issuperset(owners) else [nurse for nurse in owners if nurse in held]
-            yield from (f"{name}: the most {what} hold." for name in named if owners)
+    for contract in scenario.contracts.values():
+        owners = [nurse.name for nurse in scenario.nurses.values() if nurse.contract == contract.name]
+        most = {SHIFTS: contract.assignments.maximum, WORK_DAYS: contract.working_days.maximum, WEEKENDS: contract.max_weekends}
+        for kind, what in _LIMITS.items():
+            held = {limit.nurse for limit in data.limits if limit.kind == kind}
+            named = [contract.name] if held.issuperset(owners) else [nurse for nurse in owners if nurse in held]
+            row = " in a row" * (kind == WORK_DAYS)
+            yield from (f"{name}: never more than {plural(most[kind], what)}{row}." for name in named if owners)
 
 
 def _numbers_by_day(numbers: List[Requirement]) -> str:
@@ -127,12 +141,8 @@ def _days(days: Collection[int]) -> str:
     return joined(DAYS[day] for day in ordered)
 
 
-def _away(nurse: str, shift: Optional[str], days: Collection[int]) -> Iterator[str]:
-    if not days:
-        return
-    if shift is None:
-        yield f"{nurse} is away on {_days(days)}."
-    else:
+def _never(nurse: str, shift: str, days: Collection[int]) -> Iterator[str]:
+    if days:
         yield f"{nurse} never works {shift}" + ("." if len(days) == _WEEK else f" on {_days(days)}.")
 
 

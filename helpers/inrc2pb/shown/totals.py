@@ -19,7 +19,7 @@ class Wish(NamedTuple):
 
 class Totals(NamedTuple):
     """A nurse's shifts and weekends in the period until now, with the limits of her contract; her shifts of each type and her wishes
-    in the weeks of the table."""
+    in the weeks of the table. `away` of the shifts are days away that count as work."""
 
     shifts: int
     contract: Limits
@@ -27,6 +27,7 @@ class Totals(NamedTuple):
     max_weekends: int
     by_shift: Dict[str, int]
     wishes: Sequence[Wish]
+    away: int = 0
 
     @property
     def granted(self) -> int:
@@ -74,5 +75,14 @@ def totals(view: RosterView) -> Optional[Dict[str, Totals]]:
             contract.max_weekends,
             {shift: number[nurse, shift] for shift in view.shifts},
             [wish for of_week in wishes for wish in of_week.get(nurse, ())],
+            view.credit.get(nurse, 0),
         )
     return found
+
+
+def worked(view: RosterView) -> Dict[str, List[int]]:
+    """The shifts of each type of each nurse in the weeks of a table, and her weekends with work."""
+    number = collections.Counter((row.nurse, row.shift) for week in view.weeks for row in week.cells)
+    weekends = {(index, row.nurse) for index, week in enumerate(view.weeks) for row in week.cells if row.day in (SATURDAY, SUNDAY)}
+    on_weekends = collections.Counter(nurse for _, nurse in weekends)
+    return {nurse: [*(number[nurse, shift] for shift in view.shifts), on_weekends[nurse]] for nurse in view.nurses}

@@ -199,7 +199,7 @@ class LinearProgram:
     def add_rows(self, bounds: Iterable[Tuple[float, float]]) -> None:
         """Adds rows without entries, of these lower and upper bounds."""
         given = list(bounds)
-        lower, upper = (array("d", (_finite(of[at]) for of in given)) for at in range(2))
+        lower, upper = array("d", (_finite(least) for least, _ in given)), array("d", (_finite(most) for _, most in given))
         self._lower += lower
         self._upper += upper
         self._pending.append(("add_rows", lower.tobytes(), upper.tobytes()))
@@ -233,7 +233,7 @@ class LinearProgram:
     def _change(self, name: str, values: Mapping[int, Sequence[float]]) -> None:
         if values:
             numbers = array("i", values).tobytes()
-            self._pending.append((name, numbers, *(array("d", map(_finite, of)).tobytes() for of in zip(*values.values()))))
+            self._pending.append((name, numbers, *(array("d", map(_finite, part)).tobytes() for part in zip(*values.values()))))
 
     def keep_basis(self, name: int = 0) -> None:
         """Keeps the basis of the last solution under this name, if the child has one."""
@@ -271,7 +271,7 @@ class LinearProgram:
             self._pending = [("add_rows", self._lower.tobytes(), self._upper.tobytes()), ("add_columns", *_as_arrays(self._columns))]
         operations, self._pending = [*self._pending, ("solve", *words)], []
         sizes = (self.rows, self.columns) if words[-1] else (0, 0)
-        return child.ask([(self._number, *of) for of in operations], clock, *sizes)
+        return child.ask([(self._number, *operation) for operation in operations], clock, *sizes)
 
     def _by_files(self, clock: Clock) -> Solution:
         """The solution of a solver that reads files."""
@@ -322,7 +322,7 @@ class LinearProgram:
 
 def _as_arrays(columns: Sequence[Column]) -> Tuple[bytes, ...]:
     """The costs, the bounds, the starts of the entries, their rows and their values."""
-    bounds = [array("d", map(_finite, of)).tobytes() for of in zip(*(column[:3] for column in columns))] or [b""] * 3
+    bounds = [array("d", map(_finite, part)).tobytes() for part in zip(*(column[:3] for column in columns))] or [b""] * 3
     starts, rows, values = array("i", [0]), array("i"), array("d")
     for column in columns:
         for row, value in column.entries:

@@ -63,7 +63,7 @@ class Twice(HelperTest):
             (("next", SCENARIO, HISTORY, ROSTER, "--out", "a", "--out", "b"), "--out"),
             (("period", *WEEK_OPTIONS, "--out", "a", "--his", HISTORY), "--his"),
             (("simulate", *WEEK_OPTIONS, "--sol", "a", "--sol", "b"), "--sol"),
-            (("table", "--svg", "--svg", ROSTER), "--svg"),
+            (("table", "--csv", "--csv", ROSTER), "--csv"),
         ):
             with self.subTest(words):
                 status, printed, said = run(*words)

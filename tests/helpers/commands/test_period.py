@@ -13,7 +13,7 @@ from pathlib import Path
 
 from ward import HAS_CBC, HAS_CLASP, HELPERS, HISTORY, ROOT, ROSTER, SCENARIO, WARD, WEEK, WEEK_FILES, WEEK_OPTIONS, HelperTest, program, run
 
-from inrc2pb.search.bounds import PERIOD_PROVER, PLAIN
+from inrc2pb.search.bounds import PLAIN, PROVER
 from inrc2pb.commands.period import Period
 from inrc2pb.search.planned_weeks import PeriodFiles
 
@@ -53,7 +53,7 @@ class PeriodTest(HelperTest):
 class Together(PeriodTest):
     def test_the_ward(self):
         for totals, says in (
-            ([], f"^lower bound [0-9]+ of the sum \\(({PLAIN}|{PERIOD_PROVER})\\): "),
+            ([], f"^lower bound [0-9]+ of the sum \\(({PLAIN}|{PROVER})\\): "),
             (["--early"], "^lower bound "),
             (["--ahead"], "^planned ahead of 2 weeks that are not known: no lower bound$"),
         ):

@@ -1,6 +1,7 @@
 """Tests of the local page of `inrc2pb-plan`: its requests, and what it refuses."""
 
 import contextlib
+import fcntl
 import http.client
 import re
 import threading
@@ -8,7 +9,7 @@ import time
 import unittest
 from urllib.parse import urlencode, urlsplit
 
-from test_plans import FolderTest
+from test_plans import DATES, FolderTest
 from ward import HAS_CBC
 
 from inrc2pb.commands.plan import read_sheet
@@ -44,8 +45,9 @@ class Page(FolderTest):
         return answer.status, text
 
     def sends(self, **fields):
-        """Sends a form, waits for the end of its verb, and returns the page."""
-        self.assertEqual(self.asks("POST", form=urlencode({name.replace("_", " "): value for name, value in fields.items()}))[0], 303)
+        """Sends a form, and says yes if it writes, waits for the end of its verb, and returns the page."""
+        form = urlencode({name.replace("_", " "): value for name, value in {**fields, "sure": "yes"}.items()})
+        self.assertEqual(self.asks("POST", form=form)[0], 303)
         limit = time.monotonic() + 60
         while self.jobs.runs and time.monotonic() < limit:
             time.sleep(0.05)
@@ -76,17 +78,89 @@ class Page(FolderTest):
             ("is no number of seconds from 1 to 3600", {"verb": "plan", "seconds": "1e9"}),
             ("is no day: ", {"verb": "plan", "from": "<b>"}),
             ("is no reason to be away", {"verb": "away", "reason": "party"}),
+            ("is no button of this page", {"nurse": "Chen"}),
         ):
             with self.subTest(fields):
-                page = self.sends(**fields)
-                self.assertRegex(page, '<pre role="alert" class="fault">[^<]*' + re.escape(says))
+                self.assert_refused(says, fields)
         self.assertEqual(list((self.ward / "plans").glob("0*")), [])
+        self.write_plan()
+        for says, fields in (
+            ("a nurse is missing", {"verb": "away", "reason": "ill"}),
+            ("is no nurse: ", {"verb": "away", "reason": "ill", "nurse": "<script>", "first": "2026-12-04"}),
+            ("is before Fri 4 Dec", {"verb": "away", "reason": "ill", "nurse": "Chen", "first": "2026-12-04", "last": "2026-12-02"}),
+            ("a shift type is missing", {"verb": "over", "corrections": "Chen Fri"}),
+            ("--do is for a swap of two nurses", {"verb": "swap", "nurse": "Grace", "first": "2026-12-04", "write_it": "yes"}),
+        ):
+            with self.subTest(fields):
+                self.assert_refused(says, fields)
+        self.assertEqual([path.name[:4] for path in (self.ward / "plans").glob("0*")], ["0001"])
+
+    def assert_refused(self, says, fields):
+        """The page says this as a fault."""
+        self.assertRegex(self.sends(**fields), '<pre role="alert" class="fault">[^<]*' + re.escape(says))
 
     def test_a_fault_of_the_spreadsheet(self):
         (self.ward / "needs.csv").write_text("nothing\n")
         status, page = self.asks()
         self.assertEqual(status, 200)
         self.assertIn("sheet needs: no row has the head", page)
+
+    def test_a_verb_that_writes_asks_first(self):
+        self.write_plan()
+        for fields, asks in (
+            ("verb=undo", "<h2>Undo?</h2>"),
+            ("verb=page", "<h2>Publish?</h2>"),
+            ("verb=over&corrections=", "<h2>The week is over: Mon 30 Nov to Sun 6 Dec?</h2>"),
+            ("verb=away&nurse=Chen&first=2026-12-04&last=&reason=ill", "<h2>A nurse is away: nurse Chen, day Fri 4 Dec, reason ill?</h2>"),
+        ):
+            with self.subTest(fields):
+                status, page = self.asks("POST", form=fields)
+                self.assertEqual((status, "Yes, write it" in page), (200, True))
+                self.assertIn(asks, page)
+        self.assertEqual([path.name[:4] for path in (self.ward / "plans").glob("0*")], ["0001"])
+        # A look for a swap writes nothing, and its form keeps what was chosen.
+        self.assertEqual(self.asks("POST", form="verb=swap&nurse=Grace&first=2026-12-04")[0], 303)
+        self.jobs.wait()
+        page = self.asks()[1]
+        self.assertIn("who could take Grace&#x27;s Day on Fri 4 Dec", page)
+        self.assertIn('<option value="Grace" selected="">', page)
+        self.assertIn('<option value="2026-12-04" selected="">', page)
+
+    def test_two_browsers(self):
+        self.write_plan()
+        # The first one waits for its answer, while the second one has undone the plan: the plan that it asks for is gone.
+        self.assertEqual(self.asks("POST", form="verb=over&corrections=")[0], 200)
+        self.assertIn("there is no plan any more", self.sends(verb="undo"))
+        self.assertIn("has no plan yet", self.sends(verb="over"))
+        # A verb that another run keeps waiting says so, and a second browser cannot begin one meanwhile.
+        with open(self.ward / "plans" / "lock", "w") as lock:
+            fcntl.flock(lock, fcntl.LOCK_EX)
+            self.asks("POST", form="verb=check&sure=yes")
+            limit = time.monotonic() + 60
+            while "this one waits" not in (page := self.asks()[1]) and time.monotonic() < limit:
+                time.sleep(0.05)
+            self.assertIn("another run works in", page)
+            self.asks("POST", form="verb=undo&sure=yes")
+            fcntl.flock(lock, fcntl.LOCK_UN)
+        self.jobs.wait()
+        self.assertIn("another verb still runs: wait for its end, or stop it", self.asks()[1])
+
+    def test_the_pages_that_are_linked(self):
+        self.write_plan()
+        page = self.asks()[1]
+        for name in ("roster", "wall", "calendars"):
+            self.assertIn(f'href="{self.site.path}{name}"', page)
+        self.assertEqual(self.asks(path=f"{self.site.path}calendars/Chen.ics")[0], 404)
+        self.assertIn("There are none yet", self.asks(path=f"{self.site.path}calendars")[1])
+        self.sends(verb="page")
+        self.assertIn(f'href="{self.site.path}calendars/Chen.ics"', self.asks(path=f"{self.site.path}calendars")[1])
+        status, text = self.asks(path=f"{self.site.path}calendars/Chen.ics")
+        self.assertEqual((status, text.split("\r\n")[0]), (200, "BEGIN:VCALENDAR"))
+        wall = self.asks(path=f"{self.site.path}wall")[1]
+        self.assertEqual((wall.count("<table"), "points" in wall), (1, False))
+        (self.ward / "calendars" / "secret.ics").write_text("")
+        for path in ("calendars/secret.ics", "calendars/../plans/lock", "calendars/%2e%2e/plan.csv", "plan.csv"):
+            self.assertEqual(self.asks(path=f"{self.site.path}{path}")[0], 404)
 
     @unittest.skipUnless(HAS_CBC, "cbc is not installed")
     def test_a_plan_an_absence_and_a_swap(self):
@@ -101,17 +175,18 @@ class Page(FolderTest):
         cells = self.cells()
         nurse, day = next(key for key in sorted(cells) if key[1] > 7)
         page = self.asks(path=f"{self.site.path}?nurse={nurse}&day={day}")[1]
-        offers = re.findall('name="other" value="([A-Za-z]+)"/>?.*? takes it<', page)
+        forms = [form for form in re.findall("<form.*?</form>", page) if form.endswith(" takes it</button></form>")]
+        offers = [re.search('name="other" value="([A-Za-z]+)"', form)[1] for form in forms]
         if offers:
-            self.sends(verb="swap", nurse=nurse, first=f"2026-12-{day - 1:02}", other=offers[0], write_it="yes")
+            self.sends(verb="swap", nurse=nurse, first=DATES[day], other=offers[0], write_it="yes")
             self.assertEqual(self.cells().get((offers[0], day)), cells[nurse, day])
         self.assertIn("holds again", self.sends(verb="undo"))
 
     @unittest.skipUnless(HAS_CBC, "cbc is not installed")
     def test_one_verb_at_a_time_which_can_be_stopped(self):
-        self.asks("POST", form="verb=plan&seconds=600")
+        self.asks("POST", form="verb=plan&seconds=600&sure=yes")
         self.assertIn('http-equiv="refresh"', self.asks()[1])
-        self.asks("POST", form="verb=undo")
+        self.asks("POST", form="verb=undo&sure=yes")
         limit = time.monotonic() + 60
         while " points" not in (page := self.asks()[1]) and time.monotonic() < limit:
             if "penalty" in page:

@@ -13,13 +13,15 @@ import time
 import unittest
 from dataclasses import replace
 
-from ward import HAS_CBC, HELPERS, HelperTest, files, program, run
+from ward import HAS_CBC, HELPERS, ROSTER, HelperTest, files, program, run
 
 from inrc2pb.commands.plan import read_sheet
 from inrc2pb.plans.few_changes import with_few_changes
 from inrc2pb.plans.plan_days import OtherPlan, PlanDays
+from inrc2pb.plans.record import Record
 from inrc2pb.plans.skill_labels import with_old_skills
 from inrc2pb.plans.swaps import Swap, Swaps
+from inrc2pb.plans.ward_folder import WardFolder
 from inrc2pb.plans.ward_plan import first_plan
 from inrc2pb.plans.wording import Wording
 from inrc2pb.sheets.ward_template import EXAMPLE
@@ -107,6 +109,9 @@ class Values(HelperTest):
         asked = [one for one in with_few_changes(scenario, data, old, [4], points=20).requests if one.nurse in ("Chen", "Grace")]
         chen = [Request("Chen", shift, 4) for shift in ("Day", "Night") for _ in range(2)]
         self.assertEqual(asked, [*chen, *[Request("Grace", None, 4)] * 2])
+        # A nurse who has just come may have any shift.
+        asked = with_few_changes(scenario, data, old, [4], points=20, new=["Grace"]).requests
+        self.assertEqual({one.nurse for one in asked}, set(scenario.nurses) - {"Grace"})
 
     def test_a_nurse_who_keeps_her_shift_keeps_her_skill(self):
         scenario = files.read_scenario(HELPERS.parent / "examples" / "ward" / "ward.txt")
@@ -150,6 +155,15 @@ class FolderTest(HelperTest):
         for path, data in FIRST_PLAN.items():
             (self.ward / path).parent.mkdir(parents=True, exist_ok=True)
             (self.ward / path).write_bytes(data)
+
+    def write_plan(self):
+        """Begins with a plan that has the stored roster in both weeks."""
+        rows = files.read_solution(ROSTER).cells
+        plan = replace(first_plan(read_sheet(self.ward, None, ())), rosters={0: rows, 1: rows})
+        (self.ward / "plans").mkdir(exist_ok=True)
+        now = datetime.datetime(2026, 11, 28, 12, 0)
+        WardFolder(self.ward).add("plan", plan.texts(Record("plan", now, plan.days, 0, False)), now)
+        return plan
 
     def last(self):
         """The folder of the plan that holds."""
@@ -241,12 +255,13 @@ class Verbs(FolderTest):
         self.write()
         status, printed, said = run("plan", self.ward, "plan", "--time", "3")
         self.assertEqual(status, 5, said)
-        says = "Lower these by 1 in all; no roster can do with less:\nweek 0: Sat Day Charge: lower 4 to 3\n$"
+        says = "Lower these by 1 in all; no roster can do with less:\nSat 5 Dec Day Charge: lower 4 to 3\n$"
         self.assertRegex(printed, f"^week 0: No roster .* {says}")
         self.assertFalse(list((self.ward / "plans").glob("0*")))
 
     def test_a_nurse_who_comes_and_one_who_leaves(self):
         self.begin()
+        self.does("page")
         self.rows["nurses"].append(["Ida", "Half", "Nurse", *[""] * 8])
         self.rows["plan"].append(["Ida", *["away"] * 7, *[""] * 7])
         self.rows["plan"][4][8:15] = ["away"] * 7
@@ -255,6 +270,8 @@ class Verbs(FolderTest):
         nurses = {nurse for nurse, day in self.cells() if day >= 7}
         self.assertNotIn("Dilek", nurses)
         self.assertFalse({nurse for nurse, day in self.cells() if nurse == "Ida" and day < 7})
+        # She has the shifts of her contract, 8 in 14 days, though each change of the plan on the wall costs points.
+        self.assertGreaterEqual(sum(nurse == "Ida" for nurse, _ in self.cells()), 4)
         self.does("over")
         del self.rows["nurses"][4], self.rows["plan"][4]
         self.write()
@@ -321,7 +338,7 @@ class Verbs(FolderTest):
         nurse = next(nurse for (nurse, on), (shift, _) in sorted(cells.items()) if on == day and shift == "Night")
         status, printed, _ = run("plan", self.ward, "swap", nurse, DATES[day], "Finn", "--do")
         self.assertEqual((status, self.cells()), (6, cells))
-        self.assertRegex(printed, "(?m)^not possible: Finn is away on .*, or never works Night$")
+        self.assertRegex(printed, "^not possible: Finn never works Night\n(not possible: .*\n)?nothing is written\nwho could take ")
 
     def test_the_weeks_and_the_period_are_over(self):
         self.begin()
@@ -367,16 +384,31 @@ class Refused(FolderTest):
         printed = self.does("check")
         self.assertIn("After Late, the next day no Day.\n", printed)
         self.assertIn("Chen would rather be off on Sat.\n", printed)
+        # The kind of each absence, and days away that count as work.
+        words = {"Amara": "ill", "Bruno": "leave", "Dilek": "training", "Ewa": "unpaid", "Grace": "away"}
+        for row in self.rows["plan"][1:]:
+            row[8:10] = [words.get(row[0], "")] * 2
+        self.rows["nurses"][6][4] = "Tue"
+        self.write()
+        printed = self.does("check")
+        says = ("Amara is ill", "Bruno has leave", "Dilek has training", "Ewa has unpaid leave", "Grace is away", "Finn is always off")
+        for line in says:
+            self.assertIn(f"{line} on Mon and Tue.\n" if line[:4] != "Finn" else f"{line} on Tue.\n", printed)
+        self.assertIn("; 3 shifts (3 for days away) and 0 weekends in this period.\n", printed)
         self.assertFalse((self.ward / "plans").exists())
 
     def test_wrong_verbs_and_options(self):
         for says, *words in (
             ("'plna' is no verb: did you mean plan?", "plna"),
+            ("'sick' is no verb: write one of check, plan, ill, back, swap, over, page, undo, serve, away, leave, unpaid, training\n", "sick"),
+            ("a verb is missing after the folder: write one of check, plan, ",),
             ("'Chen' is a word too many: page has none", "page", "Chen"),
             ("--do is for swap: leave it out", "plan", "--do"),
             ("--free is for plan: leave it out", "page", "--free"),
             ("--time has to be a number of seconds above 0", "plan", "--time", "0"),
-            ("has no plan yet: type inrc2pb-plan FOLDER plan", "swap", "Chen", "Fri"),
+            ("--port 70000: give a number from 1024 to 65535", "serve", "--port", "70000"),
+            ("--port 0: Cannot assign requested address: give the name of this machine, and a free port", "serve", "--host", "203.0.113.1"),
+            (f"has no plan yet: type inrc2pb-plan '{self.ward}' plan", "swap", "Chen", "Fri"),
             ("has no plan yet", "page"),
             ("there is nothing to undo", "undo"),
             ("'soon' is no day: ", "plan", "soon"),
@@ -392,6 +424,11 @@ class Refused(FolderTest):
         status, _, said = run("plan", self.ward, "check")
         self.assertEqual(status, 1)
         self.assertRegex(said, "row 3, column E: Late: '' has no times: .*\n.*row 4, column E: Night: 25:00 is no time of a day")
+
+    def test_a_folder_without_quotes(self):
+        first, last = str(self.ward).split(" ")
+        says = f"inrc2pb-plan: write the folder in quotes: inrc2pb-plan '{self.ward}' plan\n"
+        self.assertEqual(run("plan", first, last, "plan"), (1, "", says))
 
     def test_folders_that_are_no_ward(self):
         empty, missing = self.folder / "empty", self.folder / "missing"

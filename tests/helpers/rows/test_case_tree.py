@@ -4,20 +4,18 @@ import itertools
 import random
 import unittest
 from array import array
-from unittest import mock
+from pathlib import Path
 
 import certificate_bound as plain
-from test_cases import FILES
 from test_certificates import period_of
 from test_row_search import week_of
 from test_rows import random_plan
-from ward import HAS_CBC, HelperTest, files
+from ward import HAS_CBC, HelperTest, files, program
 
 from inrc2pb.programs.clock import Clock, TimeIsOver
 from inrc2pb.programs.processes import Processes
-from inrc2pb.rows import row_run
 from inrc2pb.rows.case_pricing import CasePricing
-from inrc2pb.rows.case_program import CaseProgram
+from inrc2pb.rows.case_program import SOLUTION_STEPS, CaseProgram
 from inrc2pb.rows.case_tree import CaseTree
 from inrc2pb.rows.plan import Plan
 from inrc2pb.rows.pricing import Crews
@@ -26,19 +24,22 @@ from inrc2pb.rows.row_run import RowRun
 from inrc2pb.rows.skills import staffed
 from inrc2pb.solvers.answers import SolverFault
 from inrc2pb.solvers.linear_solvers import LinearSolvers
-from inrc2pb.solvers.resident_program import OPTIMAL, LinearProgram, Solution
+from inrc2pb.solvers.resident_program import OPTIMAL, STOPPED, LinearProgram, Solution
 
 FEW = 10**6
+# A week of six nurses whose prices prove 130; the best roster costs 135.
+HOME = Path(__file__).resolve().parents[1] / "data" / "cases"
+FILES = program.WeekFiles(HOME / "ward.txt", HOME / "history.txt", HOME / "week.txt")
 
 
 def optimum(pricing):
     """The penalty of the best roster of a tiny plan, by all pairs of rows; None if there is none."""
-    of = []
+    rows_of_nurses = []
     for nurse in range(len(pricing.plan.nurses)):
         rows = map(bytes, itertools.product(range(len(pricing.shifts) + 1), repeat=pricing.plan.days))
-        of.append([priced for priced in (pricing.counted(nurse, row) for row in rows) if priced])
+        rows_of_nurses.append([priced for priced in (pricing.counted(nurse, row) for row in rows) if priced])
     best = None
-    for one in itertools.product(*of):
+    for one in itertools.product(*rows_of_nurses):
         cost = sum(priced.cost for priced in one)
         if best is None or cost < best:
             found = staffed(pricing.plan, pricing.crews, [priced.row for priced in one])
@@ -91,7 +92,7 @@ class Trees(HelperTest):
             if best is None:
                 continue
             self.penalty = best + 5 * (seed % 3)
-            tree.run(Clock(60.0))
+            tree.run(Clock(600.0))
             self.assertLessEqual(tree.bound, best, seed)
             certificate = tree.certificate()
             self.assertEqual(plain.bound(period_of(plan), certificate.text("x")), tree.bound, seed)
@@ -103,9 +104,9 @@ class Trees(HelperTest):
     def test_a_week_that_prices_alone_do_not_prove(self):
         week = files.read_files(FILES.scenario, FILES.history, FILES.week)
         tree = self.tree(Plan.of(week.scenario, week.history, [week.data]), 140)
-        tree.run(Clock(60.0))
+        tree.run(Clock(600.0))
         leaves = tree.certificate().leaves()
-        self.assertEqual((tree.bound, self.penalty, tree.bound_of(tree.certificate())), (135, 135, 135))
+        self.assertEqual((tree.bound, self.penalty, self.pricing.bound_of(tree.certificate())), (135, 135, 135))
         # No case proves the bound for one that it is a part of, so each is needed.
         self.assertTrue(all(self.pricing.bound(case[:-1], leaf) < 135 for case, leaf in leaves))
         self.assertTrue(1 < len(leaves) < 10)
@@ -136,39 +137,61 @@ class Trees(HelperTest):
             with self.assertRaises(TimeIsOver):
                 tree.run(Clock(0.0))
         self.assertLessEqual(tree.bound, 435)
-        tree.run(Clock(60.0))
+        tree.run(Clock(600.0))
         self.assertEqual(tree.bound, 435)
+
+
+class Stopped(LinearProgram):
+    """A program whose solver is stopped after its most steps, each time."""
+
+    def __init__(self, solver):
+        super().__init__(None, solver.relax)
+        self.asked = []
+
+    def solve(self, clock, how="", iterations=0, whole=True):
+        self.asked.append(iterations)
+        found = super().solve(clock, how, iterations, whole)
+        return found._replace(status=STOPPED)
 
 
 @unittest.skipUnless(HAS_CBC and numpy is not None, "needs cbc and NumPy")
 class Runs(HelperTest):
-    def run_rows(self, proves):
-        """A search over the rows of a week that prices alone do not prove."""
-        week = files.read_files(FILES.scenario, FILES.history, FILES.week)
-        plan = Plan.of(week.scenario, week.history, [week.data])
+    def solver(self):
         solver = LinearSolvers(["cbc"], Processes(), self.folder, lambda fault: None, resident=True)
         self.addCleanup(solver.close)
+        return solver
+
+    def run_rows(self, **options):
+        """A search over the rows of a week that prices alone do not prove."""
+        week = files.read_files(FILES.scenario, FILES.history, FILES.week)
+        plan, bounds = Plan.of(week.scenario, week.history, [week.data]), []
         offer = lambda rows, finder: run.search.value_of(rows) if run.search else None  # noqa: E731
-        run = RowRun(plan, solver, Clock(60.0), offer, lambda: None, proves=proves)
+        run = RowRun(plan, self.solver(), Clock(600.0), offer, lambda: bounds.append(run.lower_bound), **options)
         run.run()
+        self.assertEqual(bounds, sorted(bounds))
         return run
 
-    def test_a_tree_claims_and_its_certificate_is_proved(self):
-        asked = []
-        run = self.run_rows(lambda: asked.append(1) or True)
-        self.assertRegex(run.claim, "^Python, by [2-9] cases$")
-        self.assertEqual((asked, run.cases, run.search.penalty), ([1], None, 135))
-        self.assertGreater(len(run.certificate.leaves()), 1)
+    def test_a_tree_proves_the_best_roster(self):
+        run = self.run_rows()
+        self.assertEqual((run.search.penalty, run.search.lower_bound, run.lower_bound, run.claim), (135, 130, 135, ""))
+        certificate = run.certificate()
+        self.assertGreater(len(certificate.leaves()), 1)
+        self.assertEqual(CasePricing(run.plan, run.crews, lambda: None).bound_of(certificate), 135)
 
-    def test_without_its_proof_days_off_are_tried(self):
-        with mock.patch.object(row_run, "CASES_SECONDS", 60.0):
-            run = self.run_rows(lambda: False)
-        self.assertRegex(run.claim, "^Python, by [2-9] cases$")
-        self.assertIsNotNone(run.cases)
+    def test_without_splits_the_certificate_is_one_leaf(self):
+        run = self.run_rows(splits=False)
+        self.assertEqual((run.search.penalty, run.lower_bound, run.claim), (135, 130, "cbc, over the rows that Python lists"))
+        [(case, leaf)] = run.certificate().leaves()
+        self.assertEqual((case, leaf.prices), ((), run.search.prices))
 
-    def test_without_a_program_there_is_no_tree(self):
-        run = self.run_rows(None)
-        self.assertEqual((run.claim, run.certificate), ("cbc, over the rows that Python lists", None))
+    def test_a_solver_that_is_stopped_each_time_proves_nothing_wrong(self):
+        week = files.read_files(FILES.scenario, FILES.history, FILES.week)
+        plan = Plan.of(week.scenario, week.history, [week.data])
+        pricing, program = CasePricing(plan, Crews(plan), lambda: None), Stopped(self.solver())
+        tree = CaseTree(pricing, CaseProgram(pricing, program), [0] * len(plan.demand), lambda: 135, lambda rows: None)
+        tree.run(Clock(600.0))
+        self.assertEqual(tree.bound, 135)
+        self.assertTrue(all(0 < limit <= SOLUTION_STEPS for limit in program.asked))
 
 
 if __name__ == "__main__":

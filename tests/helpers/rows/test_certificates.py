@@ -72,7 +72,7 @@ class AllPlans:
     def sample(self, chance, number):
         """Some plans with their skills, which keep the minimums: choices, charges, nurses at places, and penalty."""
         for _ in range(number):
-            rows = [chance.choice(of) for of in self.of]
+            rows = [chance.choice(own) for own in self.of]
             there, penalty = {}, sum(row[1] for row in rows)
             for nurse, (days, *_) in zip(self.plan.nurses, rows):
                 for day, shift in enumerate(days):
@@ -80,8 +80,8 @@ class AllPlans:
                         place = Place(day, shift, chance.choice(self.plan.scenario.nurses[nurse].skills))
                         there[place] = there.get(place, 0) + 1
             asked = self.plan.demand.items()
-            if all(there.get(place, 0) >= of.minimum for place, of in asked):
-                penalty += sum(30 * max(0, of.optimal - there.get(place, 0)) for place, of in asked)
+            if all(there.get(place, 0) >= one.minimum for place, one in asked):
+                penalty += sum(30 * max(0, one.optimal - there.get(place, 0)) for place, one in asked)
                 yield rows, there, penalty
 
     def holds(self, fact, rows, there):

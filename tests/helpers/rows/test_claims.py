@@ -33,7 +33,7 @@ def values_of(pricing, nurse, prices):
         cost = pricing.cost(nurse, row)
         if cost is not None:
             there = [[(day, shifts[choice - 1], skill) for skill in skills] for day, choice in enumerate(row) if choice]
-            earned = sum(max([prices[places.index(place)] for place in of if place in places], default=0) for of in there)
+            earned = sum(max([prices[places.index(place)] for place in day if place in places], default=0) for day in there)
             found[row] = cost * POINT - earned
     return found
 
@@ -47,7 +47,7 @@ class Listed(unittest.TestCase):
             pricing = pricing_of(plan)
             prices = [chance.choice([0, 5, 10, 30, 45]) * POINT for _ in plan.demand]
             values = [values_of(pricing, nurse, prices) for nurse in range(2)]
-            bound = sum(min(of.values()) for of in values)
+            bound = sum(min(own.values()) for own in values)
             for asked, price in zip(plan.demand.values(), prices):
                 bound += price * asked.minimum + min(price, 30 * POINT) * (asked.optimal - asked.minimum)
             search = search_of(pricing)
@@ -59,7 +59,7 @@ class Listed(unittest.TestCase):
             for steps in (1, 4, 9):
                 search.penalty = STEP * (search.bound // (STEP * POINT) + steps)
                 gap = (search.penalty - STEP) * POINT - search.bound
-                wanted = {(nurse, row) for nurse, of in enumerate(values) for row, value in of.items() if value <= min(of.values()) + gap}
+                wanted = {(nurse, row) for nurse, own in enumerate(values) for row, value in own.items() if value <= min(own.values()) + gap}
                 found = search.list_within(10**6, search.clock)
                 columns = [search.program.columns[number] for number in found]
                 self.assertEqual({(column.nurse, column.row) for column in columns}, wanted)
@@ -70,13 +70,13 @@ class Listed(unittest.TestCase):
 
     def test_known_rows_that_a_better_roster_can_have(self):
         for search, values in self.searches:
-            for nurse, of in enumerate(values):
-                for row in list(of)[::2]:
+            for nurse, own in enumerate(values):
+                for row in list(own)[::2]:
                     search.add_row(nurse, row)
             search.penalty = STEP * (search.bound // (STEP * POINT) + 6)
             gap = (search.penalty - STEP) * POINT - search.bound
             columns = enumerate(search.program.columns)
-            wanted = [number for number, of in columns if values[of.nurse][of.row] <= min(values[of.nurse].values()) + gap]
+            wanted = [number for number, one in columns if values[one.nurse][one.row] <= min(values[one.nurse].values()) + gap]
             self.assertEqual(search.known_within(), wanted)
             search.penalty = None
             self.assertEqual(search.known_within(), list(range(len(search.program.columns))))

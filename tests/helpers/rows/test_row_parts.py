@@ -3,21 +3,26 @@
 import itertools
 import random
 import unittest
+from unittest import mock
 
-from ward import ROOT, files
+from ward import HAS_CBC, ROOT, HelperTest, files
 
-from inrc2pb.programs.clock import Clock
+from inrc2pb.programs.clock import Clock, TimeIsOver
+from inrc2pb.programs.processes import Processes
 from inrc2pb.rows.first_rows import matched_rows
 from inrc2pb.rows.plan import POINT, Plan
 from inrc2pb.rows.pricing import Crews, Pricing
 from inrc2pb.rows.row_parts import Part, RowParts, _with
 from inrc2pb.rows.row_search import RowSearch
+from inrc2pb.solvers.linear_solvers import LinearSolvers
 
 MONTH = ROOT / "examples" / "month"
 SCENARIO = files.read_scenario(MONTH / "ward.txt")
 HISTORY = files.read_history(MONTH / "history-0.txt", SCENARIO)
 WEEKS = [files.read_week(MONTH / f"week-{number}.txt", SCENARIO) for number in range(2)]
 CHOICES = range(len(SCENARIO.shift_types) + 1)
+# Seconds that are enough on each machine: a dive in a short time is another one.
+LONG = 1e6
 OFF, EARLY = (bytes([choice] * 7) for choice in (0, 1))
 
 
@@ -121,6 +126,67 @@ class NextParts(unittest.TestCase):
             parts._sizes[7] = 20.0
             parts._learn(Part((0, 1), range(7)), ended, work, False)
             self.assertAlmostEqual(parts._sizes[7], size)
+
+
+@unittest.skipUnless(HAS_CBC, "needs cbc")
+class Dives(HelperTest):
+    def setUp(self):
+        super().setUp()
+        self.solver = LinearSolvers(["cbc"], Processes(), self.folder, self.fail, resident=True)
+        self.addCleanup(self.solver.close)
+
+    def generated(self):
+        """A search over two weeks of the month that knows all rows of its linear program."""
+        plan = Plan.of(SCENARIO, HISTORY, WEEKS)
+        pricing = Pricing(plan, Crews(plan), lambda: None)
+        search = RowSearch(pricing, self.solver, Clock(LONG), lambda rows, _finder: search.value_of(rows), lambda: None)
+        search.generate(search.clock)
+        return search
+
+    def test_dives_end_near_the_bound_and_the_same_chance_at_the_same_roster(self):
+        search = self.generated()
+        lower, value = search.lower_bound, search.solved.value
+        for share, seed in ((0.06, None), (0.12, 3)):
+            rows = search.dive(search.clock, share, seed and random.Random(seed))
+            # A linear program that is not held back by any rows again has its value.
+            self.assertLessEqual(search.program.solve(search.clock).value, value + 1e-6)
+            self.assertLessEqual(lower, search.value_of(rows))
+            self.assertLess(search.value_of(rows), lower + 100)
+        one, other = (self.generated().dive(Clock(LONG), 0.12, random.Random(5)) for _ in range(2))
+        self.assertEqual(one, other)
+
+    def test_a_dive_that_cannot_be_better_has_no_rows(self):
+        search = self.generated()
+        search.penalty = search.lower_bound
+        self.assertIsNone(search.dive(search.clock, 0.5))
+
+    def test_parts_dive_in_a_period_and_if_the_gap_is_wide(self):
+        search = self.generated()
+        search.begin(matched_rows(search.plan, search.pricing.crews, lambda: None), None)
+        before, parts = search.penalty, RowParts(search, [self.solver])
+        parts._dive(self.solver, search.clock, 0.12)
+        self.assertLess(search.penalty, before)
+        self.assertGreater(parts._dived, 0)
+        self.assertTrue(parts._dives)
+        week = search_of(1)
+        week.bound, parts = (week.penalty - 5) * POINT, RowParts(week, [])
+        self.assertFalse(parts._dives)
+        week.bound -= 31 * POINT
+        self.assertTrue(parts._dives)
+
+    def test_a_solver_has_the_steps_that_are_left(self):
+        search = self.generated()
+        program = search.program
+        asked, program.most_iterations = [], program.iterations + 3
+        solve = program._program.solve
+        with mock.patch.object(program._program, "solve", lambda *words: asked.append(words[2]) or solve(*words)):
+            search.program.hold(next(iter(search.solved.shares)))
+            for _ in range(2):
+                try:
+                    program.solve(search.clock, dual=True)
+                except TimeIsOver:
+                    pass
+        self.assertTrue(asked and all(0 < limit <= 3 for limit in asked), asked)
 
 
 if __name__ == "__main__":

@@ -96,7 +96,8 @@ class RowSearches(HelperTest):
     def test_prices_prove_that_no_roster_exists(self):
         run = self.run_rows(week_of("eight"))
         self.assertEqual((run.search.penalty, self.penalties), (None, []))
-        places, prices = run.minimums
+        places, [(_, leaf)] = run.minimums.places, run.minimums.leaves()
+        prices = leaf.prices
         self.assertEqual(len(places), len(prices))
         # Two head nurses cannot be at three places on two days, with a rest after the night.
         self.assertEqual({place.skill for place, price in zip(places, prices) if price}, {"HeadNurse"})

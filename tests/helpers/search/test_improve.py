@@ -44,24 +44,14 @@ class Searches(HelperTest):
 
     @unittest.skipUnless(HAS_CBC, "needs cbc")
     def test_a_small_week_is_proved(self):
-        prices = self.folder / "prices.txt"
-        status, report, progress = run("improve", *WEEK_OPTIONS, "--sol", self.target, "--prices", prices)
+        proof = self.folder / "certificate.txt"
+        status, report, progress = run("improve", *WEEK_OPTIONS, "--sol", self.target, "--proof", proof)
         self.assertEqual(status, 0)
         self.assertIn("status OPTIMUM FOUND\nobjective 20\npenalty 20\n", report)
         self.assertRegex(report, f"\nlower bound 20 \(({PROVER}|{PLAIN})\\)\nno roster costs less(, proved)?\n$")
         self.assertIn("penalty 20", progress)
         self.assertEqual(program.penalty_of(WEEK_FILES, self.target), 20)
-        self.assertTrue(prices.read_text().startswith("PRICES\nward\n\nROWS = "))
-
-    def test_the_file_of_prices_has_those_of_the_best_bound(self):
-        week, target = files.read_files(SCENARIO, HISTORY, WEEK), self.folder / "prices.txt"
-        plan = Plan.of(week.scenario, week.history, [week.data])
-        with mock.patch.object(bounds, "find_prover", lambda name: None):
-            found = bounds.Bounds(WEEK_FILES, 0, plan.scenario, list(plan.demand), target, self.fail)
-        for price, points in ((7, 20), (8, 10)):
-            self.assertEqual(found.of([price] * len(plan.demand), lambda: points).points, 20)
-        self.assertIn(" 7 7 ", target.read_text())
-        self.assertNotIn(" 8 8 ", target.read_text())
+        self.assertTrue(proof.read_text().startswith("CERTIFICATE ward\nWEEKS = 1\nPRICES = 1\nROWS = "))
 
     @unittest.skipUnless(HAS_CBC, "needs cbc")
     def test_it_finds_the_best_roster_from_a_worse_one(self):
@@ -114,29 +104,13 @@ class Searches(HelperTest):
         self.assertIn(f"penalty {program.penalty_of(held, self.target)}\n", report)
         self.assertIn("no roster costs less", report)
 
-    def test_a_bound_is_that_of_the_program_if_it_is_there(self):
-        self.script("inrc2pb", f'exec {program.find_program()} "$@"\n')
-        prover = self.folder / "inrc2pb-bound"
-        for bound, says in ((15, "lower bound 15 (inrc2pb-bound): the gap is 5, 25.0 %"), (20, "lower bound 20 (inrc2pb-bound)\nno roster costs less, proved")):
-            self.script(prover.name, f"echo lower bound {bound}\n")
-            ran = run("improve", *WEEK_OPTIONS, "--sol", self.target, "--time", 20, environment={"INRC2PB": str(self.folder / "inrc2pb")})
-            self.assertTrue(ran[1].endswith(f"{says}\n"), ran)
-        self.script(prover.name, "echo lower bound 25\n")
-        ran = run("improve", *WEEK_OPTIONS, "--sol", self.target, "--time", 20, environment={"INRC2PB": str(self.folder / "inrc2pb")})
-        self.assertTrue(ran[1].endswith("\nno lower bound\n"), ran)
-        self.assertEqual(ran[2].count("the lower bound 25 (inrc2pb-bound) is above the penalty of a roster: it is wrong\n"), 1)
-        self.script(prover.name, "echo inrc2pb-bound: out of memory >&2\nexit 4\n")
-        ran = run("improve", *WEEK_OPTIONS, "--sol", self.target, environment={"INRC2PB": str(self.folder / "inrc2pb")})
-        self.assertIn(f"\nlower bound 20 ({PLAIN})\nno roster costs less\n", ran[1])
-        self.assertEqual(ran[2].count(f"{PROVER} failed, so bounds are computed in {PLAIN}: inrc2pb-bound: out of memory\n"), 1)
-
 
 class WrongNumbers(HelperTest):
     @unittest.skipUnless(HAS_CBC, "needs cbc")
     def test_a_wrong_bound_of_plain_python_is_no_bound(self):
         target, cost = self.folder / "roster.txt", Pricing.places_cost
         too_much = mock.patch.object(Pricing, "places_cost", lambda pricing, prices: cost(pricing, prices) + 200_000)
-        with too_much, mock.patch.object(bounds, "find_prover", lambda name: None):
+        with too_much, mock.patch.object(bounds, "find_prover", lambda: None):
             found = search(WEEK_FILES, target, None, 120.0, None, None, Progress(None))
         self.assertIsInstance(found.fault, WrongBound)
         self.assertEqual((found.lines(), found.proved, found.claimed_by), (["no lower bound"], False, ""))
@@ -145,13 +119,17 @@ class WrongNumbers(HelperTest):
 
 class Lines(unittest.TestCase):
     def test_a_claim_and_a_broken_absence(self):
-        for penalty, broken, says in (
-            (20, [], "no roster costs less, says cbc; without that only the lower bound is known"), (15, [], "no roster costs less, proved"),
-            (15, ["a row"], "no roster costs less, but this one breaks an absence"),
+        for penalty, bound, broken, lines in (
+            (20, Bound(15, PROVER), [], ["", "no roster costs less, says cbc; without that only the lower bound is known"]),
+            (15, Bound(15, PROVER), [], ["", "no roster costs less, proved"]), (15, Bound(15, PLAIN), [], ["", "no roster costs less"]),
+            (15, Bound(15, "cbc"), [], ["", "no roster costs less, says cbc"]),
+            (15, Bound(15, PROVER), ["a row"], ["", "no roster costs less, but this one breaks an absence"]),
+            (15, Bound(15, PROVER, "limits"), [], [" with all limits", "no roster that keeps all limits costs less, proved"]),
         ):  # fmt: skip
-            found = SimpleNamespace(bound=Bound(15, PROVER), claimed_by="cbc", kept_bound=0)
+            found = SimpleNamespace(bound=bound, claimed_by="cbc")
             best = SimpleNamespace(breaks=lambda broken=broken: broken, exceeds=list, proved=True)
-            self.assertEqual(SearchResult(SimpleNamespace(penalty=penalty), found, best, False, None).lines(), ["lower bound 15 (inrc2pb-bound)", says])
+            result = SearchResult(SimpleNamespace(penalty=penalty), found, best, False, None)
+            self.assertEqual(result.lines(), [f"lower bound 15{lines[0]} ({bound.by})", lines[1]])
 
 
 class BadInput(HelperTest):
@@ -170,7 +148,7 @@ class BadInput(HelperTest):
         self.assert_refused(3, "no_folder", *WEEK_OPTIONS, "--sol", self.folder / "no_folder" / "best.txt")
         kept = shutil.copy(ROSTER, self.folder / "kept.txt")
         self.assert_refused(1, f"{kept} is read, so the roster cannot be written to it", *WEEK_OPTIONS, "--sol", kept, "--fix", kept)
-        self.assert_refused(1, "gets the roster, so the prices cannot be written to it", *WEEK_OPTIONS, *target, "--prices", self.folder / "best.txt")
+        self.assert_refused(1, "gets the roster, so the certificate cannot be written to it", *WEEK_OPTIONS, *target, "--proof", self.folder / "best.txt")
         says = "no roster was found, and no proof that none exists: try --solver clasp"
         self.assert_refused(5, says, *WEEK_OPTIONS, *target, "--solver", "sh -c 'echo s UNKNOWN'")
         for seconds in ("nan", "inf", 0, "1e12"):

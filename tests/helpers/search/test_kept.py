@@ -47,7 +47,7 @@ class Rows(unittest.TestCase):
         ):  # fmt: skip
             week = ann(past, absences=[Absence("Ann", day, shift) for day, shift in away])
             plan = Plan.of(week.scenario, week.history, [week.data])
-            pricing, free = (Pricing(of, Crews(of), lambda: None) for of in (plan, plan.kept(FREE)))
+            pricing, free = (Pricing(one, Crews(one), lambda: None) for one in (plan, plan.kept(FREE)))
             for row in itertools.product((0, 1, 2), repeat=7):
                 shifts = [(None, "Day", "Night")[choice] for choice in row]
                 may = free.cost(0, bytes(row)) is not None
@@ -62,7 +62,7 @@ class Rows(unittest.TestCase):
         plan = Plan.of(week.scenario, week.history, [week.data])
         # Monday to Thursday and Sunday: one absence, one day above 3 in a row, 9 shifts of 6, and 2 weekends of 1.
         row = bytes((1, 1, 1, 1, 0, 0, 1))
-        costs = [Pricing(of, Crews(of), lambda: None).cost(0, row) for of in map(plan.kept, (STRICT, ABSENCES_KEPT, FEW_BROKEN, FREE))]
+        costs = [Pricing(one, Crews(one), lambda: None).cost(0, row) for one in map(plan.kept, (STRICT, ABSENCES_KEPT, FEW_BROKEN, FREE))]
         self.assertEqual(costs, [None, None, costs[3] + 3000 + 600 * (1 + 3 + 1), 30 + 3 * 20 + 30])
 
     def test_before_the_last_week_totals_hold_too(self):
@@ -159,7 +159,7 @@ class Commands(HelperTest):
         self.assertIn(f"above a limit that holds: {says}", table)
         self.assertIn("# = on duty while away", table)
         self.assertIn(f"above a limit that holds: {says}", run("table", *words, "--why", ROSTER)[1])
-        self.assertIn("Dilek: the most shifts hold.", run("check", *words, "--tell")[1])
+        self.assertIn("Dilek: never more than 3 shifts.", run("check", *words, "--tell")[1])
 
     def test_the_reason_of_an_absence_is_shown(self):
         off = next((nurse, day) for nurse in WARD.nurses for day in range(7) if (nurse, day) not in {(cell.nurse, cell.day) for cell in self.rows})
@@ -199,7 +199,7 @@ class Commands(HelperTest):
         status, _, said = run("improve", *WEEK_OPTIONS, *given, "--sol", target, "--time", 20)
         self.assertEqual(status, 0, said)
         self.assertIn("no roster was found that keeps every limit: Ewa has 6 days of work in a row, Mon to Sat, of at most 3\n", said)
-        self.assertIn("lower minimum numbers, hold fewer shifts, or allow these nurses more; with these skills shifts are left for ", said)
+        self.assertIn("lower minimum numbers, hold fewer shifts, or allow these nurses more; nobody with these skills has shifts left", said)
         self.assertFalse([cell for cell in files.read_solution(target).cells if cell.nurse in ("Amara", "Bruno") and cell.day < 6])
         period = self.folder / "period"
         status, printed, said = run("period", *WEEK_OPTIONS, "--week", WEEK, *given, "--out", period, "--time", 8)

@@ -17,7 +17,9 @@ from inrc2pb.week.faults import FileFault
 from inrc2pb.sheets.plan_sheets import read_days
 from inrc2pb.week.records import DAYS
 from inrc2pb.sheets.sheet_files import Book, read_book
+from inrc2pb.sheets.sheet_looks import look_warnings
 from inrc2pb.sheets.sheet_rows import letters_of
+from inrc2pb.sheets.ward_template import write_template
 
 MONDAY = datetime.date(2026, 11, 30)
 
@@ -137,6 +139,60 @@ class Formats(HelperTest):
             with self.subTest(name), self.assertRaises(FileFault) as caught:
                 read_book(path)
             self.assertEqual(str(caught.exception), f"{path}: {said}")
+
+    def in_parts(self, path, **changes):
+        """The spreadsheet with changed parts, each given as an old text and a new one, or as a new part."""
+        with zipfile.ZipFile(path) as archive:
+            parts = {name: archive.read(name).decode() for name in archive.namelist() if name.endswith(".xml") or name.endswith(".rels")}
+        for name, change in changes.items():
+            part = next((one for one in parts if one.endswith(f"{name}.xml")), f"xl/{name}.xml")
+            if isinstance(change, str):
+                parts[part] = change
+            for old, new in () if isinstance(change, str) else change:
+                self.assertEqual(parts[part].count(old), 1, old)
+                parts[part] = parts[part].replace(old, new)
+        target = self.folder / f"looks{path.suffix}"
+        with zipfile.ZipFile(target, "w") as archive:
+            for name, text in parts.items():
+                archive.writestr(name, text)
+        return target
+
+    def test_words_that_only_a_look_says(self):
+        path = self.folder / "book.xlsx"
+        excel(path, SHEETS)
+        # Formats 1 to 3: text struck through, a color, and a pattern that is none. All nurses have a color on the first day, for the eye.
+        styles = (
+            '<styleSheet xmlns="http://schemas.openxmlformats.org/spreadsheetml/2006/main"><fonts><font/><font><strike/></font></fonts>'
+            '<fills><fill><patternFill patternType="gray125"/></fill><fill><patternFill patternType="solid"/></fill></fills>'
+            '<cellXfs><xf fontId="0" fillId="0"/><xf fontId="1" fillId="0"/><xf fontId="0" fillId="1"/></cellXfs></styleSheet>'
+        )
+        plan = [('<c r="G4" t=', '<c r="G4" s="1" t='), ('<row r="3">', '<row r="3"><c r="B3" s="2"/><c r="D3" s="2"/><c r="E3" s="0"/>')]
+        plan += [(f'<row r="{row}">', f'<row r="{row}"><c r="B{row}" s="2"/>') for row in (2, 4, 5, 6)]
+        looks = self.in_parts(path, styles=styles, sheet5=plan)
+        book = read_book(looks)
+        self.assertEqual(list(look_warnings(book, read_days(book))), [
+            "sheet plan, row 4, column G: 'wish' is struck through, and counts: delete it",
+            "sheet plan, row 3, column D: a color without a word counts for nothing: write leave or wish, for example",
+        ])  # fmt: skip
+        self.assertEqual(list(look_warnings(read_book(path), read_days(book))), [])
+
+    def test_looks_of_an_ods_file(self):
+        path = self.folder / "ward.ods"
+        write_template(path)
+        style = (
+            '<office:automatic-styles><style:style style:name="old"><style:text-properties style:text-line-through-style="solid"/></style:style>'
+            '<style:style style:name="red"><style:table-cell-properties fo:background-color="#ff0000"/></style:style></office:automatic-styles>'
+        )
+        spaces = "".join(f' xmlns:{name}="urn:oasis:names:tc:opendocument:xmlns:{space}:1.0"' for name, space in (("style", "style"), ("fo", "xsl-fo-compatible")))
+        content = [("<office:document-content", f"<office:document-content{spaces}"), ("<office:body>", f"{style}<office:body>")]
+        content += [("<text:p>training</text:p>", '<text:p><text:span text:style-name="old">training</text:span></text:p>')]
+        content += [("<text:p>Grace</text:p></table:table-cell><table:table-cell/>",
+                     '<text:p>Grace</text:p></table:table-cell><table:table-cell table:style-name="red"/>')]  # fmt: skip
+        book = read_book(self.in_parts(path, content=content))
+        self.assertEqual(list(look_warnings(book, read_days(book))), [
+            "sheet plan, row 7, column Z: 'training' is struck through, and counts: delete it",
+            "sheet plan, row 8, column B: a color without a word counts for nothing: write leave or wish, for example",
+        ])  # fmt: skip
 
     def test_odd_files_of_each_kind(self):
         paths = sorted(path for path in (DATA / "odd").iterdir() if path.suffix != ".csv")

@@ -13,10 +13,11 @@ from ward import HelperTest, files, run
 from inrc2pb.commands import ward
 from inrc2pb.judging.absences import absences_of
 from inrc2pb.judging.given import with_given
+from inrc2pb.judging.rules import charges
 from inrc2pb.week.facts import Charged, Claim, read_facts
 from inrc2pb.week.faults import FileFault, FileFaults
 from inrc2pb.sheets.plan_sheets import read_days
-from inrc2pb.week.records import Absence, Place, Requirement
+from inrc2pb.week.records import Absence, Place, Requirement, Week
 from inrc2pb.sheets.sheet_files import Book
 
 NAMES = ["ward.txt", "history-0.txt", "facts.txt", "reasons.txt", "week-0.txt", "fix-0.txt", "week-1.txt", "fix-1.txt"]
@@ -49,6 +50,40 @@ class Contents(unittest.TestCase):
         # Full asks for 8 shifts in 14 days: two days are 1.1 shifts.
         for reasons, shifts in (((), 0), (("ill",), 0), (("leave",), 2)):
             self.assertEqual(self.read(SHEETS, reasons)[1].nurses["Amara_Koch"].assignments, shifts)
+
+    def test_a_contract_counts_in_proportion_to_the_days_of_a_nurse(self):
+        sheets = copy.deepcopy(SHEETS)
+        sheets["contracts"][1][2] = "11!"
+        # Bruno leaves after a week and a day; Finn, whose contract has no limit, is on unpaid leave on a day.
+        sheets["plan"][2][9:] = ["away"] * 6
+        sheets["contracts"][2][2] = ""
+        sheets["plan"][6][1] = "unpaid"
+        scenario, _, weeks, _ = self.read(sheets)
+        bruno, finn = (scenario.contract_of(nurse) for nurse in ("Bruno", "Finn"))
+        # 8 of 14 days: of 8 to 11 shifts these are 4.6 to 6.3; 13 of 14: of 4 shifts 3.7.
+        self.assertEqual((bruno.name, bruno.assignments), ("Full_8_of_14_days_any_days_off", (4, 7)))
+        self.assertEqual((finn.name, finn.assignments, finn.days_off), ("Half_13_of_14_days", (3, 9999), (2, 5)))
+        self.assertEqual((bruno.working_days, bruno.max_weekends), ((3, 5), 1))
+        # Her limit holds like the limits of the others, who keep their contract.
+        self.assertIn(("Bruno", "SHIFTS", 0), weeks[0].limits)
+        self.assertEqual(scenario.contract_of("Chen"), scenario.contracts["Full"])
+
+    def test_leave_is_not_charged_as_days_off_in_a_row(self):
+        sheets = copy.deepcopy(SHEETS)
+        for words, days_off in (
+            # Full has at most 3 days off in a row, and Grace was off on Saturday and Sunday.
+            (["leave"], (2, 3)),
+            (["leave", "leave"], (2, 9999)),
+            (["", "ill", "leave", "training"], (2, 3)),
+            (["", "ill", "leave", "training", "leave"], (2, 9999)),
+            (["", "leave", "leave", "", "leave", "leave"], (2, 3)),
+        ):
+            with self.subTest(words):
+                sheets["plan"][7] = ["Grace", *words, *[""] * (14 - len(words))]
+                scenario, history, weeks, _ = self.read(sheets, ("ill", "leave", "training"))
+                self.assertEqual(scenario.contract_of("Grace").days_off, days_off)
+                off = [charge for charge in charges(Week(scenario, history, weeks[0]), ()) if (charge.nurse, charge.rule) == ("Grace", "S3")]
+                self.assertEqual(bool(off), days_off == (2, 3))
 
     def test_empty_limits_are_none(self):
         sheets = copy.deepcopy(SHEETS)
@@ -87,12 +122,12 @@ class Contents(unittest.TestCase):
               for text in ("W", "Monday and Tue", "Mon Tue", "Mon-Wed", "Mon+Tue", "Sunrise")),
             ("needs", 1, 3, "Mo", "row 1, column D: 'Mo' is no column of this sheet: did you mean 'mon'?"),
             ("needs", 2, 3, "46083", "row 2, column D: 46083 is more than 9999: a spreadsheet makes such a number of 2-3 or 2/3, so write 2+1 for 2 at least and better 3"),
-            *(("needs", 2, 3, text, f"row 2, column D: '{text}' is no whole number: write one, or {pair}")
+            *(("needs", 2, 3, text, f"row 2, column D: '{text}' is no whole number: write a number such as 2, or {pair}")
               for text, pair in (
                   ("2-3", "2+1 for 2 at least and better 3"), ("1 \u2013 4", "1+3 for 1 at least and better 4"), ("0/2", "0+2 for 0 at least and better 2"),
                   *((text, "2+1 for 2 at least and better 3") for text in ("4-4", "3-2", "2026-03-02", "02.03.2026", "3-Feb", "2.5", "two")),
               )),
-            ("contracts", 2, 3, "3-5", "row 2, column D: '3-5' is no whole number: write one"),
+            ("contracts", 2, 3, "3-5", "row 2, column D: '3-5' is no whole number: write a number such as 2"),
             ("contracts", 2, 3, "46145", "row 2, column D: 46145 is more than 9999: a spreadsheet makes such a number of 2-3 or 2/3, so write one number"),
             ("needs", 2, 3, "3..2", "row 2, column D: at least 3 are needed, and 2 are best: write the smaller number first"),
             ("needs", 2, 2, "Char", "row 2, column C: 'Char' is no skill of the sheet nurses: did you mean Charge?"),
@@ -120,7 +155,7 @@ class Contents(unittest.TestCase):
              "row 1, column B: a spreadsheet makes 1900-01-29 of the number of a day: write whole dates, such as 2026-11-30"),
             ("contracts", 2, 2, "1,000", "row 2, column C: '1,000' is no whole number: write 1 or 1000"),
             ("needs", 2, 0, "25.12.2026", "row 2, column A: '25.12.2026' is a date: write the number, its week from 0"),
-            *(("contracts", 2, 2, text, f"row 2, column C: '{text}' is no whole number: write one, or leave the cell empty") for text in ("-", "n/a")),
+            *(("contracts", 2, 2, text, f"row 2, column C: '{text}' is no whole number: write a number such as 2, or leave the cell empty") for text in ("-", "n/a")),
             ("contracts", 2, 2, "0",
              "row 2, column B: the minimum 8 is above the maximum 0: correct one of the two; for no limit leave the cell empty"),
             ("nurses", 2, 1, "", "row 2, column B: the cell is empty: write a contract, or delete the row"),
@@ -304,16 +339,23 @@ class Command(HelperTest):
     def test_the_template_is_a_ward(self):
         book, out = self.folder / "ward.ods", self.folder / "out"
         status, printed, said = run("ward", "--template", book)
-        self.assertEqual((status, said, "change its rows" in printed), (0, "", True))
+        says = f"written: {book}; change its rows into those of your ward, then type: inrc2pb-plan {self.folder} check\n"
+        self.assertEqual((status, printed, said), (0, says, ""))
         status, printed, said = run("ward", book, "--out", out)
         self.assertEqual((status, said), (0, ""))
         names = [*NAMES, "week-2.txt", "fix-2.txt", "week-3.txt", "fix-3.txt"]
-        self.assertEqual(printed, f"{out}: {', '.join(names)}\nChen: 3 days away count as 2 shifts in history-0.txt\n")
+        self.assertRegex(printed.splitlines()[0], "the best numbers ask for 132 shifts, .* and the contracts supply at most 131 beside absences")
+        self.assertEqual(printed.split("\n", 1)[1], f"{out}: {', '.join(names)}\nChen: 3 days away count as 2 shifts in history-0.txt\nFinn: 1 day away counts as 1 shift in history-0.txt\n")
         words = ("--sce", out / "ward.txt", "--his", out / "history-0.txt", "--week", out / "week-0.txt", "--fix", out / "fix-0.txt")
         status, printed, _ = run("check", *words)
         self.assertEqual((status, printed.splitlines()[-1]), (0, "No mistake found."))
         again = f"inrc2pb-ward: --template {book}: there is such a file, perhaps with your ward: give another name"
         self.assert_fault(run("ward", "--template", book), again)
+
+    def test_a_path_with_a_blank_is_printed_in_quotes(self):
+        folder = self.folder / "my ward"
+        folder.mkdir()
+        self.assertIn(f"inrc2pb-plan '{folder}' check\n", run("ward", "--template", folder / "ward.ods")[1])
 
     def test_a_longer_period_and_warnings(self):
         out = self.folder / "out"

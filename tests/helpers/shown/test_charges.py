@@ -180,7 +180,7 @@ class Older(HelperTest):
         for words, line in (
             (("--old", other, ROSTER), f"{other} is a roster of 'icu', and {ROSTER} of 'ward': give two rosters of one ward"),
             (("--old", later, ROSTER), f"{later} is a roster of week 1, and {ROSTER} of week 0: give two rosters of one week"),
-            (("--svg", "--old", ROSTER, ROSTER), "--old is for the table, --why and --html: leave it out"),
+            (("--csv", "--old", ROSTER, ROSTER), "--old is for the table, --why and --html: leave it out"),
             (("--old", ROSTER, "--old", ROSTER, ROSTER), "--old is given 2 times for 1 roster: give it once for each, in their order"),
         ):
             self.assert_fault(run("table", *words), f"inrc2pb-table: {line}")

@@ -76,7 +76,7 @@ class Page(PageTest):
 
     def test_the_roster_and_its_dates(self):
         page = self.page(*WEEK_OPTIONS, *MONDAY, "--times", "Late=13:00-21:15", "--times", "Day=6:00-14:15", "--times", "Night=22:00-06:15", ROSTER)
-        self.assertEqual(words(page.find(".//h1")), "ward, 30 Nov to 6 Dec 2026")
+        self.assertEqual(words(page.find(".//h1")), "ward, 30 Nov to 6 Dec 2026 (calendar week 49)")
         rows = self.caption(page, "Shifts")
         self.assertEqual(rows[0], ["nurse", "Mon 30 Nov", "Tue 1 Dec", "Wed 2 Dec", "Thu 3 Dec", "Fri 4 Dec", "Sat 5 Dec", "Sun 6 Dec"])
         chen = next(row for row in rows if row[0] == "Chen")
@@ -117,7 +117,10 @@ class Page(PageTest):
         page = self.page(*WEEK_OPTIONS, "--fix", ROSTER, "--only-table", "--old", self.changed(ROSTER, "Grace Mon", "Chen Mon"), ROSTER)
         self.assertEqual([words(one) for one in page.iter("caption")], ["Shifts of each nurse"])
         self.assertEqual([words(one) for one in page.iter("p")], ["7 nurses, 33 shifts"])
-        self.assertEqual([words(one) for one in page.iter("li")], ["\u0394 = changed since the older roster"])
+        self.assertEqual([words(one) for one in page.iter("li")], ["\u0394 = changed since the older roster", "WE = weekends with work"])
+        # Beside the roster each nurse's shifts of each type, and her weekends, by the rows of the file.
+        rows = {row[0]: row[8:] for row in self.caption(page, "Shifts")}
+        self.assertEqual((rows["nurse"], rows["Finn"], rows["Grace"]), (["Day", "Late", "Night", "WE"], [*"0501"], [*"5000"]))
 
     def test_absences_show_without_the_days_that_are_kept(self):
         ill, kept, old = (self.folder / name for name in ("ill.txt", "kept.txt", "old.txt"))
@@ -151,7 +154,7 @@ class Page(PageTest):
         two = ("--sce", SCENARIO, "--his", HISTORY, "--week", WEEK, "--week", WARD / "week-1.txt")
         page = self.page(*two, *MONDAY, ROSTER, later)
         rows = self.caption(page, "Shifts")
-        self.assertEqual((rows[0], rows[1][8], len(rows[2])), (["", "week 0", "week 1"], "Mon 7 Dec", 15))
+        self.assertEqual((rows[0], rows[1][8], len(rows[2])), (["", "week 0, calendar week 49", "week 1, calendar week 50"], "Mon 7 Dec", 15))
         self.assertEqual(rows[2][1], "DcDay Charge")
         self.assertIn("c = Charge", [words(item) for item in page.iter("li")])
         self.assertIn("Amara,10,17 to 21,7 to 11 left,10,0,0,2,2,1,0,1,10".split(","), self.caption(page, "Totals"))
@@ -166,9 +169,6 @@ class Page(PageTest):
         self.assertIn("</td><script>", names)
         self.assertEqual(list(page.iter("script")), [])
         self.assertIn("Jose\u0301;\\n\ufffd", names)
-        # In the page and in the picture a name is no markup.
-        picture = run("table", "--svg", *self.hostile_week())[1]
-        ElementTree.fromstring(picture)
 
     def test_faults(self):
         week = (*WEEK_OPTIONS, ROSTER)
@@ -207,14 +207,12 @@ class Page(PageTest):
 
 
 class Totals(PageTest):
-    def test_the_table_the_spreadsheet_and_the_picture(self):
+    def test_the_table_and_the_spreadsheet(self):
         printed = run("table", *WEEK_OPTIONS, ROSTER)[1]
         self.assertRegex(printed, r"(?m)^Chen .*  0 2 3  5/17-21  1/2       0/1       10  S4 10$")
         self.assertNotIn("weekends", run("table", "--sce", SCENARIO, ROSTER)[1])
         chen = next(row for row in csv.reader(io.StringIO(run("table", *WEEK_OPTIONS, "--csv", ROSTER)[1])) if row[0] == "Chen")
         self.assertEqual(chen[8:], ["10", "S4 10", "5", "17", "21", "1", "2", "1", "0", "0", "2", "3"])
-        picture = run("table", *WEEK_OPTIONS, "--svg", ROSTER)[1]
-        self.assertEqual(picture.count(">5/17-21</text>"), 5)
 
     def test_the_last_week_says_what_is_missed(self):
         ward = self.changed(SCENARIO, "WEEKS = 4", "WEEKS = 1", "ward.txt")
@@ -235,7 +233,6 @@ class Totals(PageTest):
         # An absence is no wish.
         self.assertRegex(printed, r"(?m)^Chen .* 0 2 3  5/17-21  1/2       - ")
         self.assertIn("Night Nurse #", run("table", *given, "--csv")[1])
-        self.assertIn("Night Nurse#<title>", run("table", *given, "--svg")[1])
         self.assertIn("310  S4  Chen, Sat: on Night, while away (31 requests)\n", run("table", *given, "--why")[1])
         rows = {row[0]: row for row in self.caption(self.page(*given), "Shifts")}
         self.assertEqual((rows["Chen"][6], rows["Amara"][4]), ("Night Nurse#, on duty while away", "away"))

@@ -7,7 +7,7 @@ import subprocess
 import unittest
 import xml.dom.minidom
 
-from ward import HELPERS, HISTORY, ROOT, ROSTER, SCENARIO, WARD, WEEK, WEEK_OPTIONS, HelperTest, files, records, run
+from ward import HELPERS, HISTORY, ROOT, ROSTER, SCENARIO, WARD, WEEK, WEEK_OPTIONS, HelperTest, files, run
 
 from inrc2pb.judging.absences import absences_of, wishes_of
 from inrc2pb.week.records import Absence
@@ -115,7 +115,7 @@ class Tables(HelperTest):
         fix = self.solution("Grace Sat Day Nurse", ward="icu", name="fix.txt")
         other_ward = "line 2 has 'icu', and the scenario is 'ward': is the file of another ward?"
         fitting = self.changed(ROSTER, "0 ward", "1 ward", "roster-1.txt")
-        for form in ("--svg", "--csv"):
+        for form in ("--html", "--csv"):
             status, _, said = run("table", *week, form, ROSTER, "--fix", fix)
             lines = [f"inrc2pb-table: {ROSTER}: {self.other_week}", f"inrc2pb-table: {fix}: {other_ward}"]
             self.assertEqual((status, said.splitlines()), (0, lines))
@@ -126,15 +126,6 @@ class Tables(HelperTest):
             status, printed, _ = run("table", "--csv", *words)
             rows = list(csv.reader(io.StringIO(printed)))
             self.assertEqual((status, len(rows), {len(row) for row in rows}), (0, 8, {columns}))
-
-    def test_the_picture_names_missing_nurses(self):
-        roster = self.changed(ROSTER, "Amara Mon Day Charge\n", "").read_text().replace("= 33", "= 32")
-        path = self.folder / "less.txt"
-        path.write_text(roster)
-        status, printed, _ = run("table", *WEEK_OPTIONS, "--svg", path)
-        self.assertEqual(status, 0)
-        self.assertIn("missing on Mon: Day Charge (0 of 1, at least 1)", printed)
-        xml.dom.minidom.parseString(printed)
 
     def test_places_with_too_many_nurses_are_named(self):
         row = next(line for line in WEEK.read_text().splitlines() if line.startswith("Day Nurse"))
@@ -148,60 +139,12 @@ class Tables(HelperTest):
         self.assertIn("too many on Sun: Day Nurse (1 of 0)", printed)
         self.assertNotIn("too many", run("table", *WEEK_OPTIONS, ROSTER)[1])
 
-    def test_the_texts_of_a_picture_fit_their_cells(self):
-        ward, path = ROSTER.read_text(), self.folder / "roster.txt"
-        for old, new, count, cell, legend in (
-            ("Charge", "Charge", 1, "Day Charge", ""),
-            ("Charge", "Charge_Nurse", 1, "Day Ch", "Ch = Charge_Nurse  Nu = Nurse"),
-            ("Late", "Late_Afternoon", 1, "Late_ Nu", "Late_ = Late_Afternoon  Ch = Charge  Nu = Nurse"),
-            ("Nurse", "Charge_Nurse", 1, "D Charge_", "D = Day  L = Late  N = Night  Charge_ = Charge_Nurse"),
-            ("Amara", "Amara_van_der_Longname", 2, "D Ch", "D = Day  L = Late  N = Night  Ch = Charge  Nu = Nurse"),
-        ):
-            with self.subTest(new, count=count):
-                path.write_text(ward.replace(old, new))
-                picture = run("table", "--svg", *[path] * count)[1]
-                self.assertIn(f">{cell}<title>", picture)
-                self.assertIn(f">{legend}</text>\n</svg>" if legend else ">Night</text>\n</svg>", picture)
-                self.assert_texts_fit(picture)
-
-    def assert_texts_fit(self, picture):
-        """Each cell has room for its text, at six pixels for a letter."""
-        cells = re.findall(r'width="([0-9.]+)" height="22" rx="3".*\n<text [^>]*>([^<]*)<title>', picture)
-        self.assertGreaterEqual(len(cells), 33)
-        for width, text in cells:
-            self.assertLessEqual(6 * len(text), float(width), text)
-
-    def test_the_costs_of_a_nurse_fit_the_picture(self):
-        for words in ((*WEEK_OPTIONS, ROSTER), (*TWO_WEEKS, "--early"), (*self.week_with_many_costs(), ROSTER)):
-            status, picture, said = run("table", "--svg", *words)
-            self.assertEqual(status, 0, said)
-            width = int(re.search(r'<svg [^>]* width="([0-9]+)"', picture).group(1))
-            costs = re.findall(r'<text class="ink" x="([0-9]+)" y="[0-9]+">([0-9]+(?: \([^<]*\))?)</text>', picture)
-            self.assertEqual(len(costs), 7)
-            for x, text in costs:
-                self.assertLessEqual(int(x) + 7 * len(text), width, text)
-        self.assertGreater(max(len(text) for _, text in costs), 35)
-
-    def week_with_many_costs(self):
-        """The week with limits and requests that the roster breaks."""
-        ward = self.changed(SCENARIO, "(17,21) (3,5) (2,3) 2 1", "(0,0) (7,7) (7,7) 0 1", "ward.txt")
-        ward.write_text(ward.read_text().replace("WEEKS = 4", "WEEKS = 1"))
-        requests = "".join(f"Amara Any {day}\n" for day in records.DAYS)
-        week = self.changed(WEEK, "SHIFT_OFF_REQUESTS = 5\n", f"SHIFT_OFF_REQUESTS = 12\n{requests}", "week.txt")
-        return "--sce", ward, "--his", HISTORY, "--week", week
-
     def test_a_name_that_is_not_utf_8(self):
         roster = self.folder / "latin.txt"
         roster.write_bytes(ROSTER.read_bytes().replace(b"Amara", b"Am\xe4ra"))
-        picture = subprocess.run([str(HELPERS / "inrc2pb-table"), "--svg", str(roster)], stdout=subprocess.PIPE, check=True).stdout
-        self.assertIn("Am\ufffdra", picture.decode("utf-8"))
-        xml.dom.minidom.parseString(picture)
-
-    def test_a_letter_that_a_picture_may_not_have(self):
-        roster = self.changed(ROSTER, "Amara", "Am\x0b\x1bra")
-        picture = run("table", "--svg", roster)[1]
-        self.assertIn("Am\ufffd\ufffdra", picture)
-        xml.dom.minidom.parseString(picture.encode())
+        page = subprocess.run([str(HELPERS / "inrc2pb-table"), "--html", str(roster)], stdout=subprocess.PIPE, check=True).stdout
+        self.assertIn("Am\ufffdra", page.decode("utf-8"))
+        xml.dom.minidom.parseString(page)
 
     def test_letters_that_do_not_take_one_column(self):
         for name, more in (("\u5c71\u7530\u592a\u90ce", 4), ("Jose\u0301", -1)):
@@ -211,21 +154,9 @@ class Tables(HelperTest):
             row, other = (next(line for line in lines if line.startswith(begin)) for begin in (name, "Bruno"))
             self.assertEqual(row.index("|") + more, other.index("|"))
 
-    def test_a_long_title_fits_the_picture(self):
-        roster = self.solution("Amara Mon Day Charge", ward="w" * 150)
-        picture = run("table", "--svg", roster)[1]
-        self.assertGreater(int(re.search(r'width="([0-9]+)"', picture).group(1)), 9 * 150)
-
     def test_a_name_that_was_cut_is_spelled_out(self):
         roster = self.changed(ROSTER, "Amara Mon", "Annemarie_Schmidt Mon")
         self.assertIn("\nAnnemarie_Sc = Annemarie_Schmidt  ", run("table", roster)[1])
-
-    def test_colors_have_the_order_of_the_scenario(self):
-        pictures = [run("table", "--svg", *words)[1] for words in (TWO_WEEKS, ("--sce", SCENARIO, ROSTER))]
-        for picture in pictures:
-            places = [picture.rindex(f">{shift}</text>") for shift in ("Day", "Late", "Night")]
-            self.assertEqual(places, sorted(places))
-            xml.dom.minidom.parseString(picture)
 
     def test_a_full_disk(self):
         with open("/dev/full", "w") as full:

@@ -134,7 +134,7 @@ def covering(program, columns, seed=5):
     rows = 12
     program.add_rows([(1.0 + row % 3, INF) for row in range(rows)])
     made = [chance.sample(range(rows), chance.randint(1, 4)) for _ in range(columns)] + [[row] for row in range(rows)]
-    program.add_columns([Column(float(chance.randint(5, 30)), 0.0, INF, [(row, 1.0) for row in of]) for of in made])
+    program.add_columns([Column(float(chance.randint(5, 30)), 0.0, INF, [(row, 1.0) for row in entries]) for entries in made])
     return program
 
 

@@ -1,0 +1,116 @@
+"""The plan of a folder as its verbs read and write it."""
+
+import datetime
+import shlex
+import tempfile
+from dataclasses import replace
+from pathlib import Path
+from typing import Callable, List, NamedTuple, Optional, Sequence
+
+from ..judging.absences import absences_of, in_words, joined, readable, working_while_away
+from ..judging.limits import exceeded, limits_in_words, limits_way_out
+from ..programs.program import READ_OR_WRITE
+from ..programs.progress import Progress
+from ..week.faults import Misuse, fault_line
+from ..week.hints import plural
+from . import pages
+from .record import Record
+from .ward_folder import WardFolder
+from .ward_plan import Sheet, WardPlan, continued, first_plan, published_days, read_stored
+from .wording import Wording
+from .written_absences import WrittenAbsence
+
+# Reads the spreadsheet of a ward, which has this name, if it has one, with these absences in its plan.
+Reader = Callable[[Path, Optional[str], Sequence[WrittenAbsence]], Sheet]
+
+
+class Means(NamedTuple):
+    """How the verbs read a spreadsheet, show the progress of a search, say what goes before their results, and how a user ends a search."""
+
+    read: Reader
+    progress: Progress
+    say: Callable[[str], None]
+    end: str = "Ctrl-C ends the search and keeps the best plan"
+
+
+class PlanStore:
+    """The plans of a folder. `status` is the exit status of the verb that uses it."""
+
+    def __init__(self, folder: WardFolder, means: Means) -> None:
+        self.folder, self.means = folder, means
+        self.status = 0
+
+    def current(self, written: Sequence[WrittenAbsence] = ()) -> WardPlan:
+        """The plan that holds, with what the spreadsheet says now, and with more absences."""
+        last, spreadsheet = self.folder.last(), self.folder.spreadsheet()
+        if last is None:
+            return first_plan(self.means.read(spreadsheet, None, written))
+        stored = read_stored(last)
+        all_written = written or stored.written
+        sheet = self.means.read(spreadsheet, stored.start.scenario, all_written)
+        return replace(continued(stored, sheet), written=tuple(all_written))
+
+    def planned(self) -> WardPlan:
+        """The same; that it has no rosters is a Misuse."""
+        plan = self.current()
+        if not plan.is_planned:
+            raise Misuse(f"{self.folder.top} has no plan yet: type inrc2pb-plan {shlex.quote(str(self.folder.top))} plan")
+        return plan
+
+    def fitting(self) -> WardPlan:
+        """The same; that the spreadsheet does not have its names any more is a Misuse."""
+        plan = self.planned()
+        if plan.unknown:
+            names = f"the plan has '{plan.unknown[0].row()}', and the spreadsheet has not all of these names"
+            raise Misuse(f"{names}: the verb plan makes a plan that fits, undo goes back to the plan before it")
+        return plan
+
+    def save(self, verb: str, plan: WardPlan, old: Optional[WardPlan] = None) -> List[str]:
+        """Writes the plan and its pages. Returns the lines that name them."""
+        now = datetime.datetime.now()
+        self.folder.add(verb.split(" ", 1)[0], plan.texts(Record(verb, now, plan.days, plan.open_week, plan.published)), now)
+        return self.pages(plan, old)
+
+    def pages(self, plan: WardPlan, old: Optional[WardPlan] = None) -> List[str]:
+        """Writes the pages of a plan. Returns the lines that name them."""
+        top = self.folder.top
+        try:
+            written = [pages.write_worked_page(top, plan)] if plan.open_week else []
+            if plan.is_planned and plan.weeks:
+                written.append(pages.write_roster_page(top, plan, old))
+            if plan.published and plan.is_planned and plan.weeks:
+                before = published_days([*self.folder.all_plans(), *self.folder.undone()], plan.days)
+                written += pages.write_all(top, plan, before)
+        except OSError as fault:
+            self.status = READ_OR_WRITE
+            return [f"the plan holds, but its pages are not written: {fault_line(fault)}"]
+        return [f"written: {', '.join(map(str, written))}"] * bool(written)
+
+
+def wording_of(plan: WardPlan, words: Sequence[str], usage: str) -> Wording:
+    """The words after a verb, of which `usage` is an example."""
+    return Wording(words, plan.scenario.nurses, plan.days, plan.first, usage)
+
+
+def cost_lines(plan: WardPlan) -> List[str]:
+    """What each week costs, by `inrc2pb extend`."""
+    with tempfile.TemporaryDirectory(prefix="inrc2pb-plan-") as folder:
+        penalties = plan.penalties(Path(folder))
+    lines = [f"week {number}: {points} points" for number, points in penalties.items()]
+    return [*lines, f"{plural(len(lines), 'week')}: {sum(penalties.values())} points"] if len(lines) > 1 else lines
+
+
+def not_kept_lines(plan: WardPlan) -> List[str]:
+    """Who works while she is away, or above a limit that holds, and what would help."""
+    lines = []
+    for number in plan.weeks:
+        cells, week, names = plan.rosters[number], plan.week(number), plan.day_names(number)
+        broken, over = working_while_away(absences_of(week.data), cells), exceeded(week, week.data.limits, cells)
+        if broken:
+            skills = joined(dict.fromkeys(readable(cell.skill) for cell in broken))
+            lines.append(f"week {number}: no plan was found that keeps every absence: {in_words(broken, names)}")
+            lines.append(f"week {number}: lower the minimum of {skills} in the sheet needs, or give someone the skill")
+        if over:
+            lines.append(f"week {number}: no plan was found that keeps every limit: {limits_in_words(over, cells, names)}")
+            lines.append(f"week {number}: {limits_way_out(week, over, cells)}")
+    return lines

@@ -1,0 +1,161 @@
+"""The verbs that search for a plan: plan, the reasons to be away, and back."""
+
+from dataclasses import replace
+import re
+from typing import Iterator, List, Optional, Sequence
+
+from ..judging.absences import readable
+from ..programs.interrupts import interrupts
+from ..programs.program import BROKEN_RULE, NO_ROSTER
+from ..week.faults import Misuse, ProgramFault
+from ..week.hints import plural
+from .agreed_days import AgreedDay, broken_line
+from .few_changes import POINTS
+from .needless_changes import without_needless_changes
+from .plan_days import WEEK_DAYS
+from .plan_search import MOST, NONE, Asked, Found, search_plan, why_no_plan
+from .plan_store import PlanStore, cost_lines, not_kept_lines, wording_of
+from .shift_changes import call_lines, cell_text, change_lines, shift_changes
+from .ward_plan import WardPlan
+from .training_rows import training_lines
+from .wish_words import wish_lines
+from .written_absences import BACK, with_days
+
+# The seconds of a search, for each week if it is a whole plan.
+WEEK_SECONDS, CHANGE_SECONDS = 20.0, 30.0
+# The share at the end of a line on the bound: a few points above nothing are many per cent.
+_SHARE = re.compile(r", [0-9.]+ %$")
+
+
+def plan(store: PlanStore, words: Sequence[str], seconds: Optional[float], free: bool) -> List[str]:
+    """Plans the weeks that are not over, or what is left of them from a day on."""
+    old = store.current()
+    wording = wording_of(old, words, "plan, or plan 2026-12-09 to leave all days before it as they are")
+    first = old.first if wording.is_over else wording.open_day()
+    wording.end()
+    for warning in old.sheet.warnings:
+        store.means.say(f"warning: {readable(warning)}")
+    few = old.published and old.is_planned and not free
+    asked = Asked(first, few, seconds or WEEK_SECONDS * len(old.weeks))
+    return _search(store, "plan", old, asked._replace(agreed=NONE) if free else asked)
+
+
+def away(store: PlanStore, word: str, words: Sequence[str], seconds: Optional[float]) -> List[str]:
+    """A nurse is away on these days for this reason. The plan changes little, and only from the first of them on."""
+    old = store.planned()
+    wording = wording_of(old, words, f"{word} {readable(next(iter(old.scenario.nurses)))} Fri Sun")
+    nurse, first = wording.nurse(), wording.open_day()
+    last = first if wording.is_over else wording.open_day(first)
+    wording.end()
+    if last < first:
+        raise Misuse(f"{old.days.text(last)} is before {old.days.text(first)}: give the first day first")
+    written = with_days(old.written, nurse, range(first, last + 1), word)
+    store.means.say(f"{readable(nurse)}: {word}, {old.days.span([first, last])}")
+    named = f"{word} {nurse} {old.days.head(first)} {old.days.head(last)}"
+    lifted = [line for day in range(first, last + 1) for line in _lifted(old, nurse, day, word)]
+    return [*lifted, *_search(store, named, store.current(written), Asked(first, True, seconds or CHANGE_SECONDS))]
+
+
+def _lifted(old: WardPlan, nurse: str, day: int, word: str) -> Iterator[str]:
+    """That an absence lifts a shift that the spreadsheet holds."""
+    for cell in old.held[day // WEEK_DAYS]:
+        if (cell.nurse, cell.day) == (nurse, day % WEEK_DAYS):
+            yield readable(f"{nurse}, {old.days.text(day)}: {word} lifts {cell.shift}, which the spreadsheet holds")
+
+
+def back(store: PlanStore, words: Sequence[str], seconds: Optional[float]) -> List[str]:
+    """A nurse is back from a day on, at the end of the days on which she is away."""
+    old = store.planned()
+    wording = wording_of(old, words, f"back {readable(next(iter(old.scenario.nurses)))} Mon")
+    nurse, first = wording.nurse(), wording.open_day()
+    wording.end()
+    days = _days_away(old, nurse, first)
+    if not days:
+        raise Misuse(f"{readable(nurse)} is not away on {old.days.text(first)}")
+    written = with_days(old.written, nurse, days, BACK)
+    store.means.say(f"{readable(nurse)}: back, {old.days.span(days)}")
+    return _search(store, f"back {nurse} {old.days.head(first)}", store.current(written), Asked(first, True, seconds or CHANGE_SECONDS))
+
+
+def _days_away(old: WardPlan, nurse: str, first: int) -> List[int]:
+    """The days from this one on on which she is away without a break."""
+    days: List[int] = []
+    for day in range(first, old.days.total):
+        if (nurse, day) not in old.away:
+            break
+        days.append(day)
+    return days
+
+
+def _search(store: PlanStore, verb: str, old: WardPlan, asked: Asked) -> List[str]:
+    """Searches, writes the plan, and says what it costs and what changes."""
+    days = old.days.span([asked.first, old.days.total - 1])
+    store.means.say(f"{days}, at most {asked.seconds:g} s{f'; {store.means.end}' if store.means.end else ''}")
+    # A second Ctrl-C does not end it before the plan is written.
+    with interrupts():
+        try:
+            found = _found(store, old, asked)
+        except ProgramFault as fault:
+            return _no_plan(store, old, fault)
+        if asked.few_changes and old.is_planned:
+            found = found._replace(plan=without_needless_changes(old, found.plan))
+        works, before = found.plan.works, old.works
+        new = replace(found.plan, agreed=tuple(one for one in old.agreed if works.get(one) == before.get(one)))
+        lines = _result(store, old, found._replace(plan=new), asked.few_changes)
+        return [*lines, *store.save(verb, new, old if old.is_planned else None)]
+
+
+def _found(store: PlanStore, old: WardPlan, asked: Asked) -> Found:
+    """The best plan that keeps the agreed days, or, if it would keep less of the absences and limits, one that keeps most of them."""
+    if not old.agreed or asked.agreed == NONE:
+        return search_plan(old, asked, store.means.progress)
+    firm: Optional[Found] = None
+    try:
+        firm = search_plan(old, asked, store.means.progress)
+        if firm.stopped or not not_kept_lines(firm.plan):
+            return firm
+    except ProgramFault as fault:
+        if fault.status != NO_ROSTER or "stopped" in fault.message:
+            raise
+    store.means.say("no plan was found that keeps all agreed swaps: a search for one that may break them")
+    free = search_plan(old, asked._replace(agreed=MOST), store.means.progress)
+    return firm if firm and len(not_kept_lines(firm.plan)) <= len(not_kept_lines(free.plan)) else free
+
+
+def _result(store: PlanStore, old: WardPlan, found: Found, few_changes: bool) -> List[str]:
+    """What the plan does not keep, what it changes, and what it costs."""
+    before, new = (old if old.is_planned else None), found.plan
+    lines = not_kept_lines(new)
+    is_kept = not lines
+    changes = shift_changes(before.cells(), new.cells()) if before else []
+    if before and (before.published or few_changes):
+        lines += [*change_lines(changes, new.days, new.away), *call_lines(changes, new.away)] or ["no shift changes"]
+    elif before:
+        # Nobody has seen the older plan.
+        lines.append(f"{plural(len(changes), 'shift')} {'differs' if len(changes) == 1 else 'differ'} from the last plan")
+    lines += [_broken(old, new, one) for one in old.agreed if one not in new.agreed]
+    lines += [*training_lines(new), *wish_lines(before, new), *cost_lines(new)]
+    lines += [f"a change was counted as {POINTS} points more, which are not in this sum"] * few_changes
+    lines += [_SHARE.sub("", found.bound)] * (is_kept and not few_changes)
+    lines += ["stopped: this is the best plan until then"] * found.stopped
+    if not is_kept:
+        store.status = BROKEN_RULE
+        lines.append("this plan is written, but it does not keep what the first lines say: do what helps and plan again, or undo")
+    return lines
+
+
+def _broken(old: WardPlan, new: WardPlan, one: AgreedDay) -> str:
+    now = new.away.get(one) or cell_text(new.works.get(one))
+    return broken_line(one, cell_text(old.works.get(one)), now, new.days)
+
+
+def _no_plan(store: PlanStore, old: WardPlan, fault: ProgramFault) -> List[str]:
+    """Which minimum numbers to lower, if that is why there is no plan."""
+    if fault.status != NO_ROSTER or "stopped" in fault.message:
+        raise fault
+    store.means.say("no plan was found: a search for the reason, at most 30 s for each week")
+    lines = why_no_plan(old)
+    if not lines:
+        raise fault
+    store.status = NO_ROSTER
+    return lines

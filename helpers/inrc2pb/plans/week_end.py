@@ -1,0 +1,94 @@
+"""The verb over: a week is over, as it was planned or with corrections."""
+
+import datetime
+from dataclasses import replace
+from typing import Dict, Iterator, List, Sequence, Tuple
+
+from ..judging.absences import readable
+from ..judging.breaches import breaches
+from ..judging.limits import exceeded, limits_in_words
+from ..judging.next_history import next_history
+from ..week.faults import Misuse
+from ..week.records import Cell, Place
+from .plan_days import WEEK_DAYS, PlanDays
+from .plan_store import PlanStore, wording_of
+from .shift_changes import OFF, change_lines, shift_changes
+from .ward_plan import WardPlan
+from .wording import Wording
+
+
+def over(store: PlanStore, words: Sequence[str]) -> List[str]:
+    """The first week that is not over is over, as it was planned, or with these corrections."""
+    old = store.fitting()
+    if not old.weeks:
+        raise Misuse("all weeks are over")
+    name = readable(next(iter(old.scenario.nurses)))
+    wording = wording_of(old, words, f"over, or over {name} Fri off if {name} did not work on Friday")
+    cells = dict(old.works)
+    while not wording.is_over:
+        _correct(old, wording, cells)
+    worked = old.with_cells(cells.values())
+    changes = shift_changes(old.cells(), worked.cells())
+    lines = [*change_lines(changes, old.days), *_broken_by_hand(old, worked)]
+    return [*lines, *(_next_week(store, worked) if old.open_week + 1 < old.days.weeks else _next_period(store, worked))]
+
+
+def _correct(old: WardPlan, wording: Wording, cells: Dict[Tuple[str, int], Cell]) -> None:
+    """Takes one correction, such as `Bruno Mon Late`."""
+    nurse, day = wording.nurse(), wording.open_day()
+    if day >= old.first + WEEK_DAYS:
+        raise Misuse(f"{old.days.text(day)} is after the week that ends now: the verb swap, or ill, changes later days")
+    shift, skill = wording.shift([*old.scenario.shift_types, OFF], old.scenario.nurses[nurse].skills)
+    before = cells.pop((nurse, day), None)
+    if shift != OFF:
+        own = [before.skill] if before else []
+        cells[nurse, day] = Cell(nurse, day, shift, skill or _skill(old, nurse, day, shift, own))
+
+
+def _skill(old: WardPlan, nurse: str, day: int, shift: str, own: Sequence[str]) -> str:
+    """The skill with which a nurse counts who worked another shift: her old one, or one that is asked for, if she has it."""
+    needed = old.data[day // WEEK_DAYS].requirements
+    skills = [*own, *old.scenario.nurses[nurse].skills]
+    asked = [skill for skill in skills for need in [needed.get(Place(day % WEEK_DAYS, shift, skill))] if need and need.optimal]
+    return (asked or skills)[0]
+
+
+def _broken_by_hand(old: WardPlan, worked: WardPlan) -> Iterator[str]:
+    """The hard rules and limits that the week breaks as it was worked, and did not as it was planned."""
+    found = [line for line in _broken_in(worked, worked.open_week) if line not in _broken_in(old, old.open_week)]
+    yield from found
+    if found:
+        yield "if it was not worked so, type undo, and over with other corrections"
+
+
+def _next_week(store: PlanStore, worked: WardPlan) -> List[str]:
+    number = worked.open_week
+    new = replace(worked, open_week=number + 1)
+    new = replace(new, agreed=tuple(one for one in worked.agreed if one.day >= new.first))
+    lines = [f"week {number} is over: the plan goes on from {new.days.text(new.first)}"]
+    broken = [line for number in new.weeks for line in _broken_in(new, number)]
+    if broken:
+        lines += [*broken, f"after these corrections the plan does not fit any more: type plan {new.days.head(new.first)}"]
+    return [*lines, *store.save(f"over {number}", new)]
+
+
+def _broken_in(plan: WardPlan, number: int) -> List[str]:
+    """The hard rules and limits that hold that a week of the plan breaks."""
+    week, cells = plan.week(number), plan.rosters[number]
+    lines = [f"week {number} breaks {breach.rule}: {readable(breach.reason)}" for breach in breaches(week, cells)]
+    above = exceeded(week, week.data.limits, cells)
+    return [*lines, *[f"week {number} exceeds a limit that holds: {limits_in_words(above, cells, plan.day_names(number))}"] * bool(above)]
+
+
+def _next_period(store: PlanStore, worked: WardPlan) -> List[str]:
+    number = worked.open_week
+    past = next_history(worked.scenario, worked.histories[number], worked.rosters[number], new_period=True)
+    monday = worked.days.monday and worked.days.monday + datetime.timedelta(days=worked.days.total)
+    sheet = worked.sheet._replace(days=PlanDays(monday, 0), credit={})
+    begun = replace(worked, sheet=sheet, start=past, open_week=0, rosters={}, written=(), agreed=(), published=False)
+    store.save("over period", begun)
+    # The pages show the period that is over.
+    lines = store.pages(replace(worked, open_week=number + 1, published=False))
+    begin = f"from {monday} on, " if monday else ""
+    then = "into the sheet plan, with its wishes and absences; then type: plan"
+    return [*lines, "the period is over", f"write the days of the next one, {begin}{then}"]

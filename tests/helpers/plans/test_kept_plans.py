@@ -1,0 +1,260 @@
+"""Tests of what verbs keep and say: agreed swaps, lost wishes, nurses to call, and a week that was not worked as planned."""
+
+import errno
+import unittest
+from dataclasses import replace
+from unittest import mock
+from xml.etree import ElementTree
+
+from test_plans import FolderTest
+from ward import HAS_CBC, files, run
+
+from inrc2pb.judging.limits import limits_way_out
+from inrc2pb.judging.rules import Charge
+from inrc2pb.commands.plan import read_sheet
+from inrc2pb.plans import pages, ward_folder
+from inrc2pb.plans.agreed_days import AgreedDay, agreed_text, read_agreed
+from inrc2pb.plans.few_changes import with_few_changes
+from inrc2pb.plans.needless_changes import without_needless_changes
+from inrc2pb.plans.plan_days import PlanDays
+from inrc2pb.plans.shift_changes import call_lines, change_lines, shift_changes
+from inrc2pb.plans.training_rows import training_lines
+from inrc2pb.plans.ward_plan import read_stored
+from inrc2pb.plans.wish_words import wish_lines
+from inrc2pb.week.faults import FileFault
+from inrc2pb.week.records import Absence, Cell, Request
+
+BARE = PlanDays(None, 2)
+
+
+class KeptTest(FolderTest):
+    """A ward whose plan of two weeks is the stored roster twice."""
+
+    def setUp(self):
+        super().setUp()
+        self.plan = self.write_plan()
+
+    def agreed(self):
+        """The nurses and days on which the plan that holds has a swap."""
+        return set(read_stored(self.last()).agreed)
+
+
+class Words(KeptTest):
+    def test_a_change_of_skill_is_told_and_the_nurse_is_called(self):
+        old, new = [Cell("Amara", 0, "Day", "Nurse")], [Cell("Amara", 0, "Day", "Charge")]
+        changes = shift_changes(old, new)
+        self.assertEqual(change_lines(changes, BARE), ["Amara, Mon of week 0: Day Charge, before Day Nurse"])
+        self.assertEqual(call_lines(changes), ["1 nurse to call: Amara"])
+
+    def test_who_is_away_on_a_changed_day_is_not_called(self):
+        old, new = [Cell("Amara", 0, "Day", "Nurse")], [Cell("Bruno", 0, "Day", "Nurse")]
+        changes, away = shift_changes(old, new), {("Amara", 0): "ill"}
+        says = ["Amara, Mon of week 0: ill, before Day Nurse", "Bruno, Mon of week 0: Day Nurse, before off"]
+        self.assertEqual((change_lines(changes, BARE, away), call_lines(changes, away)), (says, ["1 nurse to call: Bruno"]))
+
+    def test_lost_wishes(self):
+        self.plan.data[0] = replace(self.plan.data[0], requests=(Request("Grace", None, 4), Request("Chen", "Night", 4), Request("Ewa", None, 0)))
+        self.plan.data[1] = replace(self.plan.data[1], requests=())
+        refused = ["wish not granted: Grace, off on Fri 4 Dec", "wish not granted: Chen, no Night on Fri 4 Dec"]
+        self.assertEqual(wish_lines(None, self.plan), refused)
+        # Grace is off, so her wish is granted; Ewa works on Monday.
+        cells = [cell for cell in self.plan.cells() if (cell.nurse, cell.day) != ("Grace", 4)]
+        new = self.plan.with_cells([*cells, Cell("Ewa", 0, "Day", "Nurse")])
+        new.data[:] = self.plan.data
+        self.assertEqual(wish_lines(self.plan, new), ["wish lost: Ewa, off on Mon 30 Nov"])
+
+    def test_shifts_are_left_for_nobody_who_is_away(self):
+        week = self.plan.week(0)
+        cells = [Cell("Chen", day, "Late", "Nurse") for day in range(6)]
+        charge = Charge("S2", "work above", "Chen", 30, days=(0, 5), number=6, limit=5)
+        names = list(week.scenario.nurses)
+        for away in (["Grace", "Finn"], []):
+            data = replace(week.data, absences=frozenset(Absence(nurse, day, None) for nurse in away for day in range(6)))
+            said = limits_way_out(replace(week, data=data), [charge], cells)
+            self.assertEqual([name for name in names if f"{name} (" in said], [name for name in names if name not in ("Chen", *away)])
+
+    def test_changes_that_save_nothing_are_taken_back(self):
+        # The roster has nobody too many but Grace on Monday to Friday: without her shifts Day Nurse has fewer than best, or none.
+        old = self.plan
+        taken = [cell for cell in old.cells() if cell.nurse not in ("Grace",) or cell.day > 6]
+        needless = old.with_cells([*taken, *(Cell("Grace", day, "Day", "Nurse") for day in (0, 1))])
+        self.assertEqual(without_needless_changes(old, needless).rosters, old.rosters)
+        # She is away on Friday: that change is needed, and it stays.
+        self.rows["plan"][7][5] = "ill"
+        self.write()
+        needless = replace(old, sheet=read_sheet(self.ward, None, ())).with_cells(taken)
+        found = without_needless_changes(old, needless)
+        self.assertEqual([one[:2] for one in shift_changes(old.cells(), found.cells())], [("Grace", 4)])
+
+    def test_training_between_days_of_work_is_told(self):
+        # Grace works from Monday to Friday, and may work five days in a row.
+        self.rows["plan"][7][6] = "training"
+        self.write()
+        plan = replace(self.plan, sheet=read_sheet(self.ward, None, ()))
+        says = "Grace has 6 days in a row with work or training, to Sat 5 Dec, and her contract at most 5 with work"
+        self.assertEqual(list(training_lines(plan)), [says])
+        self.assertEqual(list(training_lines(self.plan)), [])
+
+    def test_agreed_days_cost_much(self):
+        old = [Cell("Chen", 4, "Late", "Nurse")]
+        asked = with_few_changes(self.plan.scenario, replace(self.plan.data[0], requests=()), old, [], agreed=[("Chen", 4), ("Grace", 4)])
+        counts = {request: asked.requests.count(request) for request in asked.requests}
+        wanted = {Request("Chen", "Day", 4): 25, Request("Chen", "Night", 4): 25, Request("Grace", None, 4): 25}
+        self.assertEqual(counts, wanted)
+
+    def test_the_file_of_agreed_days(self):
+        days = PlanDays(None, 2)
+        agreed = (AgreedDay("Chen", 4), AgreedDay("Ida_B", 11))
+        text = agreed_text(agreed, days)
+        self.assertEqual(text, "nurse,day\nChen,Fri 0\nIda_B,Fri 1\n")
+        (self.folder / "agreed.csv").write_text(text)
+        self.assertEqual(read_agreed(self.folder, days), agreed)
+        # A plan of an older release has no such file, and one of fewer weeks has not all of the days.
+        self.assertEqual((read_agreed(self.ward, days), read_agreed(self.folder, PlanDays(None, 1))), ((), agreed[:1]))
+        (self.folder / "agreed.csv").write_text("nurse,day\nChen\n")
+        with self.assertRaisesRegex(FileFault, "this row was changed: write a nurse and a day"):
+            read_agreed(self.folder, days)
+
+
+class Weeks(KeptTest):
+    def test_a_week_after_which_the_plan_breaks_a_rule(self):
+        printed = self.does("over", "Bruno", "Sun", "Night,", "Finn", "Fri", "off,")
+        cure = "after these corrections the plan does not fit any more: type plan 2026-12-07"
+        self.assertIn("week 1 breaks H3: Bruno may not work Day on Mon after Night on the Sunday before\n", printed)
+        self.assertIn(f"{cure}\n", printed)
+        self.assertIn("week 0 breaks H2: Fri Late Nurse has 0 nurses and needs at least 1\n", printed)
+        self.assertIn("if it was not worked so, type undo", printed)
+        self.assertNotIn("to call", printed)
+        cells = files.read_solution(self.last() / "roster-0.txt").cells
+        self.assertIn(Cell("Bruno", 6, "Night", "Nurse"), cells)
+
+    def test_a_week_after_which_a_limit_is_exceeded(self):
+        # Grace works from Monday to Friday, and so she does in the week before.
+        self.rows["contracts"][1][4] = "5!"
+        self.write()
+        printed = self.does("over", "Grace", "Sat", "Day", "Grace", "Sun", "Day")
+        self.assertIn("week 0 exceeds a limit that holds: Grace has 7 days of work in a row", printed)
+        self.assertIn("week 1 exceeds a limit that holds: Grace has 12 days of work in a row, to Fri 11 Dec, of at most 5", printed)
+        self.assertIn("type plan 2026-12-07", printed)
+
+    def test_the_page_for_the_wall(self):
+        # On Friday of week 1 one nurse fewer is best, as on a bank holiday; the other cells are as in all weeks.
+        self.rows["needs"].append(["1", "Day", "Nurse", *[""] * 4, "1", "", ""])
+        self.rows["nurses"][6][4] = "Wed"
+        self.write()
+        self.does("page")
+        page = ElementTree.parse(self.ward / "wall.html")
+        words = ["".join(head.itertext()) for head in page.iter("th")]
+        marked = [text for text in words if "as on a bank holiday" in text]
+        self.assertEqual([(text[:3], text[-6:]) for text in marked], [("Fri", "11 Dec")])
+        self.assertIn("week 1, calendar week 50", words)
+        self.assertRegex("".join(next(page.iter("p")).itertext()), "^weeks 0 to 1: 7 nurses, 66 shifts; as of [A-Z][a-z]+day, [0-9]+ ")
+        finn = next(row for row in page.iter("tr") if "".join(row[0].itertext()) == "Finn")
+        # Nobody reads on the wall why she is away.
+        self.assertEqual("".join(finn[3].itertext()), "away")
+        # In both weeks five late shifts, and one weekend.
+        self.assertEqual(["".join(cell.itertext()) for cell in finn[-4:]], ["0", "10", "0", "2"])
+
+    def test_a_wall_that_is_undone(self):
+        self.does("page")
+        self.assertIn(f"{self.ward}/wall.html is as it was: take it down\n", self.does("undo"))
+
+    def test_the_weeks_as_they_were_worked(self):
+        self.does("over", "Finn", "Fri", "off")
+        page = ElementTree.parse(self.ward / "worked.html")
+        finn = next(row for row in page.iter("tr") if "".join(row[0].itertext()) == "Finn")
+        self.assertEqual(["".join(cell.itertext()) for cell in finn[1:8]], ["Late Nurse"] * 2 + [""] * 3 + ["Late Nurse"] * 2)
+
+    def test_a_correction_with_its_skill(self):
+        self.does("over", "Amara", "Thu", "Day/Nurse")
+        self.assertIn(Cell("Amara", 3, "Day", "Nurse"), files.read_solution(self.last() / "roster-0.txt").cells)
+        self.does("undo")
+        status, _, said = run("plan", self.ward, "over", "Grace", "Thu", "Day/Charge")
+        self.assertEqual((status, said), (1, "inrc2pb-plan: 'Charge' is no skill of hers: write one of Nurse\n"))
+
+
+class Disks(KeptTest):
+    """A folder that cannot be written, and a disk that becomes full."""
+
+    def assert_unchanged(self, before):
+        self.assertEqual(self.texts(), before)
+        self.assertEqual([path.name for path in (self.ward / "plans").iterdir() if path.name[0] == "."], [])
+
+    def test_a_full_disk(self):
+        before = self.texts()
+        with mock.patch.object(ward_folder, "write_text", side_effect=OSError(errno.ENOSPC, "No space left on device")):
+            status, printed, said = run("plan", self.ward, "over")
+        self.assertEqual((status, printed, said.count("\n")), (3, "", 1), said)
+        self.assertRegex(said, "plans/0002-.*-over: No space left on device: the disk is full: free some space")
+        self.assert_unchanged(before)
+
+    def test_a_disk_that_is_full_after_the_plan(self):
+        with mock.patch.object(pages, "write_text", side_effect=OSError(errno.ENOSPC, "No space left on device")):
+            status, printed, _ = run("plan", self.ward, "over")
+        self.assertEqual(status, 3)
+        self.assertIn("the plan holds, but its pages are not written: ", printed)
+        self.assertTrue((self.last() / "plan.txt").exists())
+
+    def test_a_folder_that_may_not_be_written(self):
+        before = self.texts()
+        with mock.patch.object(ward_folder.tempfile, "mkdtemp", side_effect=OSError(errno.EACCES, "Permission denied", str(self.ward))):
+            status, printed, said = run("plan", self.ward, "over")
+        self.assertEqual((status, printed, said.count("\n")), (3, "", 1), said)
+        self.assertIn("Permission denied: you may not read or write it", said)
+        self.assert_unchanged(before)
+
+
+@unittest.skipUnless(HAS_CBC, "cbc is not installed")
+class NotKept(KeptTest):
+    def test_a_limit_that_no_plan_keeps(self):
+        for row in self.rows["contracts"][1:]:
+            row[1:3] = ["0", "2!"]
+        self.write()
+        status, printed, said = run("plan", self.ward, "plan", "--time", "5")
+        self.assertEqual(status, 6, said)
+        self.assertRegex(printed, "(?m)^week 1: no plan was found that keeps every limit: .* has [0-9]+ shifts of at most 2, above on ")
+        self.assertRegex(printed, "(?m)^week 1: lower minimum numbers, hold fewer shifts, or allow these nurses more; ")
+        self.assertIn("\nthis plan is written, but it does not keep what the first lines say: ", printed)
+        self.assertNotIn("gap", printed)
+
+
+@unittest.skipUnless(HAS_CBC, "cbc is not installed")
+class Agreed(KeptTest):
+    def setUp(self):
+        super().setUp()
+        # The swap costs points, which a free search would save.
+        self.does("swap", "Grace", "Mon", "Chen", "--do")
+        self.days = {("Grace", 0), ("Chen", 0)}
+
+    def test_an_absence_that_lifts_a_held_shift(self):
+        self.rows["plan"][1][8] = "Day/Charge"
+        self.write()
+        self.assertIn("Amara, Mon 7 Dec: leave lifts Day, which the spreadsheet holds\n", self.does("leave", "Amara", "Mon 1"))
+
+    def test_later_verbs_keep_a_swap(self):
+        self.assertEqual(self.agreed(), self.days)
+        self.does("ill", "Dilek", "Mon")
+        cells = self.cells()
+        self.assertEqual((cells["Chen", 0], ("Grace", 0) in cells), (("Day", "Nurse"), False))
+        self.assertEqual(self.agreed(), self.days)
+
+    def test_a_swap_that_cannot_be_kept_is_named(self):
+        printed = self.does("ill", "Chen", "Mon")
+        self.assertIn("this breaks an agreed swap: Chen, Mon 30 Nov: ill, agreed was Day Nurse\n", printed)
+        self.assertEqual(self.agreed(), {("Grace", 0)})
+
+    def test_a_second_search_may_break_a_swap_that_no_plan_keeps(self):
+        # Only Grace works nights, and the first one is needed.
+        for row in self.rows["nurses"][1:]:
+            row[3] = "" if row[0] == "Grace" else "Night"
+        self.rows["needs"] = [row for row in self.rows["needs"] if row[1] != "Night"]
+        self.rows["needs"].append(["", "Night", "Nurse", "1", *["0"] * 6])
+        self.write()
+        status, printed, said = run("plan", self.ward, "plan", "--time", "10")
+        self.assertEqual(status, 0, said)
+        self.assertIn("no plan was found that keeps all agreed swaps: a search for one that may break them\n", said)
+        self.assertIn("this breaks an agreed swap: Grace, Mon 30 Nov: Night Nurse, agreed was off\n", printed)
+
+
+if __name__ == "__main__":
+    unittest.main()
