@@ -4,25 +4,21 @@ PREFIX ?= /usr/local
 PROGRAM ?= out/inrc2pb
 FITS ?= out/inrc2pb-fits
 BOUND ?= out/inrc2pb-bound
-PERIOD_BOUND ?= out/inrc2pb-period-bound
 SHARE = $(DESTDIR)$(PREFIX)/share
 
-# rt lets one command at a time into a crate, and build.sh already runs two.
+# build.py uses all processors, and rt lets one command at a time into a crate.
 .NOTPARALLEL:
 
-.PHONY: all build who_fits try example tour solvers test programs bench fuzz dist deb install uninstall clean
+.PHONY: all build try example tour solvers test programs bench fuzz dist deb install uninstall clean
 
-all: build who_fits
+# The programs that `install` installs, each with its crate.
+CRATES = inrc2pb=inrc2pb inrc2pb-bound=inrc2pb_bound inrc2pb-fits=who_fits
 
-# Proves the crates in the order of crates.txt, then the programs. build.sh gives the schedule, its reason and its gain.
+all: build
+
+# Proves the crates below the programs, one for each processor at a time; build.py says in which order.
 build:
-	./build.sh
-
-# Lists the nurses who could fill each place of a week.
-who_fits:
-	cd crates/who_fits && rt run -- data/scenario.txt data/history.txt data/week.txt > /dev/null
-	mkdir -p out
-	cp crates/who_fits/out/who_fits out/inrc2pb-fits
+	./build.py $(CRATES)
 
 # Compiles without a proof and runs the example, in about a minute.
 try:
@@ -51,8 +47,6 @@ programs: all
 	cp out/inrc2pb crates/inrc2pb/out/inrc2pb
 	cd crates/inrc2pb_bound && rt run --backend rattle -- --version && mv out/inrc2pb_bound out/inrc2pb_bound.by-rattle
 	cp out/inrc2pb-bound crates/inrc2pb_bound/out/inrc2pb_bound
-	cd crates/inrc2pb_period_bound && rt run --backend rattle -- --version && mv out/inrc2pb_period_bound out/inrc2pb_period_bound.by-rattle
-	cp out/inrc2pb-period-bound crates/inrc2pb_period_bound/out/inrc2pb_period_bound
 	cd crates/call_report && rt run -- data/scenario.txt data/history.txt data/week.txt > /dev/null
 	cd crates/run_tests && rt test
 	cd crates/call_tests && rt test
@@ -82,7 +76,7 @@ ZSH = $(SHARE)/zsh/site-functions
 HELPERS = $(wildcard helpers/inrc2pb-*)
 MODULES = $(wildcard helpers/inrc2pb/*.py helpers/inrc2pb/*/*.py) helpers/inrc2pb/py.typed helpers/pyproject.toml
 TOP_PAGES = README.md CHANGELOG.md CONTRIBUTING.md
-COMPLETED = inrc2pb inrc2pb-bound inrc2pb-period-bound
+COMPLETED = inrc2pb inrc2pb-bound
 COMPLETIONS = "$(SHARE)/bash-completion/completions" "$(ZSH)" "$(SHARE)/fish/vendor_completions.d"
 
 # Installs the built programs, and builds nothing, so it can run as another user. Sources are in the clone only: an installed page
@@ -92,7 +86,6 @@ install:
 	mkdir -p "$(BIN)" "$(SHARE)/man/man1" "$(PAGES)/docs" "$(PAGES)/bench" $(COMPLETIONS)
 	install -m 755 "$(PROGRAM)" "$(BIN)/inrc2pb"
 	test ! -x "$(BOUND)" || install -m 755 "$(BOUND)" "$(BIN)/inrc2pb-bound"
-	test ! -x "$(PERIOD_BOUND)" || install -m 755 "$(PERIOD_BOUND)" "$(BIN)/inrc2pb-period-bound"
 	test ! -x "$(FITS)" || install -m 755 "$(FITS)" "$(BIN)/inrc2pb-fits"
 	for helper in $(notdir $(HELPERS)); do install -m 755 helpers/launcher.py "$(BIN)/$$helper" || exit; done
 	for module in $(MODULES:helpers/%=%); do install -D -m 644 "helpers/$$module" "$(SHARE)/inrc2pb/$$module" || exit; done
@@ -109,7 +102,7 @@ install:
 	    install -m 644 completions/inrc2pb-helpers.fish "$(SHARE)/fish/vendor_completions.d/$$helper.fish" || exit; \
 	done
 	install -m 644 $(TOP_PAGES) "$(PAGES)"
-	install -m 644 docs/*.md docs/*.svg "$(PAGES)/docs"
+	install -m 644 docs/*.md "$(PAGES)/docs"
 	sed -E -i 's|\[[^]]*\]\(\.\./(crates/[^)]*)\)|`\1`|g' "$(PAGES)"/docs/*.md
 	install -m 644 bench/README.md bench/*.svg "$(PAGES)/bench"
 	cp -R examples "$(PAGES)"
@@ -118,13 +111,13 @@ install:
 
 # Removes the files of `install`, with the same PREFIX, and what Python made of the library; then its own folders, if they are empty.
 uninstall:
-	rm -f "$(BIN)/inrc2pb" "$(BIN)/inrc2pb-bound" "$(BIN)/inrc2pb-period-bound" "$(BIN)/inrc2pb-fits" \
+	rm -f "$(BIN)/inrc2pb" "$(BIN)/inrc2pb-bound" "$(BIN)/inrc2pb-fits" \
 	    $(patsubst man/%,"$(SHARE)/man/man1/%",$(wildcard man/*.1)) \
 	    $(foreach name,$(COMPLETED) $(notdir $(HELPERS)),"$(SHARE)/bash-completion/completions/$(name)" \
 	    "$(SHARE)/fish/vendor_completions.d/$(name).fish") \
 	    $(foreach name,$(COMPLETED) inrc2pb-helpers,"$(ZSH)/_$(name)")
 	rm -f $(patsubst helpers/%,"$(BIN)/%",$(HELPERS)) $(patsubst helpers/%,"$(SHARE)/man/man1/%.1",$(HELPERS))
-	for page in $(TOP_PAGES) docs/*.md docs/*.svg bench/README.md bench/*.svg; do rm -f "$(PAGES)/$$page"; done
+	for page in $(TOP_PAGES) docs/*.md bench/README.md bench/*.svg; do rm -f "$(PAGES)/$$page"; done
 	find examples -type f ! -name '*.sh' -exec rm -f "$(PAGES)/{}" \;
 	rm -f $(patsubst helpers/%,"$(SHARE)/inrc2pb/%",$(MODULES))
 	test ! -d "$(SHARE)/inrc2pb" || find "$(SHARE)/inrc2pb" -name __pycache__ -prune -exec rm -r {} +

@@ -16,7 +16,7 @@ top=$stage/top
 pages=$top/usr/share/doc/inrc2pb
 mkdir "$top"
 install_to "$top" /usr ZSH="$top/usr/share/zsh/vendor-completions"
-strip --strip-all "$top"/usr/bin/inrc2pb{,-bound,-period-bound,-fits} || exit
+strip --strip-all "$top"/usr/bin/inrc2pb{,-bound,-fits} || exit
 gzip -n9 "$top"/usr/share/man/man1/*.1
 
 cat > "$pages/copyright" << 'TEXT'

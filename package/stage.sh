@@ -1,17 +1,16 @@
 # shellcheck shell=bash
 # The common part of archive and package. To be sourced at the top of the clone.
 #
-# PROGRAM, BOUND, PERIOD_BOUND and FITS name other programs than inrc2pb, inrc2pb-bound, inrc2pb-period-bound and inrc2pb-fits of out.
+# PROGRAM, BOUND and FITS name other programs than inrc2pb, inrc2pb-bound and inrc2pb-fits of out.
 umask 022
 export LC_ALL=C TZ=UTC
 . package/commit.sh
 
 PROGRAM=$(realpath -m "${PROGRAM:-out/inrc2pb}")
 BOUND=$(realpath -m "${BOUND:-out/inrc2pb-bound}")
-PERIOD_BOUND=$(realpath -m "${PERIOD_BOUND:-out/inrc2pb-period-bound}")
 FITS=$(realpath -m "${FITS:-out/inrc2pb-fits}")
-export PROGRAM BOUND PERIOD_BOUND FITS
-programs=("$PROGRAM" "$BOUND" "$PERIOD_BOUND" "$FITS")
+export PROGRAM BOUND FITS
+programs=("$PROGRAM" "$BOUND" "$FITS")
 for program in "${programs[@]}"; do
     [ -x "$program" ] || { echo "There is no $program yet: 'make' builds it."; exit 2; }
 done
@@ -28,7 +27,7 @@ trap 'rm -rf "$stage"' EXIT
 
 # install_to FOLDER PREFIX [VARIABLE=VALUE..]: the files of `make install`, and PROVED with the pages. Prints whether the gate passed.
 install_to() {
-    make -s --no-print-directory install PROGRAM="$PROGRAM" BOUND="$BOUND" PERIOD_BOUND="$PERIOD_BOUND" FITS="$FITS" \
+    make -s --no-print-directory install PROGRAM="$PROGRAM" BOUND="$BOUND" FITS="$FITS" \
         DESTDIR="$1" PREFIX="$2" "${@:3}" || exit
     package/proved.sh > "$1$2/share/doc/inrc2pb/PROVED"
     printf 'libc: %s or later\n' "$libc" >> "$1$2/share/doc/inrc2pb/PROVED"

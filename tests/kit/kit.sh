@@ -205,20 +205,13 @@ is_missing() {
 # has_line LINE: the last run printed it.
 has_line() { grep -qxF -- "$1" "$room/out" || complain "no line '$1'"; }
 
-# ---- The programs `inrc2pb-bound` and `inrc2pb-period-bound`, built by the same compiler if there are such builds.
+# ---- The program `inrc2pb-bound`, built by the same compiler if there is such a build.
 
 needs_bound() {
     bound=${BOUND:-crates/inrc2pb_bound/out/inrc2pb_bound}
     [ ! -x "$bound$ending" ] || bound=$bound$ending
     needs "$bound"
     bound=$(realpath "$bound")
-}
-
-needs_period_bound() {
-    period_bound=${PERIOD_BOUND:-crates/inrc2pb_period_bound/out/inrc2pb_period_bound}
-    [ ! -x "$period_bound$ending" ] || period_bound=$period_bound$ending
-    needs "$period_bound"
-    period_bound=$(realpath "$period_bound")
 }
 
 # ---- The values of public calls: runs of `call_report`, built by the same compiler if there is such a build.

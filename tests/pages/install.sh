@@ -9,13 +9,12 @@
 . "$(dirname "$0")/../kit/kit.sh"
 needs crates/who_fits/out/who_fits
 needs_bound
-needs_period_bound
 clone=$PWD
 installed=$room/installed/usr
 
 # make_target TARGET WORD..: as a user runs make, with the programs that are tested.
 make_target() {
-    make -s -C "$clone" "$@" PROGRAM="$program" BOUND="$bound" PERIOD_BOUND="$period_bound" FITS="$clone/crates/who_fits/out/who_fits" > "$out" 2>&1
+    make -s -C "$clone" "$@" PROGRAM="$program" BOUND="$bound" FITS="$clone/crates/who_fits/out/who_fits" > "$out" 2>&1
 }
 
 # The pages and files that an installed page names are installed too, with the headings that it names.
@@ -80,10 +79,8 @@ runs_commands() {
     for command in "$installed"/bin/*; do
         runs "${command##*/}" --help
     done
-    for command in inrc2pb-bound inrc2pb-period-bound; do
-        runs $command --version
-        has_line "$(sed -n "s/^## /$command /p" "$clone/CHANGELOG.md" | head -n 1)"
-    done
+    runs inrc2pb-bound --version
+    has_line "$(sed -n 's/^## /inrc2pb-bound /p' "$clone/CHANGELOG.md" | head -n 1)"
     runs inrc2pb-fits --help
     has_line 'Usage: inrc2pb-fits SCENARIO HISTORY WEEK'
     runs inrc2pb-fits "$ward/ward.txt" "$ward/history-0.txt" "$ward/week-0.txt"

@@ -10,11 +10,10 @@
 . "$(dirname "$0")/../kit/kit.sh"
 needs crates/who_fits/out/who_fits
 needs_bound
-needs_period_bound
 . tests/kit/stand_ins.sh
 stand_in_for_clasp
 
-export PROGRAM=$program BOUND=$bound PERIOD_BOUND=$period_bound
+export PROGRAM=$program BOUND=$bound
 FITS=$(realpath crates/who_fits/out/who_fits)
 export FITS
 version=$("$program" --version)

@@ -28,12 +28,10 @@ DECODE = ("rota_pb/src/decoding.rt", "run_decode")
 EXTEND = ("rota_pb/src/extending.rt", "run_extend")
 PERFORM = ("inrc2pb_job/src/job_run.rt", "perform")
 PROGRAM = ("inrc2pb_program/src/run.rt", "program")
-EXACT_ANSWERS = CRATES / "bound_run/specs/ExactAnswers.antt"
-ROWS = CRATES / "bound_run/specs/Rows.antt"
-BOUND = ("bound_run/src/run.rt", "run_bound")
-BOUND_PERFORM = ("bound_program/src/job_run.rt", "perform")
-BOUND_PROGRAM = ("bound_program/src/run.rt", "program")
-PERIOD_BOUND = ("period_bound/src/bound.rt", "bound_of_texts")
+EXACT_ANSWERS = CRATES / "rota_bound_run/specs/ExactAnswers.antt"
+BOUND = ("rota_bound_run/src/run.rt", "run_bound")
+BOUND_PERFORM = ("inrc2pb_bound_program/src/job_run.rt", "perform")
+BOUND_PROGRAM = ("inrc2pb_bound_program/src/run.rt", "program")
 
 
 class FileList(NamedTuple):
@@ -51,10 +49,12 @@ LISTS = [
     FileList("The exact text", [], [ENCODE], set()),
     FileList("Decode and extend", [], [DECODE, EXTEND], set()),
     FileList("The whole program", [], [PERFORM, PROGRAM], set()),
-    FileList("A proved bound", [], [BOUND, BOUND_PERFORM, BOUND_PROGRAM], {EXACT_ANSWERS, ROWS}),
+    FileList("What a bound means", ["rota_bound_run/specs/Claims.antt"], [], set()),
+    FileList("A proved bound", [], [BOUND, BOUND_PERFORM, BOUND_PROGRAM], {EXACT_ANSWERS}),
     FileList("The exact bound", [], [BOUND], set()),
-    FileList("The bound of a period", [], [PERIOD_BOUND], set()),
 ]
+# Names that two files of the lists define: these and no more.
+NAMES_OF_TWO = {"EndsInTurn", "check", "join", "read_week", "readers_of", "◌>>=◌"}
 USE = re.compile(r"(?m)^ *(?:pub )?(?:ghost )?use Rattle\.(\w+)\.specs\.([\w.]+?)(?:\.\{([^}]*)\})?(?: as \w+)?;?$")
 ROW = re.compile(r"(?m)^- `([\w/]+\.antt)` \((\d+)\):")
 FIRST_LISTS = 2
@@ -166,14 +166,13 @@ def uncommented(file: Path) -> Iterator[str]:
 
 
 def defined_twice(files: Iterable[Path]) -> Iterator[str]:
-    """The names of these files that another file of specs/ defines too. `rota_certificate` is to take the place of `rota_bound`, so
-    these two share names."""
+    """The names of these files that another file of specs/ defines too. `rota_certificate` shares some names with other crates."""
     owners: Dict[str, List[Path]] = {}
     for file in sorted(set(CRATES.glob("*/specs/**/*.antt")) - set(CRATES.glob("rota_certificate/specs/**/*.antt"))):
         for word in set(NAME.findall(file.read_text(encoding="utf-8"))):
             owners.setdefault(word, []).append(file)
     for word, found in sorted(owners.items()):
-        if len(found) > 1 and set(found) & set(files):
+        if len(found) > 1 and set(found) & set(files) and word not in NAMES_OF_TWO:
             yield f"{word} is defined in {' and in '.join(map(name, found))}"
 
 

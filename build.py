@@ -1,0 +1,338 @@
+#!/usr/bin/env python3
+"""Proves the crates below some programs, each as soon as those that it uses are proved, and leaves the programs in the folder `out`.
+
+usage: build.py PROGRAM=CRATE ..
+
+  PROGRAM=CRATE  the program of this crate becomes out/PROGRAM
+
+The order comes from crates.txt. Of the crates that can be proved, the one with the longest chain of crates above it comes first; a crate
+counts by the bytes of its sources. Each has a job for half of the processors, and one that is alone for all: the functions of a crate wait
+for one another, so more jobs are worth less and less. Crates start while fewer jobs run than there are processors.
+
+`rt` works on one crate at a time and locks those that it uses, so each crate is proved in a folder of its own, to which the libraries below
+it are linked. Its proofs then go back to its folder. A crate whose sources, libraries and kit are as they were is not tried again. After a
+failure, or Ctrl-C, what was proved is kept.
+"""
+
+import fcntl
+import graphlib
+import hashlib
+import os
+import shutil
+import signal
+import subprocess
+import sys
+import time
+from pathlib import Path
+from typing import Dict, Iterator, List, NamedTuple, Optional, Set
+
+ROOT = Path(__file__).resolve().parent
+OUT = ROOT / "out"
+ROOMS = OUT / "rooms"
+PAUSE = 0.1
+
+
+class Failed(Exception):
+    """Why the programs are not built."""
+
+
+class Crate(NamedTuple):
+    """A crate, its line of crates.txt, and the crates of this repository that it uses, the indirect ones too."""
+
+    name: str
+    line: str
+    below: Set[str]
+
+    @property
+    def home(self) -> Path:
+        """Its folder."""
+        return ROOT / "crates" / self.name
+
+    @property
+    def is_program(self) -> bool:
+        """Whether it is a program, not a library."""
+        return (self.home / "src" / "main.rt").exists()
+
+    @property
+    def made(self) -> Path:
+        """The file that `rt` writes last: the program, or the mark of the library."""
+        return self.home / "out" / (self.name if self.is_program else "rlib/stamp")
+
+    def sources(self) -> Iterator[Path]:
+        """The files that `rt` reads."""
+        for part in ("src", "specs", "proofs"):
+            yield from (path for path in sorted((self.home / part).rglob("*")) if path.is_file())
+
+
+# ---- the crates
+
+
+def crates_below(programs: List[str]) -> Dict[str, Crate]:
+    """The crates of these programs and those that they use, each after those that it uses."""
+    lines = {}
+    for line in (ROOT / "crates.txt").read_text().splitlines():
+        head, _, used = line.partition("#")[0].partition(":")
+        if head.strip():
+            lines[head.split()[0]] = (line, used.split())
+    graph = {name: {one for one in used if one in lines} for name, (_, used) in lines.items()}
+    crates: Dict[str, Crate] = {}
+    for name in graphlib.TopologicalSorter(graph).static_order():
+        crates[name] = Crate(name, lines[name][0], set(graph[name]).union(*(crates[one].below for one in graph[name])))
+    for name in programs:
+        if name not in crates or not crates[name].is_program:
+            raise Failed(f"crates.txt has no program {name}")
+    wanted = set(programs).union(*(crates[name].below for name in programs))
+    return {name: crate for name, crate in crates.items() if name in wanted}
+
+
+def chains(crates: Dict[str, Crate]) -> Dict[str, int]:
+    """For each crate the bytes of the longest chain from it up to a program."""
+    lengths: Dict[str, int] = {}
+    for name, crate in reversed(list(crates.items())):
+        above = [lengths[other] for other, one in crates.items() if name in one.below]
+        lengths[name] = sum(path.stat().st_size for path in crate.sources()) + max(above, default=0)
+    return lengths
+
+
+def sums_of_sources(crates: Dict[str, Crate]) -> Dict[str, str]:
+    """For each crate a checksum of all that its proofs depend on."""
+    kit = subprocess.run(["rt", "version"], stdout=subprocess.PIPE, check=True).stdout
+    sums: Dict[str, str] = {}
+    for name, crate in crates.items():
+        whole = hashlib.sha256(kit + (ROOT / "HANDLES").read_bytes() + crate.line.encode())
+        for path in crate.sources():
+            whole.update(repr((str(path.relative_to(crate.home)), path.read_bytes())).encode())
+        for other in sorted(crate.below):
+            whole.update(sums[other].encode())
+        sums[name] = whole.hexdigest()
+    return sums
+
+
+# ---- marks of what was proved
+
+
+def mark(crate: Crate, sources: str) -> str:
+    """The text of the crate's mark: the checksums of its sources, and of what was made from them."""
+    return f"{sources} {hashlib.sha256(crate.made.read_bytes()).hexdigest()}\n"
+
+
+def is_proved(crate: Crate, sources: str) -> bool:
+    """Whether the crate was proved as it is, and nothing else was made in its folder since."""
+    try:
+        return (crate.home / "out" / "proved").read_text() == mark(crate, sources)
+    except FileNotFoundError:
+        return False
+
+
+# ---- the room of a crate
+
+
+def link(source: Path, target: Path, *without: str) -> None:
+    """Gives the files of a folder a second name; `rt` replaces such files, and changes none."""
+    if source.exists():
+        shutil.copytree(source, target, copy_function=os.link, ignore=shutil.ignore_patterns(*without), dirs_exist_ok=True)
+
+
+def make_room(crate: Crate, crates: Dict[str, Crate]) -> Path:
+    """A folder in which the crate is proved: a repository of it and of those below it. Returns the crate's folder there."""
+    room = ROOMS / crate.name
+    folder = room / "crates" / crate.name
+    for name in sorted(crate.below):
+        link(crates[name].home, room / "crates" / name, "out", "must-fail")
+        link(crates[name].home / "out" / "rlib", room / "crates" / name / "out" / "rlib")
+    link(crate.home, folder, "out", "must-fail")
+    # A program runs once, on the data of its test.
+    link(crate.home / "data", folder)
+    (room / "crates.txt").write_text("".join(f"{one.line}\n" for one in crates.values() if one == crate or one.name in crate.below))
+    shutil.copy(ROOT / "HANDLES", room)
+    if (crate.home / "out").exists():
+        (crate.home / "out").rename(folder / "out")
+    return folder
+
+
+def leave_room(name: str) -> None:
+    """Moves the crate's proofs home, and removes the room."""
+    made, home = ROOMS / name / "crates" / name / "out", ROOT / "crates" / name / "out"
+    if made.exists() and not home.exists():
+        made.rename(home)
+    shutil.rmtree(ROOMS / name)
+
+
+def leave_rooms() -> None:
+    """Leaves all rooms, also those of a build that was killed."""
+    for room in ROOMS.iterdir() if ROOMS.exists() else ():
+        leave_room(room.name)
+    shutil.rmtree(ROOMS, ignore_errors=True)
+
+
+# ---- the build
+
+
+class Task:
+    """A crate that is being proved with this number of jobs."""
+
+    def __init__(self, crate: Crate, crates: Dict[str, Crate], jobs: int) -> None:
+        self.crate, self.jobs, self.began = crate, jobs, time.monotonic()
+        folder = make_room(crate, crates)
+        words = ["rt", "run" if crate.is_program else "lib", "--jobs", str(jobs)]
+        if (crate.home / "args").exists():
+            words += ["--", *(crate.home / "args").read_text().splitlines()]
+        self.log = folder.parents[1] / "log"
+        with self.log.open("wb") as log:
+            self.process = subprocess.Popen(words, cwd=folder, stdin=subprocess.DEVNULL, stdout=log, stderr=subprocess.STDOUT)
+
+
+class Build:
+    """The crates, those that are being proved, and those of which `rt` has to note where their proofs are."""
+
+    def __init__(self, crates: Dict[str, Crate], processors: int) -> None:
+        self.crates, self.processors, self.began = crates, processors, time.monotonic()
+        self.sums, self.chains = sums_of_sources(crates), chains(crates)
+        self.proved = 0
+        self.tasks: List[Task] = []
+        self.unnoted: List[str] = []
+        self.noting: Optional["subprocess.Popen[bytes]"] = None
+
+    def run(self) -> None:
+        """Proves all crates."""
+        graph = graphlib.TopologicalSorter({name: crate.below for name, crate in self.crates.items()})
+        graph.prepare()
+        ready = self.unproved(graph)
+        what = f"{self.processors} processor{'s' * (self.processors > 1)}"
+        while ready or self.tasks:
+            self.start(ready)
+            self.tell(what)
+            task = self.ended()
+            self.finish(task)
+            graph.done(task.crate.name)
+            ready += self.unproved(graph)
+            what = f"{task.crate.name} is proved, in {time.monotonic() - task.began:.0f} s"
+        self.tell("all crates are proved")
+
+    def unproved(self, graph: "graphlib.TopologicalSorter[str]") -> List[str]:
+        """The crates that can be proved now. Those that are proved as they are count as done."""
+        found: List[str] = []
+        new = graph.get_ready()
+        while new:
+            proved = [name for name in new if is_proved(self.crates[name], self.sums[name])]
+            found += [name for name in new if name not in proved]
+            graph.done(*proved)
+            self.proved += len(proved)
+            new = graph.get_ready()
+        return found
+
+    def start(self, ready: List[str]) -> None:
+        """Starts crates, the longest chain first, while fewer jobs run than there are processors."""
+        ready.sort(key=lambda name: -self.chains[name])
+        jobs = self.processors if len(ready) == 1 and not self.tasks else max(1, self.processors // 2)
+        while ready and sum(task.jobs for task in self.tasks) < self.processors:
+            self.tasks.append(Task(self.crates[ready.pop(0)], self.crates, jobs))
+
+    def ended(self) -> Task:
+        """Waits until a crate is done, and takes it from the tasks."""
+        while True:
+            for task in self.tasks:
+                if task.process.poll() is not None:
+                    self.tasks.remove(task)
+                    return task
+            self.note()
+            time.sleep(PAUSE)
+
+    def finish(self, task: Task) -> None:
+        """Takes the proofs of a crate back; a failure shows its log."""
+        crate = task.crate
+        if task.process.returncode != 0:
+            sys.stderr.write(task.log.read_text(errors="replace"))
+            raise Failed(f"{crate.name} is not proved: what rt said is above (its status is {task.process.returncode})")
+        leave_room(crate.name)
+        if not crate.made.exists():
+            raise Failed(f"rt made no {'program' if crate.is_program else 'library'} of {crate.name}")
+        (crate.home / "out" / "proved").write_text(mark(crate, self.sums[crate.name]))
+        self.proved += 1
+        if not crate.is_program:
+            self.unnoted.append(crate.name)
+
+    def note(self) -> bool:
+        """Has `rt` note where the proofs of a crate are, for checks in other clones, beside other work; whether it has to go on."""
+        if self.noting and self.noting.poll() is not None:
+            self.noting = None
+        if self.unnoted and not self.noting:
+            home, nothing = self.crates[self.unnoted.pop(0)].home, subprocess.DEVNULL
+            self.noting = subprocess.Popen(["nice", "rt", "check", "--jobs", "1"], cwd=home, stdin=nothing, stdout=nothing, stderr=nothing)
+        return self.noting is not None
+
+    def note_rest(self) -> None:
+        """Notes the rest of the crates."""
+        while self.note():
+            time.sleep(PAUSE)
+
+    def tell(self, what: str) -> None:
+        """Prints what was done, and what is being proved."""
+        minutes, seconds = divmod(round(time.monotonic() - self.began), 60)
+        names = ", ".join(sorted(task.crate.name for task in self.tasks))
+        doing = f"; proving {names}" if names else ""
+        print(f"{minutes:3}:{seconds:02}  {self.proved:2} of {len(self.crates)} crates: {what}{doing}", flush=True)
+
+    def stop(self) -> None:
+        """Ends what runs; `rt` ends its own commands."""
+        running = [task.process for task in self.tasks]
+        if self.noting:
+            running.append(self.noting)
+        for process in running:
+            process.terminate()
+        for process in running:
+            process.wait()
+
+
+def install(programs: Dict[str, str], crates: Dict[str, Crate]) -> None:
+    """Copies the programs to `out`."""
+    for program, name in programs.items():
+        new = OUT / f"{program}.new"
+        shutil.copy(crates[name].made, new)
+        new.replace(OUT / program)
+
+
+def build(programs: Dict[str, str]) -> None:
+    """Builds the programs; each is given with the name of its crate."""
+    crates = crates_below(list(programs.values()))
+    OUT.mkdir(exist_ok=True)
+    lock = os.open(OUT, os.O_RDONLY)
+    try:
+        fcntl.flock(lock, fcntl.LOCK_EX | fcntl.LOCK_NB)
+    except BlockingIOError:
+        raise Failed("another build is at work in this clone") from None
+    leave_rooms()
+    whole = Build(crates, len(os.sched_getaffinity(0)))
+    try:
+        whole.run()
+        install(programs, crates)
+        whole.note_rest()
+    finally:
+        for one in (signal.SIGINT, signal.SIGTERM, signal.SIGHUP):
+            signal.signal(one, signal.SIG_IGN)
+        whole.stop()
+        leave_rooms()
+
+
+def main(words: List[str]) -> int:
+    """Reads the command line; the exit status."""
+    programs = dict(word.split("=", 1) for word in words if "=" in word)
+    if not words or len(programs) < len(words):
+        print(__doc__, file=sys.stderr)
+        return 2
+    for one in (signal.SIGTERM, signal.SIGHUP):
+        signal.signal(one, signal.default_int_handler)
+    try:
+        build(programs)
+    except KeyboardInterrupt:
+        print("build.py: stopped; what was proved is kept", file=sys.stderr)
+        return 130
+    except Failed as fault:
+        print(f"build.py: {fault}", file=sys.stderr)
+        return 1
+    print(f"built: {' '.join(f'out/{program}' for program in programs)}")
+    return 0
+
+
+if __name__ == "__main__":
+    sys.exit(main(sys.argv[1:]))
