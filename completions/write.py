@@ -35,26 +35,20 @@ COMMANDS: Dict[str, Tuple[str, Options]] = {
     "extend": ("Turns a roster into a solver's answer", {**WEEK, **FROM, **HELP}),
 }
 BOUND: Options = {
-    **WEEK,
-    "--prices": ("file", "The price of each place, in thousandths of a point"),
-    "--cases": ("file", "The cases with their prices, which prove a higher bound than prices alone"),
-    "--roster": ("file", "A roster to judge, as a solution file"),
-    "--minimums": ("", "Leave out the soft rules, to prove that no roster exists"),
-    "--rows": ("", "Print the cheapest week of each nurse, too"),
-    **ANY,
-}
-PERIOD: Options = {
     "--sce": WEEK["--sce"],
     "--his": ("file", "The history before the first week"),
-    "--week": ("file", "The requirements and requests of a week, for each week in order"),
-    "--prices": ("file", "The price of each place of the week, in thousandths of a point"),
+    "--week": ("file", "The requirements and requests of each week, in order"),
+    "--fix": ("file", "Assignments to keep, as a solution file; of week N of several as N=FILE"),
     "--early": WEEK["--early"],
+    "--given": ("file", "Facts that all plans are asked to meet"),
+    "--proof": ("file", "The certificate of the bound: prices, or a tree of cases with prices"),
+    "--roster": ("file", "Rosters to judge, one for each week in order, as solution files"),
+    "--minimums": ("", "Leave out the soft rules, to prove that no rosters exist"),
     **ANY,
 }
 # The programs of one command. The options of the second list may be given several times.
 PLAIN: Dict[str, Tuple[Options, List[str]]] = {
-    "inrc2pb-bound": (BOUND, []),
-    "inrc2pb-period-bound": (PERIOD, ["--week", "--prices"]),
+    "inrc2pb-bound": (BOUND, ["--week", "--fix", "--roster"]),
 }
 FILES = list(dict.fromkeys(name for _, options in COMMANDS.values() for name, (kind, _) in options.items() if kind == "file"))
 

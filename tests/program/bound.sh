@@ -1,6 +1,6 @@
 #!/usr/bin/env bash
-# Runs `inrc2pb-bound`, and checks its exit status and its output: bounds of weeks whose optimum solvers proved, faults in
-# the order of the checks, and its words. Then compares it with plain programs on small weeks.
+# Runs `inrc2pb-bound`, and checks its exit status and its output: bounds of weeks whose optimum solvers proved, of a month, by cases and
+# under facts, faults in the order of the checks, and its words. tests/random/random_bounds.sh compares it with all plans of tiny periods.
 #
 #   tests/program/bound.sh [llvm | rattle | PROGRAM]
 #
@@ -15,18 +15,17 @@ examples=$PWD/examples
 five=(--sce "$examples/n005w4/ward.txt" --his "$examples/n005w4/history-0.txt" --week "$examples/n005w4/week-0.txt")
 thirty=(--sce "$examples/thirty/ward.txt" --his "$examples/thirty/history-3.txt" --week "$examples/thirty/week-3.txt")
 eight=(--sce "$examples/eight/ward.txt" --his "$examples/eight/history-1.txt" --week "$examples/eight/week-1.txt")
-prices=(--prices "$examples/n005w4/prices.txt")
+month=(--sce "$examples/month/ward.txt" --his "$examples/month/history-0.txt" --week "$examples"/month/week-{0,1,2,3}.txt)
+proof=(--proof "$examples/n005w4/certificate.txt")
 
-# prices NAME [ROW..]: a prices' file of the base's week.
-prices() {
-    {
-        printf 'PRICES\ns1\n\nROWS = %s\n' $(($# - 1))
-        [ $# = 1 ] || printf '%s\n' "${@:2}"
-    } > "$room/$1"
-}
+# certificate NAME WEEKS LINE..: a certificate for this number of weeks of the base: these are its lines after the number of the weeks.
+certificate() { printf '%s\n' CERTIFICATE s1 '' "WEEKS = $2" "${@:3}" > "$room/$1"; }
 
-# cases NAME LINE..: a cases' file of the base's week: these are its lines after the name.
-cases() { printf '%s\n' CASES s1 '' "${@:2}" > "$room/$1"; }
+# prices NAME [ROW..]: a certificate of one leaf for a week.
+prices() { certificate "$1" 1 'PRICES = 1' "ROWS = $(($# - 1))" "${@:2}" 'LEAVES = 1' 'LEAF 0 SURCHARGES = 0'; }
+
+# facts NAME ROW..: a file of facts.
+facts() { printf '%s\n' FACTS s1 '' "ROWS = $(($# - 1))" "${@:2}" > "$room/$1"; }
 
 # says WHAT LINES WORD..: the program prints these lines.
 says() {
@@ -37,19 +36,33 @@ says() {
 # The optima are in docs/solvers.md.
 proves_optima() {
     "$encoder" decode "${five[@]}" --answer "$examples/n005w4/answers/clasp.txt" --sol "$room/five" > "$room/report" || complain 'no roster'
-    grep -v 'Sara Mon' "$room/five" | sed 's/^ASSIGNMENTS = .*/ASSIGNMENTS = '"$(($(grep -c 'Nurse$' "$room/five") - 1))"'/' > "$room/worse"
-    says 'five nurses' 'lower bound 320\npenalty 320\noptimal\n' "${five[@]}" "${prices[@]}" --roster five
+    says 'five nurses' 'lower bound 320\npenalty 320\noptimal\n' "${five[@]}" "${proof[@]}" --roster five
     says 'five nurses without prices' 'lower bound 40\npenalty 320\n' "${five[@]}" --roster five
-    says 'thirty nurses' 'lower bound 605\n' "${thirty[@]}" --prices "$examples/thirty/prices.txt"
+    says 'thirty nurses' 'lower bound 605\n' "${thirty[@]}" --proof "$examples/thirty/certificate.txt"
     local ward folder
     for ward in last60:460 last120:1005; do
         folder=$examples/${ward%:*}
         says "${ward%:*}, where prices of 0 suffice" "lower bound ${ward#*:}\n" \
             --sce "$folder/ward.txt" --his "$folder/history-3.txt" --week "$folder/week-3.txt"
     done
-    says 'eight nurses' 'no roster exists\n' "${eight[@]}" --minimums --prices "$examples/eight/prices.txt"
+    says 'eight nurses' 'no roster exists\n' "${eight[@]}" --minimums --proof "$examples/eight/certificate.txt"
     says 'eight nurses without prices' 'no proof that no roster exists\n' "${eight[@]}" --minimums
-    says 'five nurses, the minimums' 'no proof that no roster exists\n' "${five[@]}" "${prices[@]}" --minimums
+    says 'five nurses, the minimums' 'no proof that no roster exists\n' "${five[@]}" "${proof[@]}" --minimums
+}
+
+# The bounds of one leaf and of prices of 0 are those that the helpers compute. In the even case 1815 is rounded up.
+bounds_a_month() {
+    local table
+    table=$(sed -n '/^PRICES/,/^LEAVES/p' "$examples/month/certificate.txt" | sed '$d')
+    certificate even_month 4 "$table" 'LEAVES = 1' 'LEAF 0 SURCHARGES = 0'
+    facts even 'HOLDS EVEN'
+    facts odd 'NOT EVEN'
+    says 'a month' 'lower bound 1815\n' "${month[@]}" --proof "$examples/month/certificate.txt"
+    says 'a month by two cases' 'lower bound 1820\n' "${month[@]}" --proof "$examples/month/two_cases.txt"
+    says 'a month, charged early' 'lower bound 1815\n' "${month[@]}" --early --proof "$examples/month/certificate.txt"
+    says 'a month without prices' 'lower bound 130\n' "${month[@]}"
+    says 'a month with an even number of charges of shift runs' 'lower bound 1820\n' "${month[@]}" --given even --proof even_month
+    says 'a month with an odd one' 'lower bound 1815\n' "${month[@]}" --given odd --proof even_month
 }
 
 # The base: one nurse, who works at least one day in a row.
@@ -57,133 +70,201 @@ bounds_the_base() {
     prices twos 'Day Nurse 2000 2000 2000 2000 2000 2000 2000'
     prices none
     says 'a roster of nobody' 'lower bound 0\npenalty 0\noptimal\n' "${week[@]}" --roster nobody
-    says 'prices that are too high' 'lower bound 0\n' "${week[@]}" --prices twos
-    says 'prices without a row' 'lower bound 0\n' "${week[@]}" --prices none
+    says 'prices that are too high' 'lower bound 0\n' "${week[@]}" --proof twos
+    says 'prices without a row' 'lower bound 0\n' "${week[@]}" --proof none
     says 'a held Wednesday' 'lower bound 0\npenalty 0\noptimal\n' "${week[@]}" --fix wednesday --roster wednesday
     says 'a shift type that nobody should work' 'lower bound 15\npenalty 15\noptimal\n' \
         --sce closed.txt --his history.txt --week week.txt --fix monday --roster monday
+    says 'two held cells of a day' 'no roster exists\n' --sce two_shifts.txt --his history.txt --week week.txt --fix both_shifts --minimums
     says 'two held days, of which the second may not follow' 'no roster exists\n' \
         --sce no_two.txt --his history.txt --week week.txt --fix two_days --minimums
 }
 
 # A shift on Monday costs Ann 15, and 30 are charged if nobody works there: 30 if she is off there, and 15 if she works.
 bounds_by_cases() {
-    local closed=(--sce closed.txt --his history.txt --week wanted.txt) table many number
+    local closed=(--sce closed.txt --his history.txt --week wanted.txt) lists=('PRICES = 2' 'ROWS = 1' 'Day Nurse 30000 0 0 0 0 0 0' 'ROWS = 0') choice
     changed week.txt wanted.txt 3 'REQUIREMENTS\nDay Nurse (0,1) (0,0) (0,0) (0,0) (0,0) (0,0) (0,0)'
-    cases free 'OFF = 0' REST 'ROWS = 0'
-    cases off_or_not 'OFF = 1' 'Ann Mon' 'ROWS = 1' 'Day Nurse 30000 0 0 0 0 0 0' REST 'ROWS = 0'
-    cases twice_off 'OFF = 2' 'Ann Mon' 'ROWS = 1' 'Day Nurse 30000 0 0 0 0 0 0' 'Ann Mon' 'ROWS = 1' 'Day Nurse 40000 0 0 0 0 0 0' REST 'ROWS = 0'
-    mapfile -t many < <(for ((number = 0; number < 250; number++)); do printf '%s\n' 'Ann Mon' 'ROWS = 1' 'Day Nurse 30000 0 0 0 0 0 0'; done)
-    cases often_off 'OFF = 250' "${many[@]}" REST 'ROWS = 0'
-    cases tuesday 'OFF = 1' 'Ann Tue' 'ROWS = 1' 'Day Nurse 30000 0 0 0 0 0 0' REST 'ROWS = 0'
-    cases no_price 'OFF = 1' 'Ann Mon' 'ROWS = 0' REST 'ROWS = 1' 'Day Nurse 30000 0 0 0 0 0 0'
+    for choice in None Day; do
+        certificate "monday_$choice" 1 "${lists[@]}" 'LEAVES = 2' "SPLIT CHOICE 1 Ann Mon $choice" 'LEAF 0 SURCHARGES = 0' 'LEAF 0 SURCHARGES = 0'
+    done
+    certificate one 1 "${lists[@]}" 'LEAVES = 1' 'LEAF 0 SURCHARGES = 0'
+    certificate place 1 "${lists[@]}" 'LEAVES = 2' 'SPLIT PLACE 1 Mon Day Nurse 0' 'LEAF 1 SURCHARGES = 0' 'LEAF 1 SURCHARGES = 0'
+    certificate priced_place 1 "${lists[@]}" 'LEAVES = 2' 'SPLIT PLACE 1 Mon Day Nurse 0' 'LEAF 1 SURCHARGES = 0' 'LEAF 0 SURCHARGES = 0'
+    certificate even 1 "${lists[@]}" 'LEAVES = 2' 'SPLIT EVEN' 'LEAF 0 SURCHARGES = 0' 'LEAF 0 SURCHARGES = 0'
+    certificate runs 1 "${lists[@]}" 'LEAVES = 2' 'SPLIT CHARGES SHIFT_RUNS ALL 0' 'LEAF 0 SURCHARGES = 0' 'LEAF 1 SURCHARGES = 1 15000'
+    certificate dear 1 "${lists[@]}" 'LEAVES = 2' 'SPLIT CHARGES SHIFT_RUNS NURSE Ann 0' 'LEAF 0 SURCHARGES = 0' 'LEAF 1 SURCHARGES = 1 15001'
+    certificate twice 1 "${lists[@]}" 'LEAVES = 3' 'SPLIT CHOICE 1 Ann Mon None' 'SPLIT CHOICE 1 Ann Mon None' 'LEAF 0 SURCHARGES = 0' \
+        'LEAF 1 SURCHARGES = 0' 'LEAF 0 SURCHARGES = 0'
     says 'no prices' 'lower bound 0\npenalty 15\n' "${closed[@]}" --roster monday
-    says 'no case' 'lower bound 0\npenalty 15\n' "${closed[@]}" --cases free --roster monday
-    says 'a day off, or not' 'lower bound 15\npenalty 15\noptimal\n' "${closed[@]}" --cases off_or_not --roster monday
-    says 'a day off, or not, and a roster without a shift' 'lower bound 15\npenalty 30\n' "${closed[@]}" --cases off_or_not --roster nobody
-    says 'a case twice' 'lower bound 15\n' "${closed[@]}" --cases twice_off
-    says 'a case 250 times' 'lower bound 15\n' "${closed[@]}" --cases often_off
-    says 'another day off' 'lower bound 15\n' "${closed[@]}" --cases tuesday
-    says 'a day off without prices' 'lower bound 0\n' "${closed[@]}" --cases no_price
-    table=$(sed -n '/^ROWS/,$p' "$examples/n005w4/prices.txt")
-    cases patrick 'OFF = 1' 'Patrick Sat' "$table" REST "$table"
-    says 'five nurses, and the same prices in both cases' 'lower bound 320\npenalty 320\noptimal\n' "${five[@]}" --cases patrick --roster five
+    says 'one leaf' 'lower bound 15\n' "${closed[@]}" --proof one
+    says 'a day off, or not' 'lower bound 15\npenalty 15\noptimal\n' "${closed[@]}" --proof monday_None --roster monday
+    says 'a day off, or not, and a roster without a shift' 'lower bound 15\npenalty 30\n' "${closed[@]}" --proof monday_None --roster nobody
+    says 'a shift, or not' 'lower bound 15\n' "${closed[@]}" --proof monday_Day
+    says 'a place with nobody, or with more' 'lower bound 0\n' "${closed[@]}" --proof place
+    says 'a place with nobody, or with more, and a price' 'lower bound 15\n' "${closed[@]}" --proof priced_place
+    says 'an even number of charges, or an odd one' 'lower bound 15\n' "${closed[@]}" --proof even
+    says 'no charge, or more with a surcharge' 'lower bound 15\n' "${closed[@]}" --proof runs
+    says 'a surcharge above the weight' 'lower bound 0\n' "${closed[@]}" --proof dear
+    says 'a fact twice on the same way' 'lower bound 15\n' "${closed[@]}" --proof twice
 }
 
-# More cases than a byte counts, and the most cases, bytes and nurses that files may have. In the case of 1000 nurses the last one is off, and the
-# price of a nurse on Monday is the cost of her shift; in the rest she works there, and costs 15.
+# A shift costs Ann 15 points, and 30 are charged if she does not work on the Monday of a week in which she is wanted.
+bounds_two_weeks() {
+    local two=(--sce wide.txt --his history.txt --week wanted.txt week.txt)
+    certificate mondays 2 'PRICES = 1' 'ROWS = 1' 'Day Nurse 30000 0 0 0 0 0 0' 'ROWS = 0' 'LEAVES = 1' 'LEAF 0 SURCHARGES = 0'
+    certificate later 2 'PRICES = 1' 'ROWS = 0' 'ROWS = 1' 'Day Nurse 30000 0 0 0 0 0 0' 'LEAVES = 1' 'LEAF 0 SURCHARGES = 0'
+    certificate sunday_too 2 'PRICES = 1' 'ROWS = 1' 'Day Nurse 30000 0 0 0 0 0 0' 'ROWS = 1' 'Day Nurse 0 0 0 0 0 0 15000' 'LEAVES = 1' \
+        'LEAF 0 SURCHARGES = 0'
+    facts off 'HOLDS CHOICE 1 Ann Mon None'
+    facts not_off 'NOT CHOICE 1 Ann Mon None' 'NOT PLACE 2 Sun Day Nurse 0'
+    facts both 'HOLDS CHOICE 1 Ann Mon None' 'NOT CHOICE 1 Ann Mon None'
+    facts none.facts
+    says 'two weeks' 'lower bound 15\npenalty 15\noptimal\n' "${two[@]}" --proof mondays --roster monday nobody
+    says 'the week twice' 'lower bound 15\npenalty 45\n' --sce wide.txt --his history.txt --week wanted.txt --week wanted.txt --proof mondays \
+        --roster monday --roster nobody
+    says 'prices of the other week' 'lower bound 0\npenalty 30\n' "${two[@]}" --proof later --roster nobody nobody
+    says 'a run over the end of a week' 'lower bound 0\npenalty 15\n' --sce one_day.txt --his history.txt --week week.txt week.txt \
+        --roster sunday monday
+    says 'a held cell of the second week' 'lower bound 15\npenalty 45\n' "${two[@]}" --fix 2=monday --roster nobody monday
+    says 'held cells of both weeks' 'lower bound 30\npenalty 30\noptimal\n' "${two[@]}" --fix 1=monday --fix 2=monday --roster monday monday
+    says 'no facts' 'lower bound 15\n' "${two[@]}" --proof mondays --given none.facts
+    says 'an absence' 'lower bound 30\npenalty 30\noptimal\n' "${two[@]}" --proof mondays --given off --roster nobody nobody
+    says 'two shifts' 'lower bound 30\npenalty 30\noptimal\n' "${two[@]}" --proof sunday_too --given not_off --roster monday sunday
+    says 'facts that exclude each other' 'no roster exists\n' "${two[@]}" --given both --minimums
+    refuses 'a fact that rosters do not meet' 6 'given fact 1 is not met' "${two[@]}" --given off --roster monday nobody
+    refuses 'the second fact' 6 'given fact 2 is not met' "${two[@]}" --given not_off --roster monday nobody
+    refuses 'a hard rule in the second week' 6 'week 2: roster breaks H3' --sce no_two.txt --his history.txt --week week.txt week.txt \
+        --roster sunday monday
+    refuses 'a held cell that the second roster lacks' 6 'week 2: roster breaks H5' "${two[@]}" --fix 2=monday --roster nobody nobody
+    refuses 'the rules before the facts' 6 'week 2: roster breaks H5' "${two[@]}" --fix 2=monday --given off --roster monday nobody
+}
+
+# More leaves than a byte counts, and the most leaves, bytes and nurses that files may have. In the case of 1000 nurses the last one is off, and
+# the price of a nurse on Monday is the cost of her shift; otherwise she works there, and costs 15.
 bounds_at_the_limits() {
-    local closed=(--sce closed.txt --his history.txt --week wanted.txt) most
-    mapfile -t most < <(yes 'Ann Mon ROWS = 1 Day Nurse 30000 0 0 0 0 0 0' | head -n 9999)
-    cases thousand_off 'OFF = 1000' "${most[@]:0:1000}" REST 'ROWS = 0'
-    cases most_off 'OFF = 9999' "${most[@]}"
-    filled off_or_not longest_cases 4194304
-    filled off_or_not longer_cases 4194305
-    says 'a case 1000 times' 'lower bound 15\n' "${closed[@]}" --cases thousand_off
-    refuses 'a case 9999 times, without the rest' 1 'cases line 10003: end of file' "${closed[@]}" --cases most_off
-    says 'the longest cases' 'lower bound 15\n' "${closed[@]}" --cases longest_cases
-    refuses 'cases that are too long' 1 'cases: out of limits' "${closed[@]}" --cases longer_cases
+    local closed=(--sce closed.txt --his history.txt --week wanted.txt) list=('PRICES = 1' 'ROWS = 1' 'Day Nurse 30000 0 0 0 0 0 0') nodes
+    mapfile -t nodes < <(yes "SPLIT CHOICE 1 Ann Mon None LEAF 0 SURCHARGES = 0" | head -n 9998)
+    certificate thousand_leaves 1 "${list[@]}" 'LEAVES = 1000' "${nodes[@]:0:999}" 'LEAF 0 SURCHARGES = 0'
+    certificate most_leaves 1 "${list[@]}" 'LEAVES = 9999' "${nodes[@]}" 'LEAF 0 SURCHARGES = 0'
+    certificate no_last_leaf 1 "${list[@]}" 'LEAVES = 9999' "${nodes[@]}"
+    filled one longest_certificate 4194304
+    filled one longer_certificate 4194305
+    says '1000 leaves' 'lower bound 15\n' "${closed[@]}" --proof thousand_leaves
+    says 'the most leaves' 'lower bound 15\n' "${closed[@]}" --proof most_leaves
+    refuses 'the most leaves, without the last' 1 'certificate line 10006: end of file' "${closed[@]}" --proof no_last_leaf
+    says 'the longest certificate' 'lower bound 15\n' "${closed[@]}" --proof longest_certificate
+    refuses 'a certificate that is too long' 1 'certificate: out of limits' "${closed[@]}" --proof longer_certificate
     { head -n 10 "$room/closed.txt"; echo 'NURSES = 1000'; seq -f 'N%.0f Full 1 Nurse' 1000; } > "$room/thousand.txt"
     { head -n 3 "$room/history.txt"; seq -f 'N%.0f 0 0 None 0 0 0' 1000; } > "$room/thousand_history.txt"
-    cases last_off 'OFF = 1' 'N1000 Mon' 'ROWS = 1' 'Day Nurse 15000 0 0 0 0 0 0' REST 'ROWS = 0'
+    certificate last_off 1 'PRICES = 2' 'ROWS = 1' 'Day Nurse 15000 0 0 0 0 0 0' 'ROWS = 0' 'LEAVES = 2' 'SPLIT CHOICE 1 N1000 Mon None' \
+        'LEAF 0 SURCHARGES = 0' 'LEAF 1 SURCHARGES = 0'
     says 'a day off of the last of 1000 nurses' 'lower bound 15\n' \
-        --sce thousand.txt --his thousand_history.txt --week wanted.txt --cases last_off
+        --sce thousand.txt --his thousand_history.txt --week wanted.txt --proof last_off
+}
+
+# says_within SECONDS WHAT LINES WORD..: as `says`, and in this time; it is much more than an idle machine needs.
+says_within() {
+    local began=$SECONDS limit=$1
+    says "${@:2}"
+    [ $((SECONDS - began)) -le "$limit" ] || complain "it took $((SECONDS - began)) s"
+}
+
+# The bound of eight weeks of 120 nurses is the one that the helpers compute. A nurse is needed on each Monday of a year, and the sixth shift of
+# each of five nurses costs 20: 25 of 52 shifts are free. A tree of 100 cases of 30 nurses has the bound of its one list of prices, which
+# is the penalty of the best roster.
+bounds_in_time() {
+    local folder=$examples/last120 names node nodes
+    sed 's/^WEEKS = .*/WEEKS = 8/' "$folder/ward.txt" > "$room/eight_weeks.txt"
+    sed '2s/^3/0/' "$folder/history-3.txt" > "$room/eight_weeks_history.txt"
+    says_within 60 'eight weeks of 120 nurses' 'lower bound 52415\n' --sce eight_weeks.txt --his eight_weeks_history.txt \
+        --week "$folder"/week-3.txt{,,,,,,,}
+    { sed 's/^WEEKS = .*/WEEKS = 52/; 6s/.*/Day (0,9)/' "$room/scenario.txt" | head -n 9; echo 'Full (0,5) (0,9) (0,9999) 52 0'; echo 'NURSES = 5'
+        seq -f 'N%.0f Full 1 Nurse' 5; } > "$room/year.txt"
+    { head -n 3 "$room/history.txt"; seq -f 'N%.0f 0 0 None 0 0 0' 5; } > "$room/year_history.txt"
+    changed week.txt needed.txt 3 'REQUIREMENTS\nDay Nurse (1,1) (0,0) (0,0) (0,0) (0,0) (0,0) (0,0)'
+    mapfile -t nodes < <(yes 'ROWS = 1 Day Nurse 20000 0 0 0 0 0 0' | head -n 52)
+    certificate year_prices 52 'PRICES = 1' "${nodes[@]}" 'LEAVES = 1' 'LEAF 0 SURCHARGES = 0'
+    mapfile -t nodes < <(yes needed.txt | head -n 52)
+    says_within 60 'a year of five nurses' 'lower bound 540\n' --sce year.txt --his year_history.txt --week "${nodes[@]}" --proof year_prices
+    mapfile -t names < <(awk '/^NURSES/ { inside = 1; next } inside && NF { print $1 }' "$examples/thirty/ward.txt")
+    nodes=()
+    for node in {Mon,Tue,Wed,Thu}; do nodes+=("${names[@]/%/ $node None LEAF 0 SURCHARGES = 0}"); done
+    nodes=("${nodes[@]/#/SPLIT CHOICE 1 }")
+    { sed '/^LEAVES/,$d' "$examples/thirty/certificate.txt"; printf '%s\n' 'LEAVES = 100' "${nodes[@]:0:99}" 'LEAF 0 SURCHARGES = 0'; } > "$room/hundred"
+    says_within 60 'a hundred cases of thirty nurses' 'lower bound 605\n' "${thirty[@]}" --proof hundred
 }
 
 # Two nurses are wanted on Monday, and the ward has one.
 proves_by_cases() {
-    local short=(--sce scenario.txt --his history.txt --week two.txt)
+    local short=(--sce scenario.txt --his history.txt --week two.txt) lists=('PRICES = 2' 'ROWS = 1' 'Day Nurse 1 0 0 0 0 0 0' 'ROWS = 0')
     changed week.txt two.txt 3 'REQUIREMENTS\nDay Nurse (2,0) (0,0) (0,0) (0,0) (0,0) (0,0) (0,0)'
-    cases paid 'OFF = 1' 'Ann Mon' 'ROWS = 1' 'Day Nurse 1 0 0 0 0 0 0' REST 'ROWS = 1' 'Day Nurse 1 0 0 0 0 0 0'
-    cases rest_unpaid 'OFF = 1' 'Ann Mon' 'ROWS = 1' 'Day Nurse 1 0 0 0 0 0 0' REST 'ROWS = 0'
-    says 'no roster in both cases' 'no roster exists\n' "${short[@]}" --cases paid --minimums
-    says 'no roster with a day off' 'no proof that no roster exists\n' "${short[@]}" --cases rest_unpaid --minimums
-}
-
-# Each nurse's cheapest week; of weeks that are equally cheap the first: a day off comes before a shift.
-prints_rows() {
-    prices days 'Day Nurse 0 40000 0 0 0 0 0'
-    says 'a row without prices' 'lower bound 0\nAnn 0 0 None None None None None None None\n' "${week[@]}" --rows
-    says 'a row with a price that pays' 'lower bound 0\nAnn 0 40000 None Day Nurse None None None None None\n' \
-        "${week[@]}" --rows --prices days
-    says 'a row that is charged' 'lower bound 15\nAnn 15 0 Day Nurse None None None None None None\n' \
-        --sce closed.txt --his history.txt --week week.txt --fix monday --rows
-    says 'a row of the minimums' 'no proof that no roster exists\nAnn 0 0 Day Nurse None None None None None None\n' \
-        --sce closed.txt --his history.txt --week week.txt --fix monday --rows --minimums
-    says 'no row' 'no roster exists\nAnn none\n' --sce no_two.txt --his history.txt --week week.txt --fix two_days --minimums --rows
+    certificate paid 1 "${lists[@]}" 'LEAVES = 2' 'SPLIT CHOICE 1 Ann Mon None' 'LEAF 0 SURCHARGES = 0' 'LEAF 0 SURCHARGES = 0'
+    certificate rest_unpaid 1 "${lists[@]}" 'LEAVES = 2' 'SPLIT CHOICE 1 Ann Mon None' 'LEAF 0 SURCHARGES = 0' 'LEAF 1 SURCHARGES = 0'
+    says 'no roster in both cases' 'no roster exists\n' "${short[@]}" --proof paid --minimums
+    says 'no roster with a day off' 'no proof that no roster exists\n' "${short[@]}" --proof rest_unpaid --minimums
 }
 
 refuses_files() {
     prices twice 'Day Nurse 1 1 1 1 1 1 1' 'Day Nurse 1 1 1 1 1 1 1'
     prices high 'Day Nurse 1 1 1 1 1 1 1000000000'
-    prices six 'Day Nurse 1 1 1 1 1 1'
     prices unknown 'Day Cook 1 1 1 1 1 1 1'
-    cp "$room/none" "$room/more"
-    echo more >> "$room/more"
+    certificate other_weeks 2 'PRICES = 1' 'ROWS = 0' 'ROWS = 0' 'LEAVES = 1' 'LEAF 0 SURCHARGES = 0'
+    certificate no_leaf 1 'PRICES = 1' 'ROWS = 0' 'LEAVES = 2' 'SPLIT EVEN' 'LEAF 0 SURCHARGES = 0'
+    certificate other_fact 1 'PRICES = 1' 'ROWS = 0' 'LEAVES = 2' 'SPLIT ODD' 'LEAF 0 SURCHARGES = 0' 'LEAF 0 SURCHARGES = 0'
+    { cat "$room/none"; echo more; } > "$room/more"
     { cat "$room/none"; head -c 4194304 /dev/zero | tr '\0' ' '; } > "$room/long"
-    refuses 'a row twice' 1 'prices line 6: repeated' "${week[@]}" --prices twice
-    refuses 'a price beyond the limit' 1 'prices line 5: out of limits' "${week[@]}" --prices high
-    refuses 'six prices' 1 'prices line 5: end of file' "${week[@]}" --prices six
-    refuses 'an unknown skill' 1 'prices line 5: unknown name' "${week[@]}" --prices unknown
-    refuses 'text after the end' 1 'prices line 5: text after the end' "${week[@]}" --prices more
-    refuses 'a file that is too long' 1 'prices: out of limits' "${week[@]}" --prices long
-    refuses 'an empty file' 1 'prices line 1: end of file' "${week[@]}" --prices nothing
-    refuses 'no such prices' 3 'read failed' "${week[@]}" --prices missing
-    cases nobody_off 'OFF = 1' 'Bob Mon' 'ROWS = 0' REST 'ROWS = 0'
-    cases no_day 'OFF = 1' 'Ann Day' 'ROWS = 0' REST 'ROWS = 0'
-    cases no_rest 'OFF = 1' 'Ann Mon' 'ROWS = 0'
-    cases high_rest 'OFF = 0' REST 'ROWS = 1' 'Day Nurse 1 1 1 1 1 1 1000000000'
-    refuses 'an unknown nurse off' 1 'cases line 5: unknown name' "${week[@]}" --cases nobody_off
-    refuses 'an unknown day off' 1 'cases line 5: unknown name' "${week[@]}" --cases no_day
-    refuses 'cases without the rest' 1 'cases line 6: end of file' "${week[@]}" --cases no_rest
-    refuses 'a price of the rest beyond the limit' 1 'cases line 7: out of limits' "${week[@]}" --cases high_rest
-    refuses 'prices as cases' 1 'cases line 1: another word expected' "${week[@]}" --cases none
-    refuses 'no such cases' 3 'read failed' "${week[@]}" --cases missing
+    refuses 'a row twice' 1 'certificate line 8: repeated' "${week[@]}" --proof twice
+    refuses 'a price beyond the limit' 1 'certificate line 7: out of limits' "${week[@]}" --proof high
+    refuses 'an unknown skill' 1 'certificate line 7: unknown name' "${week[@]}" --proof unknown
+    refuses 'a certificate for two weeks' 1 'certificate line 4: out of limits' "${week[@]}" --proof other_weeks
+    refuses 'a split without its second half' 1 'certificate line 9: end of file' "${week[@]}" --proof no_leaf
+    refuses 'an unknown fact' 1 'certificate line 8: another word expected' "${week[@]}" --proof other_fact
+    refuses 'text after the end' 1 'certificate line 9: text after the end' "${week[@]}" --proof more
+    refuses 'a file that is too long' 1 'certificate: out of limits' "${week[@]}" --proof long
+    refuses 'an empty file' 1 'certificate line 1: end of file' "${week[@]}" --proof nothing
+    refuses 'no such certificate' 3 'read failed' "${week[@]}" --proof missing
+    facts nobody_off 'HOLDS CHOICE 1 Bob Mon None'
+    facts no_day 'HOLDS CHOICE 1 Ann Day None'
+    facts no_week 'HOLDS CHOICE 2 Ann Mon None'
+    facts neither 'CHOICE 1 Ann Mon None'
+    refuses 'an unknown nurse off' 1 'facts line 5: unknown name' "${week[@]}" --given nobody_off
+    refuses 'an unknown day off' 1 'facts line 5: unknown name' "${week[@]}" --given no_day
+    refuses 'a day off of a week that is not there' 1 'facts line 5: out of limits' "${week[@]}" --given no_week
+    refuses 'a fact that neither holds nor not' 1 'facts line 5: another word expected' "${week[@]}" --given neither
+    refuses 'a certificate as facts' 1 'facts line 1: another word expected' "${week[@]}" --given none
+    refuses 'no such facts' 3 'read failed' "${week[@]}" --given missing
     refuses 'no such roster' 3 'read failed' "${week[@]}" --roster missing
-    refuses 'a folder as prices' 3 'read failed' "${week[@]}" --prices .
+    refuses 'no such second week' 3 'read failed' "${week[@]}" --week missing
+    refuses 'a folder as a certificate' 3 'read failed' "${week[@]}" --proof .
     refuses 'two shift types on a day' 6 'roster breaks H1' --sce two_shifts.txt --his history.txt --week week.txt --roster both_shifts
     refuses 'a roster without a held cell' 6 'roster breaks H5' "${week[@]}" --fix wednesday --roster nobody
+    refuses 'more weeks than the scenario has' 1 'week 3: history: week not below WEEKS' "${week[@]}" --week week.txt week.txt
+    refuses 'a week after the last one' 1 'history: week not below WEEKS' --sce scenario.txt --his late.txt --week week.txt
     out=/dev/full refuses 'a full standard output' 3 'write failed' "${week[@]}"
 }
 
 # Each file has a fault from some place on; the first one in the order of the checks is reported.
 checks_in_order() {
-    local files=(--sce twice --his twice --week twice --fix twice --prices twice --roster twice)
+    local files=(--sce twice --his twice --week twice twice --fix '1=twice' --fix '2=twice' --given twice --proof twice --roster twice twice)
     refuses 'the scenario first' 1 'scenario line 1: another word expected' "${files[@]}"
     files[1]=scenario.txt
     refuses 'then the history' 1 'history line 1: another word expected' "${files[@]}"
-    files[3]=late.txt
-    refuses 'then the week' 1 'week line 1: another word expected' "${files[@]}"
-    files[5]=week.txt
-    refuses 'then its number' 1 'history: week not below WEEKS' "${files[@]}"
     files[3]=history.txt
-    refuses 'then the held cells' 1 'fix line 1: another word expected' "${files[@]}"
-    files[7]=nobody
-    refuses 'then the prices' 1 'prices line 6: repeated' "${files[@]}"
-    files[9]=none
-    refuses 'then the roster' 1 'solution line 1: another word expected' "${files[@]}"
-    files[8]=--cases
-    refuses 'the cases before the roster' 1 'cases line 1: another word expected' "${files[@]}"
+    refuses 'then the first week' 1 'week 1: week line 1: another word expected' "${files[@]}"
+    files[5]=week.txt
+    refuses 'then its held cells' 1 'week 1: fix line 1: another word expected' "${files[@]}"
+    files[8]='1=nobody'
+    refuses 'then the second week' 1 'week 2: week line 1: another word expected' "${files[@]}"
+    files[6]=week.txt
+    refuses 'then its held cells, too' 1 'week 2: fix line 1: another word expected' "${files[@]}"
+    files[10]='2=nobody'
+    refuses 'then the facts' 1 'facts line 1: another word expected' "${files[@]}"
+    files[12]=none.facts
+    refuses 'then the certificate' 1 'certificate line 4: out of limits' "${files[@]}"
+    files[14]=other_weeks
+    refuses 'then the first roster' 1 'week 1: solution line 1: another word expected' "${files[@]}"
+    files[16]=nobody
+    refuses 'then the second roster' 1 'week 2: solution line 1: another word expected' "${files[@]}"
 }
 
 checks_words() {
@@ -195,12 +276,13 @@ checks_words() {
     misused 'no week' "$lacking" --sce scenario.txt --his history.txt
     misused 'an unknown option' "unexpected argument '--sol' found" "${week[@]}" --sol x
     misused 'a command' "unexpected argument 'encode' found" encode "${week[@]}"
-    misused 'prices twice' "the argument '--prices <FILE>' cannot be used multiple times" "${week[@]}" --prices none --prices none
+    misused 'the certificate twice' "the argument '--proof <FILE>' cannot be used multiple times" "${week[@]}" --proof none --proof none
     misused 'the minimums and a roster' '--minimums excludes --roster' "${week[@]}" --minimums --roster nobody
-    misused 'cases twice' "the argument '--cases <FILE>' cannot be used multiple times" "${week[@]}" --cases free --cases free
-    misused 'prices and cases' '--prices excludes --cases' "${week[@]}" --prices none --cases free
-    misused 'the rows and cases' '--rows excludes --cases' "${week[@]}" --rows --cases free
-    misused 'the rows and a roster' '--rows excludes --roster' "${week[@]}" --rows --roster nobody
+    misused 'a roster too few' 'each --week needs one --roster' "${week[@]}" --week week.txt --roster nobody
+    misused 'a roster too many' 'each --week needs one --roster' "${week[@]}" --roster nobody nobody
+    misused 'held cells of a week that is not there' 'each --fix N=FILE needs a --week of its own' "${week[@]}" --fix 2=monday
+    misused 'held cells of a week twice' 'each --fix N=FILE needs a --week of its own' "${week[@]}" --fix 1=monday --fix 1=wednesday
+    misused 'held cells of no week' 'each --fix N=FILE needs a --week of its own' "${week[@]}" --week week.txt --fix monday
     out=/dev/full
     line fault 'inrc2pb-bound: write failed'
     run 'help on a full device' 3 nothing fault --help
@@ -209,18 +291,20 @@ checks_words() {
 
 solution both_shifts 'Ann Mon Early Nurse' 'Ann Mon Late Nurse'
 solution two_days "${all_days[@]:0:2}"
+solution sunday "${all_days[6]}"
 changed scenario.txt no_two.txt 8 'Day 1 Day'
+# Without limits of a contract.
+changed closed.txt wide.txt 10 'Full (0,99) (0,99) (0,99) 99 0'
+changed wide.txt one_day.txt 6 'Day (1,1)'
 proves_optima
+bounds_a_month
 bounds_the_base
 bounds_by_cases
+bounds_two_weeks
 bounds_at_the_limits
+bounds_in_time
 proves_by_cases
-prints_rows
 refuses_files
 checks_in_order
 checks_words
-for plain in every_week every_case; do
-    begins_case "small weeks against $plain.py"
-    "tests/random/$plain.py" "$program" || complain "tests/random/$plain.py fails"
-done
 finish

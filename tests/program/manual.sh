@@ -10,12 +10,9 @@
 . completions/inrc2pb.bash
 # shellcheck source=completions/inrc2pb-bound.bash
 . completions/inrc2pb-bound.bash
-# shellcheck source=completions/inrc2pb-period-bound.bash
-. completions/inrc2pb-period-bound.bash
 # shellcheck source=completions/inrc2pb-helpers.bash
 . completions/inrc2pb-helpers.bash
 needs_bound
-needs_period_bound
 
 # The options that the lines on standard input name, in one line.
 options() { grep -oE '(^| |\[)--?[a-z]+' | grep -oE -- '--[a-z]+' | sort -u | tr '\n' ' '; }
@@ -35,7 +32,7 @@ explained() { sed -n '/^\.Sh OPTIONS/,/^\.Sh FILES/s/^\.It Fl \(. , \)\{0,1\}-/-
 
 # texts_of_help [COMMAND]: a line `OPTION TEXT` for each option in its help, without the default.
 texts_of_help() {
-    "$program" "$@" --help | sed -nE 's/^ *(-[a-zA-Z], )?--([a-z]+)( <FILE>)?  +([^[]*[^[ ]).*/\2 \4/p' | sort
+    "$program" "$@" --help | sed -nE 's/^ *(-[a-zA-Z], )?--([a-z]+)( <FILE>(\.\.\.)?)?  +([^[]*[^[ ]).*/\2 \5/p' | sort
 }
 
 # texts_of_completion COMMAND: the same of the completion for zsh.
@@ -118,7 +115,7 @@ completions_are_written() {
     local file offered
     begins_case 'the completions'
     completions/write.py "$room"
-    for file in inrc2pb{,-bound,-period-bound,-helpers}.{bash,fish} _inrc2pb{,-bound,-period-bound,-helpers}; do
+    for file in inrc2pb{,-bound,-helpers}.{bash,fish} _inrc2pb{,-bound,-helpers}; do
         cmp -s "$room/$file" "completions/$file" || complain "$file is not as write.py writes it"
     done
     if has zsh; then
@@ -169,7 +166,6 @@ is_manual() {
 
 names_the_same
 names_the_same_of inrc2pb-bound "$bound" _inrc2pb_bound
-names_the_same_of inrc2pb-period-bound "$period_bound" _inrc2pb_period_bound
 completes
 completes_helpers
 completions_are_written

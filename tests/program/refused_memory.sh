@@ -13,7 +13,6 @@
 # and a C compiler: $CC, else cc, else the clang of Rattle's kit.
 . "$(dirname "$0")/../kit/kit.sh"
 needs_bound
-needs_period_bound
 whole_runs=crates/run_tests/out/run_tests_tests
 tables=crates/call_tests/out/call_tests_tests
 if [ -z "$ending" ]; then
@@ -61,7 +60,9 @@ is_like_ample() {
     [ $ended = "$ample" ] || return 1
     for stream in out err made; do cmp -s "$room/$stream" "$room/ample_$stream" || return 1; done
 }
-ends_for_memory() { [ $ended = 4 ] && cmp -s "$room/err" "$room/out_of_memory" && ! [ -s "$room/out" ] && ! [ -e "$room/made" ]; }
+# If there are several weeks, the line may name one of them.
+says_memory() { sed 's/: week [0-9]*: /: /' "$room/err" | cmp -s - "$room/out_of_memory"; }
+ends_for_memory() { [ $ended = 4 ] && says_memory && ! [ -s "$room/out" ] && ! [ -e "$room/made" ]; }
 ends_right() {
     if [ "$1" = refused ] && ends_for_memory; then return; fi
     [ "$1" = whole ] || went_on=$((went_on + 1))
@@ -174,19 +175,20 @@ refuse $number "$program" decode "${five[@]}" --answer long_answer --sol made
 encoder=$program
 program=$bound
 line out_of_memory 'inrc2pb-bound: out of memory'
-sweep_program 'a bound, and a roster' 2 0 text nothing "${five[@]}" --prices prices.txt --roster roster
-sweep_program 'the minimums of held cells, and rows' 2 0 text nothing "${week[@]}" --fix wednesday --minimums --rows
-printf '%s\n' CASES s1 'OFF = 1' 'Ann Mon' 'ROWS = 0' 'REST ROWS = 1' 'Day Nurse 1 1 1 1 1 1 1' > "$room/cases"
-sweep_program 'a bound by cases, and a roster' 2 0 text nothing "${week[@]}" --cases cases --roster monday
-sweep_program 'the minimums by cases' 2 0 text nothing "${week[@]}" --cases cases --minimums
-sweep_program 'prices with text after their end' 2 1 nothing nothing "${five[@]}" --prices more_week.txt
-program=$period_bound
-line out_of_memory 'inrc2pb-period-bound: out of memory'
-printf 'PRICES\ns1\n\nROWS = 0\n' > "$room/no_prices"
-two_weeks=("${week[@]}" --prices no_prices --week week.txt --prices no_prices)
-sweep_program 'a bound of two weeks' 2 0 text nothing "${two_weeks[@]}"
-sweep_program 'a week too many' 2 1 nothing nothing "${two_weeks[@]}" --week week.txt --prices no_prices
-sweep_program 'a week without prices' 2 2 nothing nothing "${two_weeks[@]}" --week week.txt
+sweep_program 'a bound, and a roster' 2 0 text nothing "${five[@]}" --proof certificate.txt --roster roster
+sweep_program 'the minimums of held cells' 2 0 text nothing "${week[@]}" --fix wednesday --minimums
+printf '%s\n' CERTIFICATE s1 'WEEKS = 2' 'PRICES = 2' 'ROWS = 1' 'Day Nurse 1 1 1 1 1 1 1' 'ROWS = 0' 'ROWS = 0' 'ROWS = 0' 'LEAVES = 3' \
+    'SPLIT CHOICE 1 Ann Mon None' 'LEAF 0 SURCHARGES = 0' 'SPLIT CHARGES SHIFTS ALL 3' 'LEAF 1 SURCHARGES = 2 0 5000' 'LEAF 1 SURCHARGES = 0' \
+    > "$room/tree"
+printf '%s\n' FACTS s1 'ROWS = 2' 'HOLDS CHOICE 2 Ann Tue Day' 'NOT PLACE 2 Tue Day Nurse 0' > "$room/facts"
+solution tuesday "${all_days[1]}"
+two_weeks=("${week[@]}" --week week.txt --given facts --proof tree)
+sweep_program 'a bound of two weeks by cases, and rosters' 2 0 text nothing "${two_weeks[@]}" --roster nobody --roster tuesday
+sweep_program 'rosters that break a given fact' 2 6 nothing nothing "${two_weeks[@]}" --roster tuesday --roster nobody
+sweep_program 'the minimums of two weeks' 2 0 text nothing "${two_weeks[@]}" --fix 2=tuesday --minimums
+sweep_program 'a week too many' 2 1 nothing nothing "${week[@]}" --week week.txt --week week.txt
+sweep_program 'a roster too few' 2 2 nothing nothing "${two_weeks[@]}" --roster nobody
+sweep_program 'a certificate with text after its end' 2 1 nothing nothing "${five[@]}" --proof more_week.txt
 program=$encoder
 line out_of_memory 'inrc2pb: out of memory'
 
@@ -207,8 +209,6 @@ if [ -z "$ending" ]; then
     table scenario_read '(2, 1)'
     table history_read 1
     table week_read 7
-    table prices_read 22500
-    table cases_read 2
     table certificate_read 3
     table facts_read 2
     table solution_read 1
