@@ -119,7 +119,7 @@ fn files_of(
     let mut sources = Sources { next: 0, failing };
     let scenario = sources.of(run.week.scenario);
     let history = sources.of(run.week.history);
-    let mut weeks = Vec::new(alloc);
+    let mut weeks: Vec<WeekFiles<MemorySource<'static>>> = Vec::new(alloc);
     weeks.push(sources.of_week(run))?;
     if run.two {
         weeks.push(sources.of_week(run))?;
