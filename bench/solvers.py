@@ -168,7 +168,8 @@ def machine() -> str:
     """This machine in words."""
     info = Path("/proc/cpuinfo")
     model = re.search(r"^model name\s*: (.*)$", info.read_text(), re.MULTILINE) if info.exists() else None
-    return f"{model[1].strip() if model else platform.machine()}, {os.cpu_count()} processors, {platform.system()}"
+    used = f"{len(os.sched_getaffinity(0))} of its {os.cpu_count()} processors"
+    return f"{model[1].strip() if model else platform.machine()}, {used}, {platform.system()}"
 
 
 def table(runs: Dict[str, Run]) -> str:
