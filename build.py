@@ -7,7 +7,8 @@ usage: build.py PROGRAM=CRATE ..
 
 The order comes from crates.txt. Of the crates that can be proved, the one with the longest chain of crates above it comes first; a crate
 counts by the bytes of its sources. Each has a job for half of the processors, and one that is alone for all: the functions of a crate wait
-for one another, so more jobs are worth less and less. Crates start while fewer jobs run than there are processors.
+for one another, so more jobs are worth less and less. For the same reason crates start until there are a quarter more jobs than processors;
+a longer chain has the higher priority.
 
 `rt` works on one crate at a time and locks those that it uses, so each crate is proved in a folder of its own, to which the libraries below
 it are linked. Its proofs then go back to its folder. A crate whose sources, libraries and kit are as they were is not tried again. After a
@@ -24,12 +25,14 @@ import subprocess
 import sys
 import time
 from pathlib import Path
-from typing import Dict, Iterator, List, NamedTuple, Optional, Set
+from typing import Dict, Iterator, List, NamedTuple, Set
 
 ROOT = Path(__file__).resolve().parent
 OUT = ROOT / "out"
 ROOMS = OUT / "rooms"
 PAUSE = 0.1
+# The niceness of the lowest priority.
+LEAST_PRIORITY = 19
 
 
 class Failed(Exception):
@@ -169,12 +172,12 @@ def leave_rooms() -> None:
 
 
 class Task:
-    """A crate that is being proved with this number of jobs."""
+    """A crate that is being proved with this number of jobs, at this niceness."""
 
-    def __init__(self, crate: Crate, crates: Dict[str, Crate], jobs: int) -> None:
+    def __init__(self, crate: Crate, crates: Dict[str, Crate], jobs: int, niceness: int) -> None:
         self.crate, self.jobs, self.began = crate, jobs, time.monotonic()
         folder = make_room(crate, crates)
-        words = ["rt", "run" if crate.is_program else "lib", "--jobs", str(jobs)]
+        words = ["nice", "-n", str(niceness), "rt", "run" if crate.is_program else "lib", "--jobs", str(jobs)]
         if (crate.home / "args").exists():
             words += ["--", *(crate.home / "args").read_text().splitlines()]
         self.log = folder.parents[1] / "log"
@@ -183,15 +186,14 @@ class Task:
 
 
 class Build:
-    """The crates, those that are being proved, and those of which `rt` has to note where their proofs are."""
+    """The crates, in the order of their chains, and those that are being proved."""
 
     def __init__(self, crates: Dict[str, Crate], processors: int) -> None:
         self.crates, self.processors, self.began = crates, processors, time.monotonic()
-        self.sums, self.chains = sums_of_sources(crates), chains(crates)
+        self.sums, lengths = sums_of_sources(crates), chains(crates)
+        self.order = sorted(crates, key=lambda name: -lengths[name])
         self.proved = 0
         self.tasks: List[Task] = []
-        self.unnoted: List[str] = []
-        self.noting: Optional["subprocess.Popen[bytes]"] = None
 
     def run(self) -> None:
         """Proves all crates."""
@@ -222,11 +224,12 @@ class Build:
         return found
 
     def start(self, ready: List[str]) -> None:
-        """Starts crates, the longest chain first, while fewer jobs run than there are processors."""
-        ready.sort(key=lambda name: -self.chains[name])
+        """Starts crates, the longest chain first, until there are a quarter more jobs than processors."""
+        ready.sort(key=self.order.index)
         jobs = self.processors if len(ready) == 1 and not self.tasks else max(1, self.processors // 2)
-        while ready and sum(task.jobs for task in self.tasks) < self.processors:
-            self.tasks.append(Task(self.crates[ready.pop(0)], self.crates, jobs))
+        while ready and sum(task.jobs for task in self.tasks) < self.processors + self.processors // 4:
+            name = ready.pop(0)
+            self.tasks.append(Task(self.crates[name], self.crates, jobs, min(self.order.index(name), LEAST_PRIORITY)))
 
     def ended(self) -> Task:
         """Waits until a crate is done, and takes it from the tasks."""
@@ -235,7 +238,6 @@ class Build:
                 if task.process.poll() is not None:
                     self.tasks.remove(task)
                     return task
-            self.note()
             time.sleep(PAUSE)
 
     def finish(self, task: Task) -> None:
@@ -249,22 +251,6 @@ class Build:
             raise Failed(f"rt made no {'program' if crate.is_program else 'library'} of {crate.name}")
         (crate.home / "out" / "proved").write_text(mark(crate, self.sums[crate.name]))
         self.proved += 1
-        if not crate.is_program:
-            self.unnoted.append(crate.name)
-
-    def note(self) -> bool:
-        """Has `rt` note where the proofs of a crate are, for checks in other clones, beside other work; whether it has to go on."""
-        if self.noting and self.noting.poll() is not None:
-            self.noting = None
-        if self.unnoted and not self.noting:
-            home, nothing = self.crates[self.unnoted.pop(0)].home, subprocess.DEVNULL
-            self.noting = subprocess.Popen(["nice", "rt", "check", "--jobs", "1"], cwd=home, stdin=nothing, stdout=nothing, stderr=nothing)
-        return self.noting is not None
-
-    def note_rest(self) -> None:
-        """Notes the rest of the crates."""
-        while self.note():
-            time.sleep(PAUSE)
 
     def tell(self, what: str) -> None:
         """Prints what was done, and what is being proved."""
@@ -275,13 +261,10 @@ class Build:
 
     def stop(self) -> None:
         """Ends what runs; `rt` ends its own commands."""
-        running = [task.process for task in self.tasks]
-        if self.noting:
-            running.append(self.noting)
-        for process in running:
-            process.terminate()
-        for process in running:
-            process.wait()
+        for task in self.tasks:
+            task.process.terminate()
+        for task in self.tasks:
+            task.process.wait()
 
 
 def install(programs: Dict[str, str], crates: Dict[str, Crate]) -> None:
@@ -306,7 +289,6 @@ def build(programs: Dict[str, str]) -> None:
     try:
         whole.run()
         install(programs, crates)
-        whole.note_rest()
     finally:
         for one in (signal.SIGINT, signal.SIGTERM, signal.SIGHUP):
             signal.signal(one, signal.SIG_IGN)
