@@ -128,7 +128,7 @@ named_pages_exist() {
         '\b(docs|bench)/[A-Za-z_]+\.md|\b(README|CONTRIBUTING|CHANGELOG)\.md' crates/*/src tests | sort -u)
 }
 
-# The most words of each page, so that a new sentence takes the place of an old one.
+# The most words of each page, without its measured table, so that a new sentence takes the place of an old one.
 limits() {
     cat << END
 CONTRIBUTING.md 901
@@ -147,7 +147,7 @@ docs/promises.md 629
 docs/proved.md 1355
 docs/reading.md 2712
 docs/rules.md 1354
-docs/solvers.md 1309
+docs/solvers.md 1049
 docs/tested.md 715
 docs/trusted.md 775
 docs/your_ward.md 1278
@@ -158,7 +158,7 @@ lengths_hold() {
     local page most words
     while read -r page most; do
         begins_case "the length of $page"
-        words=$(wc -w < "$page")
+        words=$(sed '/^<!-- measured -->/,/^<!-- end of measured -->/d' "$page" | wc -w)
         [ "$words" -le "$most" ] || complain "$words words, at most $most"
     done < <(limits)
     begins_case 'that each page has a limit, and README.md and docs together 20,000'
