@@ -71,7 +71,7 @@ gates_are_told_apart() {
     local commit kit sum not='have not passed on this commit on the machine that built this'
     commit=$(package/proved.sh | sed -n 's/^commit: //p')
     kit=$(package/proved.sh | sed -n 's/^kit: //p')
-    sum=$(cat "$PROGRAM" "$BOUND" "$PERIOD_BOUND" "$FITS" | sha256sum)
+    sum=$(cat "$PROGRAM" "$BOUND" "$FITS" | sha256sum)
     sum=${sum%% *}
     case $commit in
         unknown | *-dirty) says_of_gate 'a gate of other files' "$commit" '9 passed, 0 failed, 2 skipped' "$kit" "$sum" "$not" ;;
