@@ -160,8 +160,9 @@ def main() -> Optional[int]:
     _check(given)
     folder = WardFolder(given.folder)
     if given.verb == "check":
-        print("\n".join(_verbs(folder).check()))
-        return 0
+        verbs = _verbs(folder)
+        print("\n".join(verbs.check()))
+        return verbs.status
     folder.spreadsheet()
     find_program()
     if given.verb == "serve":

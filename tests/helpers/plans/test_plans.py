@@ -390,12 +390,36 @@ class Refused(FolderTest):
             row[8:10] = [words.get(row[0], "")] * 2
         self.rows["nurses"][6][4] = "Tue"
         self.write()
-        printed = self.does("check")
+        # All who have the skill Charge are away.
+        status, printed, _ = run("plan", self.ward, "check")
+        self.assertEqual(status, 6)
         says = ("Amara is ill", "Bruno has leave", "Dilek has training", "Ewa has unpaid leave", "Grace is away", "Finn is always off")
         for line in says:
             self.assertIn(f"{line} on Mon and Tue.\n" if line[:4] != "Finn" else f"{line} on Tue.\n", printed)
         self.assertIn("; 3 shifts (3 for days away) and 0 weekends in this period.\n", printed)
         self.assertFalse((self.ward / "plans").exists())
+
+    def test_minimum_numbers_that_no_plan_meets(self):
+        plain = {name: [list(row) for row in rows] for name, rows in self.rows.items()}
+        charge = next(number for number, row in enumerate(plain["needs"]) if row[1:3] == ["Day", "Charge"])
+        # Amara, Bruno and Ewa have the skill Charge.
+        for status, cells, says in (
+            (5, [("needs", charge, 5, "4")], "Day Charge on Wed: at least 4 are needed, and 3 nurses have the skill: "
+             "no roster can meet it: lower 4 to 3, or give more nurses the skill"),
+            (6, [("plan", row, 3, "leave") for row, cells in enumerate(plain["plan"]) if cells[0] in ("Amara", "Bruno", "Ewa")],
+             "Wed: 1 with Charge needed at once (Day 1), and 0 of the 3 who have it could do it: "
+             "no roster that keeps every absence can meet it: lower minimum numbers by 1, or give more nurses the skill, or shorten an absence"),
+            (6, [("contracts", row, 2, "2!") for row in (1, 2)] + [("contracts", row, 1, "0") for row in (1, 2)], " too many to keep the limits that hold: lower minimum numbers"),
+        ):  # fmt: skip
+            with self.subTest(says):
+                self.rows = {name: [list(row) for row in rows] for name, rows in plain.items()}
+                for sheet, row, column, text in cells:
+                    self.rows[sheet][row][column] = text
+                self.write()
+                ended, printed, said = run("plan", self.ward, "check")
+                self.assertEqual((ended, said), (status, ""), printed)
+                self.assertIn(says, printed)
+                self.assertEqual(printed.splitlines()[-1], "No plan can keep all of this: do what the warnings at the top say.")
 
     def test_wrong_verbs_and_options(self):
         for says, *words in (

@@ -382,7 +382,7 @@ class Command(HelperTest):
             row[3] = "ill"
         book = Book(Path("ward.ods"), sheets)
         warnings = ward.ward_files(book, "ward", read_days(book), 2, ()).warnings
-        self.assertEqual([line for line in warnings if line.startswith("sheet needs, week 0: Wed: ")][0].rsplit(": ", 1)[1], "no roster can meet it and keep every absence")
+        self.assertIn(": no roster that keeps every absence can meet it: lower minimum numbers by ", [line for line in warnings if line.startswith("sheet needs, week 0: Wed: ")][0])
 
     def test_faults(self):
         book, out = DATA / "libreoffice.ods", self.folder / "out"
