@@ -99,13 +99,14 @@ def _content(plan: WardPlan, address: str) -> Content:
 
 
 def _roster(plan: WardPlan, address: str) -> Markup:
-    table = RosterTable(_content(plan, address))
+    content = _content(plan, address)
+    table, notes = RosterTable(content), [element("p", note) for note in content.notes]
     legend = element("ul", *(element("li", line) for line in table.legend()), class_="legend")
     links = [("Costs, totals and coverage", "roster"), ("Page for the wall", "wall"), *[("Calendars", CALENDARS)] * bool(plan.days.monday)]
     pages = joined(*(joined(element("a", text, href=f"{address}{page}"), " ") for text, page in links))
     hint = element("p", "Click a nurse's day: what her week costs, and who could take her shift.")
     cost = element("p", "" if plan.view().penalty is None else f"{plan.view().penalty} points. ", pages, class_="links")
-    return element("section", element("h2", "Roster"), cost, hint, *table.tables(), legend)
+    return element("section", element("h2", "Roster"), cost, *notes, hint, *table.tables(), legend)
 
 
 def calendars_markup(plan: WardPlan, address: str, there: Collection[str]) -> str:

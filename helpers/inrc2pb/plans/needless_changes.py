@@ -4,6 +4,7 @@ import time
 from typing import Callable, Dict, Iterator, List, NamedTuple, Optional, Sequence, Tuple
 
 from ..judging.absences import absences_of, working_while_away
+from ..judging import days_away
 from ..judging.breaches import breaches
 from ..judging.limits import exceeded, excess
 from ..judging.rules import costs
@@ -57,7 +58,8 @@ def _taken_back(works: Works, group: Sequence[ShiftChange]) -> Works:
 
 def _value(old: WardPlan, plan: WardPlan) -> _Value:
     """The value of a plan, with the points of its changes since the old one."""
-    broken = not_kept = points = 0
+    broken = points = 0
+    not_kept = days_away.excess(plan.scenario, plan.histories[plan.open_week], plan.days_away, plan.shifts) if plan.weeks else 0
     for number in plan.weeks:
         week, cells = plan.week(number), plan.rosters[number]
         broken += len(breaches(week, cells, plan.held[number]))

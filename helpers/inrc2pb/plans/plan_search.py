@@ -6,6 +6,7 @@ from pathlib import Path
 from typing import Collection, Iterator, List, NamedTuple, Sequence, Tuple
 
 from ..judging.absences import absences_of, is_broken_by, readable
+from ..judging.days_away import DaysAway
 from ..programs.clock import Clock
 from ..programs.interrupts import interrupts
 from ..programs.program import WeekFiles
@@ -52,7 +53,7 @@ def search_plan(old: WardPlan, asked: Asked, progress: Progress) -> Found:
     """The best plan of the weeks that are not over. It begins with the old one, if there is one."""
     kept: List[Sequence[Cell]] = []
     with tempfile.TemporaryDirectory(prefix="inrc2pb-plan-") as name:
-        weeks = _weeks(_files(old, asked, Path(name)))
+        weeks = _weeks(_files(old, asked, Path(name)), old.days_away._replace(fixed=asked.first - old.first))
         start = [cell._replace(day=cell.day - old.first) for cell in old.cells()] if old.is_planned else None
         clock = Clock(asked.seconds)
         search = PeriodSearch(weeks, kept.append, clock, progress, start=start)
@@ -69,10 +70,10 @@ def search_plan(old: WardPlan, asked: Asked, progress: Progress) -> Found:
     return Found(old.with_cells(labelled), search.line(), clock.stopped)
 
 
-def _weeks(files: PeriodFiles) -> PlannedWeeks:
+def _weeks(files: PeriodFiles, beside: DaysAway) -> PlannedWeeks:
     """The weeks of these files. A fault names a file without its folder, which is there for the search only."""
     try:
-        return PlannedWeeks(files)
+        return PlannedWeeks(files, beside)
     except FileFault as fault:
         raise FileFault(fault.path.name, fault.line, f"{fault.message}: correct the plan or the spreadsheet", fault.fault) from fault
 

@@ -8,6 +8,7 @@ from ..programs.program import BROKEN_RULE
 from ..shown.why import change_lines as charge_lines
 from ..week.faults import Misuse
 from .agreed_days import AgreedDay
+from .days_beside import beside_lines
 from .plan_store import PlanStore, cost_lines, wording_of
 from .shift_changes import call_lines, change_lines, shift_changes
 from .swap_words import offer_lines, shift_of
@@ -47,6 +48,8 @@ def _swap(store: PlanStore, old: WardPlan, asked: Swap, do: bool) -> List[str]:
     changes = shift_changes(old.cells(), new.cells())
     lines = [*change_lines(changes, old.days), *call_lines(changes)]
     lines += wish_lines(old, new)
+    before = set(beside_lines(old))
+    lines += [line for line in beside_lines(new) if line not in before]
     lines += [readable(line) for line in charge_lines(old.view(), new.view()) if line[:1] in " +-"]
     if not do:
         return [*lines, "nothing is written: type it again with --do", *offer_lines(old, swaps, *shift_of(swaps, asked))]

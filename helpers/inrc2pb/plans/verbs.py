@@ -12,6 +12,7 @@ from ..shown.telling import held_sentences, history_sentences, limit_sentences, 
 from ..shown.why import breach_lines
 from ..week.faults import FileFault, Misuse, fault_line
 from . import search_verbs, swap_verb, week_end
+from .days_beside import beside_lines
 from .pages import WALL
 from .plan_days import WEEK_DAYS
 from .plan_store import Means, PlanStore
@@ -59,7 +60,7 @@ class Verbs:
         """The warnings of the spreadsheet, and the ward in sentences. That no plan can meet a minimum is in the status."""
         plan = self.current()
         self._store.status = _status_of(plan.sheet.warnings)
-        lines = [f"warning: {readable(line)}" for line in plan.sheet.warnings]
+        lines = [f"warning: {line}" for line in (*map(readable, plan.sheet.warnings), *beside_lines(plan))]
         limits = limit_sentences(plan.scenario, plan.data[plan.open_week]) if plan.weeks else ()
         lines += [*scenario_sentences(plan.scenario), *limits, "", *history_sentences(plan.histories[plan.open_week], plan.sheet.credit)]
         for number in plan.weeks:

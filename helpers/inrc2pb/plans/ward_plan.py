@@ -6,6 +6,7 @@ from pathlib import Path
 from typing import Dict, FrozenSet, Iterable, List, Mapping, NamedTuple, Optional, Sequence, Set, Tuple
 
 from ..judging.absences import absences_of, readable
+from ..judging.days_away import DaysAway
 from ..judging.given import read_given, with_given
 from ..judging.leave import credited
 from ..judging.next_history import next_history
@@ -22,6 +23,7 @@ from ..week.writing import write_text
 from . import record
 from .agreed_days import NAME as AGREED
 from .agreed_days import AgreedDay, agreed_text, read_agreed
+from .free_days import days_away_of
 from .plan_days import WEEK_DAYS, PlanDays
 from .record import Record, read_record
 from .written_absences import WrittenAbsence, read_written, written_text
@@ -159,6 +161,17 @@ class WardPlan:
         """The nurses' days, in the weeks that are not over, on which they are away, and why."""
         weeks = ((number, self.reasons(number)) for number in self.weeks)
         return {(nurse, WEEK_DAYS * number + day): word for number, away in weeks for (nurse, day), word in away.items()}
+
+    @cached_property
+    def days_away(self) -> DaysAway:
+        """The days away that concern the days beside them, in the weeks that are not over. Here and in `shifts` days count from their
+        first one."""
+        return days_away_of(self.away, self.first, self.scenario.shift_types, self.sheet.times)
+
+    @cached_property
+    def shifts(self) -> Dict[Tuple[str, int], str]:
+        """The shift types of the nurses' days in the weeks that are not over."""
+        return {(nurse, day - self.first): cell.shift for (nurse, day), cell in self.works.items()}
 
     def week(self, number: int) -> Week:
         """A week's ward, history and file."""

@@ -115,8 +115,8 @@ class RowRun:
 
     @property
     def _keeps_limits(self) -> bool:
-        """Whether limits may be the reason that minimums are missed."""
-        return bool(self.plan.limits) and self.plan.keeping.limit == NEVER
+        """Whether limits, or days beside days away, may be the reason that minimums are missed."""
+        return self.plan.keeps_more and self.plan.keeping.limit == NEVER
 
     def _no_roster(self) -> bool:
         """Whether prices prove that no roster keeps the minimums."""

@@ -107,6 +107,7 @@ def _summary(page: Content) -> Iterator[str]:
     made = f"; as of {page.as_of:%A}, {date_text(page.as_of)} {page.as_of:%Y, %H:%M}" if page.as_of else ""
     yield f"{named}{plural(len(view.nurses), 'nurse')}, {plural(count, 'shift')}{cost}{before}{made}"
     yield from breach_lines(view)
+    yield from () if page.only_table else page.notes
 
 
 def _roster(page: Content) -> Markup:

@@ -6,7 +6,7 @@ from dataclasses import replace
 from unittest import mock
 from xml.etree import ElementTree
 
-from test_plans import FolderTest
+from test_plans import MONDAY, FolderTest
 from ward import HAS_CBC, files, run
 
 from inrc2pb.judging.limits import limits_way_out
@@ -14,17 +14,19 @@ from inrc2pb.judging.rules import Charge
 from inrc2pb.commands.plan import read_sheet
 from inrc2pb.plans import pages, ward_folder
 from inrc2pb.plans.agreed_days import AgreedDay, agreed_text, read_agreed
+from inrc2pb.plans.days_beside import beside_lines
 from inrc2pb.plans.few_changes import with_few_changes
 from inrc2pb.plans.needless_changes import without_needless_changes
 from inrc2pb.plans.plan_days import PlanDays
 from inrc2pb.plans.shift_changes import call_lines, change_lines, shift_changes
-from inrc2pb.plans.training_rows import training_lines
 from inrc2pb.plans.ward_plan import read_stored
 from inrc2pb.plans.wish_words import wish_lines
+from inrc2pb.shown.page import page_text
 from inrc2pb.week.faults import FileFault
 from inrc2pb.week.records import Absence, Cell, Request
 
 BARE = PlanDays(None, 2)
+BARE_DATES = [PlanDays(MONDAY, 2).text(day) for day in range(14)]
 
 
 class KeptTest(FolderTest):
@@ -91,9 +93,26 @@ class Words(KeptTest):
         self.rows["plan"][7][6] = "training"
         self.write()
         plan = replace(self.plan, sheet=read_sheet(self.ward, None, ()))
-        says = "Grace has 6 days in a row with work or training, to Sat 5 Dec, and her contract at most 5 with work"
-        self.assertEqual(list(training_lines(plan)), [says])
-        self.assertEqual(list(training_lines(self.plan)), [])
+        says = "Grace has 6 days in a row with work or training, Mon 30 Nov to Sat 5 Dec, and her contract at most 5 with work"
+        self.assertEqual(list(beside_lines(plan)), [says])
+        self.assertEqual(list(beside_lines(self.plan)), [])
+
+    def test_a_night_before_training_or_leave_is_told(self):
+        # Dilek has worked Night on Sunday, and does so on Monday and Tuesday.
+        self.rows["plan"][4][1] = self.rows["plan"][4][4] = "leave"
+        self.write()
+        nurse, night = next((cell.nurse, cell.day) for cell in self.plan.cells() if cell.shift == "Night" and cell.day < 13)
+        row = next(row for row in self.rows["plan"] if row[0] == nurse)
+        row[night + 2] = "training"
+        self.write()
+        says = f"{nurse} works Night on {BARE_DATES[night]}, and has training on {BARE_DATES[night + 1]}"
+        printed = run("plan", self.ward, "check")[1]
+        self.assertIn(f"warning: {says}\n", printed)
+        self.assertIn("warning: Dilek works Night on the Sunday before, and has leave on Mon 30 Nov\n", printed)
+        plan = replace(self.plan, sheet=read_sheet(self.ward, None, ()))
+        # The page has the line, but not the one for the wall.
+        self.assertIn(f"<p>{says}</p>", page_text(pages.roster_content(plan)))
+        self.assertNotIn(says, page_text(replace(pages.roster_content(plan), only_table=True)))
 
     def test_agreed_days_cost_much(self):
         old = [Cell("Chen", 4, "Late", "Nurse")]
@@ -216,6 +235,32 @@ class NotKept(KeptTest):
         self.assertRegex(printed, "(?m)^week 1: lower minimum numbers, hold fewer shifts, or allow these nurses more; ")
         self.assertIn("\nthis plan is written, but it does not keep what the first lines say: ", printed)
         self.assertNotIn("gap", printed)
+
+
+@unittest.skipUnless(HAS_CBC, "cbc is not installed")
+class Training(KeptTest):
+    def test_a_search_counts_training_as_work(self):
+        # Grace works from Monday to Friday in both weeks, and comes to training from work.
+        self.rows["plan"][7][6:9] = ["training", "training", "training"]
+        self.write()
+        before = replace(self.plan, sheet=read_sheet(self.ward, None, ()))
+        self.assertEqual(len(list(beside_lines(before))), 1)
+        printed = self.does("plan")
+        self.assertNotIn("with work or training", printed)
+        row = [day in range(5, 8) or ("Grace", day) in self.cells() for day in range(14)]
+        self.assertLessEqual(max(len(run) for run in "".join(".x"[is_on] for is_on in row).split(".")), 5)
+
+    def test_what_no_plan_can_keep_is_told(self):
+        # Only Dilek works nights, one is needed on Monday, and she has training on Tuesday.
+        for row in self.rows["nurses"][1:]:
+            row[3] = "" if row[0] == "Dilek" else "Night"
+        self.rows["needs"] = [row for row in self.rows["needs"] if row[1] != "Night"]
+        self.rows["needs"].append(["", "Night", "Nurse", "1", *["0"] * 6])
+        self.rows["plan"][4][2] = "training"
+        self.write()
+        status, printed, said = run("plan", self.ward, "plan", "--time", "10")
+        self.assertEqual(status, 0, said)
+        self.assertIn("Dilek works Night on Mon 30 Nov, and has training on Tue 1 Dec\n", printed)
 
 
 @unittest.skipUnless(HAS_CBC, "cbc is not installed")
