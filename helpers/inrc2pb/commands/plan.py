@@ -168,13 +168,15 @@ def main() -> Optional[int]:
     if given.verb == "serve":
         _serve(folder, given)
         return 0
-    last = folder.last()
+    verbs: Optional[Verbs] = None
+    last: Optional[Path] = None
     try:
-        with folder.locked(_say):
-            verbs = _verbs(folder)
+        with folder.locked(_say, "; Ctrl-C ends it"):
+            # The time of a search begins here.
+            verbs, last = _verbs(folder), folder.last()
             lines = _done(verbs, given)
     except KeyboardInterrupt:
-        if folder.last() == last:
+        if verbs is None or folder.last() == last:
             _say("nothing was written")
         raise
     print("\n".join(lines))

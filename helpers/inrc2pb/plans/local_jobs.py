@@ -58,6 +58,8 @@ class Jobs:
         try:
             with self.folder.locked(lambda line: print(line, file=spoken)):
                 self._said = Said(verb(self.verbs(spoken)))
+        except KeyboardInterrupt:
+            self._said = Said(["stopped while it waited: nothing was written"])
         except Exception as fault:
             self._said = Said(fault_lines(fault), True)
 

@@ -12,6 +12,7 @@ import tempfile
 import time
 import unittest
 from dataclasses import replace
+from pathlib import Path
 
 from ward import HAS_CBC, HELPERS, ROSTER, HelperTest, files, program, run
 
@@ -477,18 +478,50 @@ class Refused(FolderTest):
         (self.ward / "plans").mkdir()
         with open(self.ward / "plans" / "lock", "w") as lock, tempfile.TemporaryFile("w+") as said:
             fcntl.flock(lock, fcntl.LOCK_EX)
-            command = [sys.executable, str(HELPERS / "inrc2pb-plan"), str(self.ward), "undo"]
-            second = subprocess.Popen(command, stderr=said, env=dict(os.environ))
-            self.addCleanup(second.kill)
-            line = f"another run works in {self.ward}: this one waits for its end, Ctrl-C ends it\n"
-            limit = time.monotonic() + 30
-            while time.monotonic() < limit and os.fstat(said.fileno()).st_size < len(line.encode()):
-                time.sleep(0.05)
+            second = self.begun("undo", said)
             self.assertIsNone(second.poll())
             fcntl.flock(lock, fcntl.LOCK_UN)
             self.assertEqual(second.wait(timeout=30), 1)
             said.seek(0)
-            self.assertTrue(said.read().startswith(line))
+            self.assertEqual(said.read().splitlines()[1:], ["the other run has ended", f"inrc2pb-plan: {self.ward}: there is nothing to undo"])
+
+    def begun(self, verb, said):
+        """A run of this verb, as soon as it waits for another one."""
+        begun = subprocess.Popen([sys.executable, str(HELPERS / "inrc2pb-plan"), str(self.ward), verb], stderr=said, env=dict(os.environ))
+        self.addCleanup(begun.kill)
+        line = f"another run works in {self.ward}: this one waits for its end, and its time begins then; Ctrl-C ends it\n"
+        limit = time.monotonic() + 30
+        while time.monotonic() < limit and os.fstat(said.fileno()).st_size < len(line.encode()):
+            time.sleep(0.05)
+        said.seek(0)
+        self.assertEqual(said.read(), line)
+        return begun
+
+    def test_a_run_that_waits_can_be_ended(self):
+        (self.ward / "plans").mkdir()
+        with open(self.ward / "plans" / "lock", "w") as lock, tempfile.TemporaryFile("w+") as said:
+            fcntl.flock(lock, fcntl.LOCK_EX)
+            second = self.begun("plan", said)
+            second.send_signal(signal.SIGINT)
+            self.assertEqual(second.wait(timeout=30), 130)
+            said.seek(0)
+            self.assertEqual(said.read().splitlines()[1], "nothing was written")
+
+    @unittest.skipUnless(HAS_CBC, "cbc is not installed")
+    def test_the_time_of_a_search_begins_after_the_wait(self):
+        (self.ward / "plans").mkdir()
+        with open(self.ward / "plans" / "lock", "w") as lock, tempfile.TemporaryFile("w+") as said:
+            fcntl.flock(lock, fcntl.LOCK_EX)
+            second = self.begun("plan", said)
+            time.sleep(3)
+            fcntl.flock(lock, fcntl.LOCK_UN)
+            limit = time.monotonic() + 60
+            while time.monotonic() < limit and "penalty" not in (text := Path(f"/proc/self/fd/{said.fileno()}").read_text()):
+                time.sleep(0.05)
+            second.send_signal(signal.SIGINT)
+            second.wait(timeout=60)
+            # The first line of the search has the seconds since its begin.
+            self.assertLess(float(re.search(r"([0-9.]+) s  penalty", text)[1]), 3)
 
 
 if __name__ == "__main__":
