@@ -33,7 +33,7 @@ class Jobs:
     def verbs(self, spoken: Optional[io.StringIO] = None) -> Verbs:
         """The verbs of the folder, which say to this text how far they are."""
         text = spoken or io.StringIO()
-        return Verbs(self.folder, Means(self._read, Progress(text), lambda line: print(line, file=text), ""))
+        return Verbs(self.folder, Means(self._read, Progress(text), lambda line: print(line, file=text), "", "the button below writes it"))
 
     @property
     def runs(self) -> bool:

@@ -25,12 +25,14 @@ Reader = Callable[[Path, Optional[str], Sequence[WrittenAbsence]], Sheet]
 
 
 class Means(NamedTuple):
-    """How the verbs read a spreadsheet, show the progress of a search, say what goes before their results, and how a user ends a search."""
+    """How the verbs read a spreadsheet, show the progress of a search, and say what goes before their results; how a user ends a search,
+    and writes a swap."""
 
     read: Reader
     progress: Progress
     say: Callable[[str], None]
     end: str = "Ctrl-C ends the search and keeps the best plan"
+    write: str = "type it again with --do"
 
 
 class PlanStore:

@@ -17,6 +17,10 @@ from .ward_plan import WardPlan
 from .wish_words import wish_lines
 
 
+# The line of a look for a swap that can be written.
+NOT_WRITTEN = "nothing is written"
+
+
 def swap(store: PlanStore, words: Sequence[str], do: bool) -> List[str]:
     """What a swap costs and breaks; who else could swap. With `do` it is written, and later plans keep it."""
     old = store.fitting()
@@ -26,7 +30,7 @@ def swap(store: PlanStore, words: Sequence[str], do: bool) -> List[str]:
     swaps = Swaps(old)
     if wording.is_over:
         if do:
-            raise Misuse("--do is for a swap of two nurses: name the other one and her day")
+            raise Misuse("a swap that is written is of two nurses: name the other one and her day")
         return offer_lines(old, swaps, nurse, day)
     asked = Swap(nurse, wording.nurse(), (day,))
     asked = asked._replace(days=tuple(sorted({day, day if wording.is_over else wording.open_day()})))
@@ -44,7 +48,7 @@ def _swap(store: PlanStore, old: WardPlan, asked: Swap, do: bool) -> List[str]:
     faults = [f"not possible: {fault}" for fault in swaps.faults(asked)]
     if faults:
         store.status = BROKEN_RULE
-        return [*faults, "nothing is written", *offer_lines(old, swaps, *shift_of(swaps, asked))]
+        return [*faults, NOT_WRITTEN, *offer_lines(old, swaps, *shift_of(swaps, asked))]
     changes = shift_changes(old.cells(), new.cells())
     lines = [*change_lines(changes, old.days), *call_lines(changes)]
     lines += wish_lines(old, new)
@@ -52,7 +56,7 @@ def _swap(store: PlanStore, old: WardPlan, asked: Swap, do: bool) -> List[str]:
     lines += [line for line in beside_lines(new) if line not in before]
     lines += [readable(line) for line in charge_lines(old.view(), new.view()) if line[:1] in " +-"]
     if not do:
-        return [*lines, "nothing is written: type it again with --do", *offer_lines(old, swaps, *shift_of(swaps, asked))]
+        return [*lines, f"{NOT_WRITTEN}: {store.means.write}", *offer_lines(old, swaps, *shift_of(swaps, asked))]
     # The program has the last word on the new rosters.
     cost_lines(new)
     agreed = [AgreedDay(nurse, day) for nurse in (asked.one, asked.other) for day in asked.days]

@@ -85,8 +85,8 @@ class WardFolder:
 
     @contextlib.contextmanager
     def locked(self, say: Callable[[str], None], end: str = "") -> Iterator[None]:
-        """Within the block no other run writes to the folder. If one does now, `say` is called with that, and with how a user ends the wait;
-        who does so gets a KeyboardInterrupt."""
+        """Within the block no other run writes to the folder. If one does now, `say` is called with that, and with how a user ends the
+        wait; who does so gets a KeyboardInterrupt."""
         with self._lock_file() as file:
             self._take(file, say, end)
             yield

@@ -138,11 +138,11 @@ class Words(KeptTest):
 class Weeks(KeptTest):
     def test_a_week_after_which_the_plan_breaks_a_rule(self):
         printed = self.does("over", "Bruno", "Sun", "Night,", "Finn", "Fri", "off,")
-        cure = "after these corrections the plan does not fit any more: type plan 2026-12-07"
+        cure = "after these corrections the plan does not fit any more: plan again, from 2026-12-07 on"
         self.assertIn("week 1 breaks H3: Bruno may not work Day on Mon after Night on the Sunday before\n", printed)
         self.assertIn(f"{cure}\n", printed)
         self.assertIn("week 0 breaks H2: Fri Late Nurse has 0 nurses and needs at least 1\n", printed)
-        self.assertIn("if it was not worked so, type undo", printed)
+        self.assertIn("if it was not worked so: undo, then over with other corrections", printed)
         self.assertNotIn("to call", printed)
         cells = files.read_solution(self.last() / "roster-0.txt").cells
         self.assertIn(Cell("Bruno", 6, "Night", "Nurse"), cells)
@@ -154,7 +154,7 @@ class Weeks(KeptTest):
         printed = self.does("over", "Grace", "Sat", "Day", "Grace", "Sun", "Day")
         self.assertIn("week 0 exceeds a limit that holds: Grace has 7 days of work in a row", printed)
         self.assertIn("week 1 exceeds a limit that holds: Grace has 12 days of work in a row, to Fri 11 Dec, of at most 5", printed)
-        self.assertIn("type plan 2026-12-07", printed)
+        self.assertIn("plan again, from 2026-12-07 on", printed)
 
     def test_the_page_for_the_wall(self):
         # On Friday of week 1 one nurse fewer is best, as on a bank holiday; the other cells are as in all weeks.
