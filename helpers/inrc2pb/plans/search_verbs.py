@@ -12,7 +12,7 @@ from ..week.hints import plural
 from .agreed_days import AgreedDay, broken_line
 from .days_beside import beside_lines
 from .few_changes import POINTS
-from .needless_changes import without_needless_changes
+from .needless_changes import CALL_POINTS, without_needless_changes
 from .plan_days import WEEK_DAYS
 from .plan_search import MOST, NONE, Asked, Found, search_plan, why_no_plan
 from .plan_store import PlanStore, cost_lines, not_kept_lines, wording_of
@@ -135,7 +135,7 @@ def _result(store: PlanStore, old: WardPlan, found: Found, few_changes: bool) ->
         lines.append(f"{plural(len(changes), 'shift')} {'differs' if len(changes) == 1 else 'differ'} from the last plan")
     lines += [_broken(old, new, one) for one in old.agreed if one not in new.agreed]
     lines += [*beside_lines(new), *wish_lines(before, new), *cost_lines(new)]
-    lines += [f"a change was counted as {POINTS} points more, which are not in this sum"] * few_changes
+    lines += [f"a change was counted as {POINTS} points more, and a nurse to call as {CALL_POINTS}; they are not in this sum"] * few_changes
     lines += [_SHARE.sub("", found.bound)] * (is_kept and not few_changes)
     lines += ["stopped: this is the best plan until then"] * found.stopped
     if not is_kept:

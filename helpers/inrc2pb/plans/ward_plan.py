@@ -31,6 +31,8 @@ from .written_absences import NAME as ABSENCES
 
 START, FACTS, REASONS = "start.txt", "facts.txt", "reasons.txt"
 ALWAYS_OFF = "off"
+# The properties of a plan that do not depend on its rosters.
+_OF_SHEET = ("scenario", "claims", "data", "held", "away", "days_away")
 Cells = Tuple[Cell, ...]
 
 
@@ -191,7 +193,9 @@ class WardPlan:
         for cell in cells:
             found[cell.day // WEEK_DAYS].append(cell._replace(day=cell.day % WEEK_DAYS))
         ordered = {number: tuple(sorted(of_week, key=self._order)) for number, of_week in found.items()}
-        return replace(self, rosters={**self.rosters, **ordered})
+        new = replace(self, rosters={**self.rosters, **ordered})
+        new.__dict__.update({name: value for name, value in self.__dict__.items() if name in _OF_SHEET})
+        return new
 
     def _order(self, cell: Cell) -> Tuple[int, int]:
         return list(self.scenario.nurses).index(cell.nurse), cell.day

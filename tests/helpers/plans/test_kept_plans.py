@@ -88,6 +88,17 @@ class Words(KeptTest):
         found = without_needless_changes(old, needless)
         self.assertEqual([one[:2] for one in shift_changes(old.cells(), found.cells())], [("Grace", 4)])
 
+    def test_one_nurse_is_called_in_place_of_two(self):
+        # Finn works late on the weekend, Ewa and Grace are off, and Ewa is off on Monday, too.
+        self.rows["plan"][6][6:8] = ["ill", "ill"]
+        self.write()
+        old = replace(self.plan, sheet=read_sheet(self.ward, None, ()))
+        cells = [cell for cell in old.cells() if (cell.nurse, cell.day) not in (("Finn", 5), ("Finn", 6))]
+        new = old.with_cells([*cells, Cell("Grace", 5, "Late", "Nurse"), Cell("Ewa", 6, "Late", "Nurse")])
+        changes = shift_changes(old.cells(), without_needless_changes(old, new).cells())
+        self.assertEqual([(one.nurse, one.day) for one in changes], [("Ewa", 5), ("Finn", 5), ("Ewa", 6), ("Finn", 6)])
+        self.assertEqual(call_lines(changes, old.away), ["1 nurse to call: Ewa"])
+
     def test_training_between_days_of_work_is_told(self):
         # Grace works from Monday to Friday, and may work five days in a row.
         self.rows["plan"][7][6] = "training"
