@@ -51,7 +51,7 @@ class Place(NamedTuple):
 
 class Shown(NamedTuple):
     """What a page shows beside the plan: what was said, the cell that was clicked, the form that asks whether to write, the fields of the
-    last form, the path of the spreadsheet, and whether there is a page of the weeks that are over."""
+    last form, the path of the spreadsheet, whether there is a page of the weeks that are over, and the name of the ward."""
 
     said: Said
     place: Optional[Place] = None
@@ -59,11 +59,12 @@ class Shown(NamedTuple):
     kept: Fields = {}
     spreadsheet: str = ""
     has_worked: bool = False
+    name: str = "Ward"
 
 
 def page_markup(plan: Optional[WardPlan], shown: Shown, address: str) -> str:
-    """The page. While a verb runs it loads itself again and again."""
-    name, said = readable(plan.scenario.name) if plan else "Ward", shown.said
+    """The page. While a verb runs it loads itself again and again, and has no plan, which would take the time of the search."""
+    name, said = shown.name, shown.said
     # A cell that was clicked, and a question, take the place of an older verb's answer.
     is_old = bool(shown.asks) or (shown.place is not None and not said.is_fault and not said.runs)
     parts: List[Markup] = [element("h1", name), *([] if is_old else _said(said, shown.kept, address))]

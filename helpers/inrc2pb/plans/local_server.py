@@ -8,6 +8,7 @@ from http.server import BaseHTTPRequestHandler, ThreadingHTTPServer
 from typing import Dict, Optional, Tuple
 from urllib.parse import parse_qsl, quote, urlsplit
 
+from ..judging.absences import readable
 from ..programs.interrupts import Interrupts
 from ..shown.calendars import file_names
 from ..shown.page import page_text
@@ -35,6 +36,8 @@ class Site:
     def __init__(self, jobs: Jobs, host: str) -> None:
         self.jobs, self.host, self.port = jobs, host, 0
         self.base = f"/{secrets.token_urlsafe(16)}/"
+        # The ward, as far as it is known.
+        self.name = "Ward"
         self.fault: Optional[Said] = None
         # The fields of the last form.
         self.kept: Dict[str, str] = {}
@@ -52,6 +55,7 @@ class Site:
         said = self.jobs.said()
         try:
             plan = self.jobs.verbs().current()
+            self.name = readable(plan.scenario.name)
         except Exception as fault:
             return None, said if said.runs else Said(fault_lines(fault), True)
         if self.fault and not said.runs:
@@ -91,6 +95,9 @@ class _Handler(BaseHTTPRequestHandler):
         path, query = self._path()
         if path is None:
             return
+        running = self.site.jobs.said()
+        if not path and running.runs:
+            return self._answer(page_markup(None, Shown(running, name=self.site.name), self.site.base))
         plan, said = self.site.plan()
         worked = self.site.jobs.folder.top / WORKED
         has_worked = worked.is_file() and (plan is None or plan.open_week > 0)
@@ -103,7 +110,7 @@ class _Handler(BaseHTTPRequestHandler):
         else:
             kept = self.site.fields(said)
             place = _place(plan, query) or _looked(plan, kept, said)
-            shown = Shown(said, place, kept=kept, spreadsheet=self.site.spreadsheet, has_worked=has_worked)
+            shown = Shown(said, place, kept=kept, spreadsheet=self.site.spreadsheet, has_worked=has_worked, name=self.site.name)
             self._answer(page_markup(plan, shown, self.site.base))
 
     def _page(self, path: str, plan: WardPlan) -> None:
@@ -138,7 +145,7 @@ class _Handler(BaseHTTPRequestHandler):
             return self._refuse(400, "this is no form of the page")
         if self.site.post(fields):
             plan, said = self.site.plan()
-            return self._answer(page_markup(plan, Shown(said, asks=fields), self.site.base))
+            return self._answer(page_markup(plan, Shown(said, asks=fields, name=self.site.name), self.site.base))
         self.send_response(303)
         self.send_header("Location", self.site.base)
         self.send_header("Content-Length", "0")
