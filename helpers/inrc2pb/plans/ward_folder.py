@@ -107,7 +107,7 @@ class WardFolder:
         stopped = threading.Event()
         with interrupts() as signals, signals.calling(stopped.set):
             while not stopped.wait(_PAUSE):
-                if _is_taken(file):
+                if _is_taken(file) and not signals.caught:
                     say("the other run has ended")
                     return
         raise KeyboardInterrupt
