@@ -160,9 +160,9 @@ def main() -> Optional[int]:
     _check(given)
     folder = WardFolder(given.folder)
     if given.verb == "check":
-        verbs = _verbs(folder)
-        print("\n".join(verbs.check()))
-        return verbs.status
+        reading = _verbs(folder)
+        print("\n".join(reading.check()))
+        return reading.status
     folder.spreadsheet()
     find_program()
     if given.verb == "serve":
