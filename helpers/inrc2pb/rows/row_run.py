@@ -93,7 +93,7 @@ class RowRun:
             self._try(search.generate, ROWS_SHARE)
             if search.complete and search.misses_minimums and (self._keeps_limits or self._no_roster()):
                 return
-            if search.complete and self._dives_beside:
+            if search.complete and self._dives_beside and search.penalty is not None:
                 break
             rows = self._try(search.dive, LAST_DIVE_SHARE if search.complete else DIVE_SHARE)
             if rows:
@@ -129,7 +129,7 @@ class RowRun:
 
     def _close_gap(self, search: RowSearch, solver: LinearSolver) -> None:
         """Looks for the best roster, with a tree of cases beside that."""
-        if not (self._dives_beside or search.is_proved):
+        if search.penalty is None or not (self._dives_beside or search.is_proved):
             self._try(lambda part: search.choose(search.known_within(), part, "known rows"), KNOWN_SHARE)
         if search.penalty is None or search.is_proved:
             return
