@@ -14,7 +14,7 @@ NEVER = 1 << 50
 
 class RunState(NamedTuple):
     """The runs that are open at the end of a day, and the choice of that day. `trained` is the run of days with work and training, if it
-    has training, and `is_due` says that no day of it could have been off."""
+    has training, and `is_due` says that no day of it could have been off. If `is_called`, a choice differs from that of an older row."""
 
     choice: int
     shift_run: int
@@ -22,17 +22,26 @@ class RunState(NamedTuple):
     off_run: int
     trained: int = 0
     is_due: bool = False
+    is_called: bool = False
+
+
+# The choice of an older row for a day on which all choices are alike.
+ANY_CHOICE = 255
 
 
 class Beside(NamedTuple):
     """A nurse's days away that concern the days beside them: those of training, which is work in a row, and those before which she should
-    have none of these shift types. Each day that is otherwise costs so much, in points; days before `fixed` do not change."""
+    have none of these shift types. Each day that is otherwise costs so much, in points; days before `fixed` do not change. A row that
+    differs from the older one costs `call` points.
+    """
 
     training: FrozenSet[int] = frozenset()
     free: FrozenSet[int] = frozenset()
     nights: FrozenSet[str] = frozenset()
     cost: int = 0
     fixed: int = 0
+    older: bytes = b""
+    call: int = 0
 
 
 Step = Tuple[int, RunState]
@@ -112,10 +121,10 @@ class Runs:
                 length, cost = (now.shift_run + 1, works) if choice == now.choice else (1, works + closed)
                 cost += self._shift_run * (length > limits.maximum)
                 found.append((cost, RunState(choice, shortened(length, limits, left), run, 0)))
-        return [self._with_days_away(day, now, step) for step in found] if self._beside.cost else found
+        return [self._with_days_away(day, now, step) for step in found] if self._beside.cost or self._beside.call else found
 
     def _with_days_away(self, day: int, before: RunState, step: Step) -> Step:
-        """The step with the run of work and training at the end of the day, and with what too long a one and a night before cost."""
+        """The step with the run of work and training at the end of the day, and with what that, a night before and a call cost."""
         (cost, now), away, limits = step, self._beside, Limits(1, self.contract.working_days.maximum)
         run, is_due = 0, False
         if now.choice:
@@ -125,4 +134,7 @@ class Runs:
             is_due = before.is_due if before.trained else not before.work_run or day <= away.fixed
         from_night = day in away.free and day > away.fixed and not now.choice and before.choice in self._nights
         cost += away.cost * ((run > limits.maximum and not is_due) + from_night)
-        return cost, now._replace(trained=shortened(run, limits, self.days - day - 1) if run else 0, is_due=is_due)
+        is_called = before.is_called or (away.call > 0 and away.older[day] not in (now.choice, ANY_CHOICE))
+        cost += away.call * (is_called and not before.is_called)
+        trained = shortened(run, limits, self.days - day - 1) if run else 0
+        return cost, now._replace(trained=trained, is_due=is_due, is_called=is_called)

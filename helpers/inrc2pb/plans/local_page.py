@@ -166,8 +166,9 @@ def _cell(plan: WardPlan, place: Place, address: str) -> Markup:
         element("ul", *(items or [element("li", "nothing is charged in this week")])),
     ]
     if cell:
-        parts.append(element("p", "Who could take it, and what it adds to the points:"))
-        for offer in swaps.offers(nurse, day)[:MOST_OFFERS]:
+        offers = swaps.offers(nurse, day)[:MOST_OFFERS]
+        parts.append(element("p", "Who could take it, and what it adds to the points:" if offers else "Nobody can take it."))
+        for offer in offers:
             others = [plan.days.head(other) for other in offer.swap.days if other != day]
             words = {
                 "nurse": nurse,

@@ -9,14 +9,14 @@ from ..judging.absences import absences_of, is_broken_by
 from ..judging.days_away import DaysAway
 from ..judging.rules import MISSING_NURSE
 from ..week.records import Cell, Place
-from .few_changes import POINTS
+from .few_changes import CALL_POINTS, POINTS
 from .nurse_weeks import NurseWeeks
 from .plan_days import WEEK_DAYS
 from .shift_changes import ShiftChange, shift_changes
 from .ward_plan import WardPlan
 
-# What a nurse to call counts beside her changes, in points; and the most seconds for all of it.
-CALL_POINTS, SECONDS = 20, 8.0
+# The most seconds for it.
+SECONDS = 8.0
 Key = Tuple[str, int]
 Works = Dict[Key, Cell]
 

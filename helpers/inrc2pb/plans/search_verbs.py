@@ -11,8 +11,8 @@ from ..week.faults import Misuse, ProgramFault
 from ..week.hints import plural
 from .agreed_days import AgreedDay, broken_line
 from .days_beside import beside_lines
-from .few_changes import POINTS
-from .needless_changes import CALL_POINTS, without_needless_changes
+from .few_changes import CALL_POINTS, POINTS
+from .needless_changes import without_needless_changes
 from .plan_days import WEEK_DAYS
 from .plan_search import MOST, NONE, Asked, Found, search_plan, why_no_plan
 from .plan_store import PlanStore, cost_lines, not_kept_lines, wording_of
@@ -129,7 +129,8 @@ def _result(store: PlanStore, old: WardPlan, found: Found, few_changes: bool) ->
     is_kept = not lines
     changes = shift_changes(before.cells(), new.cells()) if before else []
     if before and (before.published or few_changes):
-        lines += [*change_lines(changes, new.days, new.away), *call_lines(changes, new.away)] or ["no shift changes"]
+        called = call_lines(changes, new.away) or ["nobody to call"]
+        lines += [*change_lines(changes, new.days, new.away), *called] if changes else ["no shift changes"]
     elif before:
         # Nobody has seen the older plan.
         lines.append(f"{plural(len(changes), 'shift')} {'differs' if len(changes) == 1 else 'differ'} from the last plan")

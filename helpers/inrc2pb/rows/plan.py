@@ -4,7 +4,7 @@ Days count from 0 through all weeks. A choice is 0 for a day off, and one more t
 """
 
 from dataclasses import dataclass, replace
-from typing import Dict, FrozenSet, Iterable, Iterator, List, NamedTuple, NewType, Optional, Sequence, Tuple
+from typing import Dict, FrozenSet, Iterable, Iterator, List, Mapping, NamedTuple, NewType, Optional, Sequence, Tuple
 
 from ..judging.absences import MARK, absences_of
 from ..judging.days_away import DaysAway
@@ -22,6 +22,13 @@ POINT = 1000
 STEP = 5
 
 Held = Dict[Tuple[str, int], List[Cell]]
+
+
+class Calls(NamedTuple):
+    """The rows of nurses in an older roster, and what a nurse costs whose row differs from it, in points. ANY_CHOICE differs from none."""
+
+    older: Mapping[str, bytes] = {}
+    points: int = 0
 
 
 class Keeping(NamedTuple):
@@ -59,6 +66,7 @@ class Plan:
     limits: FrozenSet[KeptLimit] = frozenset()
     keeping: Keeping = STRICT
     beside: DaysAway = DaysAway()
+    calls: Calls = Calls()
 
     @staticmethod
     def of(
@@ -126,11 +134,13 @@ class Plan:
         return min((limit.most for limit in self.limits if limit[:2] == (nurse, kind)), default=None)
 
     def beside_of(self, nurse: str) -> Beside:
-        """The nurse's days away that concern the days beside them, if these are kept."""
+        """The nurse's days away that concern the days beside them, if these are kept, and her older row."""
         training, free = (frozenset(day for who, day in days if who == nurse) for days in self.beside[:2])
+        older = self.calls.older.get(nurse, b"")
+        found = Beside(older=older, call=self.calls.points) if self.charging and older else Beside()
         if not (self.charging and self.keeping.limit and (training or free)):
-            return Beside()
-        return Beside(training, free, self.beside.nights, self.keeping.limit, self.beside.fixed)
+            return found
+        return found._replace(training=training, free=free, nights=self.beside.nights, cost=self.keeping.limit, fixed=self.beside.fixed)
 
     def facts(self) -> Tuple[Claim, ...]:
         """The absences and limits that its rows keep, as facts about its weeks."""
@@ -157,7 +167,7 @@ class Plan:
         """The same plan without the soft rules."""
         demand = {place: Requirement(asked.minimum, asked.minimum) for place, asked in self.demand.items() if asked.minimum}
         away = self.away if self.keeping.absence == NEVER else frozenset()
-        return replace(self, demand=demand, charging=False, away=away, limits=frozenset(), beside=DaysAway())
+        return replace(self, demand=demand, charging=False, away=away, limits=frozenset(), beside=DaysAway(), calls=Calls())
 
     def requests(self) -> Dict[str, List[Request]]:
         """The requests of each nurse, with the days of the plan."""

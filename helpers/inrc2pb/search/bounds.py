@@ -12,7 +12,7 @@ from ..programs.processes import Processes
 from ..programs.program import WeekFiles, find_program, run_unless_stopped
 from ..rows.case_pricing import CasePricing
 from ..rows.certificate import Certificate
-from ..rows.plan import FREE, STRICT, Keeping, Plan
+from ..rows.plan import FREE, STRICT, Calls, Keeping, Plan
 from ..rows.pricing import Pricing, plain_bound
 from ..rows.row_arrays import numpy
 from ..rows.row_run import RowRun
@@ -107,7 +107,7 @@ class Bounds:
             return None
         self._write(certificate)
         # Bounds speak of absences and limits alone.
-        plan, only = replace(run.plan.kept(keeping), beside=DaysAway()), _only(run.plan, keeping)
+        plan, only = replace(run.plan.kept(keeping), beside=DaysAway(), calls=Calls()), _only(run.plan, keeping)
         answer = self._prover.answer(self._options, self._name, certificate, plan.facts(), seconds)
         found = re.match("lower bound ([0-9]{1,18})\n", answer or "")
         if answer is not None and not found:

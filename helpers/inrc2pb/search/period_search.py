@@ -115,22 +115,22 @@ class PeriodSearch:
             penalty = self._checked(cells, trial)
             if penalty is None:
                 return None
-            value = run.search.value_of(rows) if self._weeks.later() and run.search and not plan.adds else None
+            value = run.search.value_of(rows) if counts_more and run.search and not plan.adds else None
             rank = (*self._weeks.not_kept(cells), penalty if value is None else value)
             if self._rank is None or rank < self._rank or value is not None:
                 self._keep(cells)
                 self._cells, self._rank, self.penalty = cells, rank, rank[2]
                 given = "week after week" if self._start is None else "the earlier plan"
                 self._progress.improved(penalty, given if finder == GIVEN else finder)
-            # Before the search, the cost of the weeks that are not known is not known either.
-            return Points(rank[2]) if run.search or not self._weeks.later() else None
+            # Before the search, the cost of calls, and of the weeks that are not known, is not known either.
+            return Points(rank[2]) if run.search or not counts_more else None
 
         def heard() -> None:
             keeps_all = self._rank is not None and not any(self._rank[:2])
             if run.lower_bound is not None and plan.keeping == STRICT and keeps_all and not self._weeks.later():
                 self._progress.bound_rose(run.lower_bound)
 
-        splits = not self._weeks.later()
+        splits, counts_more = not self._weeks.later(), bool(self._weeks.later() or plan.calls.points)
         run = RowRun(plan, solver, self._clock, offer, heard, self._first(plan, solver), self._seed, splits)
         runs.append(run)
         run.run()

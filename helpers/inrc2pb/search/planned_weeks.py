@@ -14,7 +14,7 @@ from ..week.records import Cell, History, Scenario, Solution, Week, WeekData
 from ..week.files import check_week_number, check_weeks_left, read_history, read_scenario, read_week, write_history, write_solution
 from ..judging.misfits import read_held
 from ..judging.next_history import next_history
-from ..rows.plan import WEEK_DAYS, Plan
+from ..rows.plan import WEEK_DAYS, Calls, Plan
 from ..programs.program import WeekFiles
 
 
@@ -47,10 +47,10 @@ class WrittenWeek(NamedTuple):
 
 class PlannedWeeks:
     """The weeks that are planned, as values. `hints` names the fix files that seem to be of another week, and `beside` has the days away
-    that concern the days beside them."""
+    that concern the days beside them; `calls` has an older roster."""
 
-    def __init__(self, files: PeriodFiles, beside: DaysAway = DaysAway()) -> None:
-        self.files, self.beside = files, beside
+    def __init__(self, files: PeriodFiles, beside: DaysAway = DaysAway(), calls: Calls = Calls()) -> None:
+        self.files, self.beside, self.calls = files, beside, calls
         self.hints: List[str] = []
         self.scenario: Scenario = read_scenario(files.scenario)
         self.history: History = read_history(files.history, self.scenario)
@@ -82,7 +82,7 @@ class PlannedWeeks:
     def plan(self) -> Plan:
         """All weeks as one plan, those of the forecast included."""
         plan = Plan.of(self.scenario, self.history, [*self.data, *self.later()], self.files.early, self.held)
-        return replace(plan, beside=self.beside)
+        return replace(plan, beside=self.beside, calls=self.calls)
 
     def week_files(self, number: int, history: Optional[Path] = None) -> WeekFiles:
         """The files of a week. Its history is the given one of the first week, or another."""

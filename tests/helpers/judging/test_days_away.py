@@ -7,7 +7,8 @@ from dataclasses import replace
 from ward import HISTORY, SCENARIO, WEEK, files
 
 from inrc2pb.judging.days_away import DaysAway, LongRow, excess, long_rows, nights_before
-from inrc2pb.rows.plan import ABSENCES_KEPT, Plan
+from inrc2pb.judging.runs import ANY_CHOICE
+from inrc2pb.rows.plan import ABSENCES_KEPT, Calls, Plan
 from inrc2pb.rows.pricing import Crews, Pricing
 from inrc2pb.week.dates import times_of
 
@@ -80,6 +81,19 @@ class Rows(unittest.TestCase):
                 seen[breaks] += 1
                 self.assertEqual((strict, less_strict == cost), (None, False) if breaks else (cost, True), (nurse, signs, away.fixed, list(row)))
         self.assertGreater(min(seen.values()), 50)
+
+    def test_a_row_that_differs_from_an_older_one_costs_a_call(self):
+        chance, plain = random.Random(5), Plan.of(WARD, PAST, [DATA, DATA])
+        older = {nurse: bytes(chance.choice((0, 0, 1, 2, 3, ANY_CHOICE)) for _ in range(14)) for nurse in WARD.nurses if nurse != "Finn"}
+        called = replace(plain, calls=Calls(older, 40))
+        without, costs = (Pricing(one, Crews(one), lambda: None) for one in (plain, called))
+        for number, nurse in enumerate(WARD.nurses):
+            row = bytes(choice if choice != ANY_CHOICE else 1 for choice in older.get(nurse, bytes(14)))
+            for day in range(14):
+                tried = row[:day] + bytes([(row[day] + 1) % 4]) + row[day + 1 :]
+                differs = nurse in older and any(old not in (choice, ANY_CHOICE) for old, choice in zip(older[nurse], tried))
+                cost = without.cost(number, tried)
+                self.assertEqual(costs.cost(number, tried), None if cost is None else cost + 40 * differs, (nurse, day))
 
 
 if __name__ == "__main__":
