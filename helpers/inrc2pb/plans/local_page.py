@@ -21,10 +21,10 @@ from .swaps import Swaps
 from .ward_plan import WardPlan
 
 REFRESH_SECONDS = 2
-WORKED_PAGE, _WORKED_TEXT = "worked", "Weeks that are over"
+WORKED_PAGE, _WORKED_TEXT, _ROSTER = "worked", "Weeks that are over", "roster"
 _GUIDE = (
     "The spreadsheet is {}: change it, save it, and plan again. "
-    "A button that writes asks first, and Undo takes back what the last one wrote."
+    "A button that writes asks first, and Undo takes back what the last one wrote. "
 )
 STYLE = """
 form { margin: .5em 0 }
@@ -73,7 +73,8 @@ def page_markup(plan: Optional[WardPlan], shown: Shown, address: str) -> str:
     elif plan and not said.runs:
         if shown.place and plan.is_planned:
             parts.append(_cell(plan, shown.place, address))
-        parts.append(element("p", _GUIDE.format(shown.spreadsheet)))
+        to_roster = [element("a", "To the roster", href=f"#{_ROSTER}")] * plan.is_planned
+        parts.append(element("p", _GUIDE.format(shown.spreadsheet), *to_roster))
         clicked = {"nurse": shown.place.nurse, "first": plan.days.head(shown.place.day)} if shown.place else {}
         for form in FORMS:
             kept = shown.kept if form.verb == shown.kept.get("verb") and not clicked else clicked
@@ -133,7 +134,7 @@ def _roster(plan: WardPlan, address: str) -> Markup:
     links = [("Costs, totals and coverage", "roster"), ("Page for the wall", "wall"), *calendars, *links]
     hint = element("p", "Click a nurse's day: what her week costs, and who could take her shift.")
     cost = element("p", "" if plan.view().penalty is None else f"{plan.view().penalty} points. ", *_linked(links, address), class_="links")
-    return element("section", element("h2", "Roster"), cost, *notes, hint, *table.tables(), legend)
+    return element("section", element("h2", "Roster"), cost, *notes, hint, *table.tables(), legend, id=_ROSTER)
 
 
 def _linked(links: Sequence[Tuple[str, str]], address: str) -> List[Markup]:

@@ -145,6 +145,11 @@ class Page(FolderTest):
         page = self.asks()[1]
         self.assertIn("not possible: Finn never works Night", page)
         self.assertNotIn("Write this swap", page)
+        # Nobody else works nights.
+        for row in self.rows["nurses"][1:]:
+            row[3] = "" if row[0] == nurse else "Night"
+        self.write()
+        self.assertIn("<p>Nobody can take it.</p>", self.asks(path=f"{self.site.path}?nurse={nurse}&day={day}")[1])
 
     def test_what_a_newcomer_looks_for(self):
         page = self.asks()[1]
@@ -186,6 +191,7 @@ class Page(FolderTest):
         page = self.asks()[1]
         for name in ("roster", "wall", "calendars"):
             self.assertIn(f'href="{self.site.path}{name}"', page)
+        self.assertTrue('href="#roster"' in page and '<section id="roster">' in page)
         self.assertEqual(self.asks(path=f"{self.site.path}calendars/Chen.ics")[0], 404)
         self.assertIn("There are none yet", self.asks(path=f"{self.site.path}calendars")[1])
         self.sends(verb="page")
