@@ -3,7 +3,7 @@
 from dataclasses import dataclass, field, replace
 from functools import cached_property
 from pathlib import Path
-from typing import Dict, FrozenSet, Iterable, List, Mapping, NamedTuple, Optional, Sequence, Set, Tuple
+from typing import Dict, FrozenSet, Iterable, List, Mapping, NamedTuple, Optional, Sequence, Tuple
 
 from ..judging.absences import absences_of, readable
 from ..judging.days_away import DaysAway
@@ -24,6 +24,7 @@ from . import record
 from .agreed_days import NAME as AGREED
 from .agreed_days import AgreedDay, agreed_text, read_agreed
 from .free_days import days_away_of
+from .leavers import leaving_days, with_shifts_until_leaving
 from .plan_days import WEEK_DAYS, PlanDays
 from .record import Record, read_record
 from .written_absences import WrittenAbsence, read_written, written_text
@@ -66,18 +67,6 @@ def read_stored(folder: Path) -> Stored:
     weeks = [number for number in range(of_plan.days.weeks) if (folder / roster_name(number)).exists()]
     rosters = {number: read_solution(folder / roster_name(number)).cells for number in weeks}
     return Stored(folder, of_plan, start, rosters, read_written(folder, of_plan.days), read_agreed(folder, of_plan.days))
-
-
-def published_days(folders: Iterable[Path], days: PlanDays) -> Dict[str, Set[int]]:
-    """The days of each nurse's shifts in plans of these days that hung on the wall."""
-    found: Dict[str, Set[int]] = {}
-    for folder in folders:
-        of_plan = read_record(folder)
-        rosters = [(number, folder / roster_name(number)) for number in range(days.weeks)]
-        for number, path in rosters if of_plan.published and of_plan.days == days else ():
-            for cell in read_solution(path).cells if path.exists() else ():
-                found.setdefault(cell.nurse, set()).add(WEEK_DAYS * number + cell.day)
-    return found
 
 
 def roster_name(number: int) -> str:
@@ -128,7 +117,9 @@ class WardPlan:
     @cached_property
     def claims(self) -> Tuple[Claim, ...]:
         """The absences and the limits that hold, as facts."""
-        return read_given(FACTS, self.scenario, self.sheet.texts[FACTS])
+        claims, history = read_given(FACTS, self.scenario, self.sheet.texts[FACTS]), credited(self.start, self.sheet.credit)
+        leaving = leaving_days(read_reasons(REASONS, self.scenario, self.sheet.texts[REASONS]), self.days.total)
+        return tuple(with_shifts_until_leaving(claims, self.scenario, history, self.rosters, leaving))
 
     @cached_property
     def data(self) -> List[WeekData]:

@@ -18,10 +18,12 @@ from inrc2pb.plans.days_beside import beside_lines
 from inrc2pb.plans.few_changes import with_few_changes
 from inrc2pb.plans.needless_changes import without_needless_changes
 from inrc2pb.plans.plan_days import PlanDays
+from inrc2pb.plans.plan_store import not_kept_lines
 from inrc2pb.plans.shift_changes import call_lines, change_lines, shift_changes
 from inrc2pb.plans.ward_plan import read_stored
 from inrc2pb.plans.wish_words import wish_lines
 from inrc2pb.shown.page import page_text
+from inrc2pb.week.facts import Charged
 from inrc2pb.week.faults import FileFault
 from inrc2pb.week.records import Absence, Cell, Request
 
@@ -124,6 +126,19 @@ class Words(KeptTest):
         # The page has the line, but not the one for the wall.
         self.assertIn(f"<p>{says}</p>", page_text(pages.roster_content(plan)))
         self.assertNotIn(says, page_text(replace(pages.roster_content(plan), only_table=True)))
+
+    def test_a_nurse_who_leaves_may_have_the_shifts_until_then(self):
+        # Grace has five shifts from Monday to Friday. Her limit is that of the part of the plan before she leaves, rounded up.
+        self.rows["contracts"][1][1:3] = ["0", "8!"]
+        for first, most in ((8, 1), (6, 2), (3, 0)):
+            self.rows["plan"][7][1:] = [""] * (first - 1) + ["away"] * (15 - first)
+            self.write()
+            sheet = read_sheet(self.ward, None, ())
+            plan = replace(self.plan, sheet=sheet)
+            limit = next(fact.most for fact, _ in plan.claims if isinstance(fact, Charged) and fact.nurse == "Grace")
+            self.assertEqual(limit, most, first)
+            gone = plan.with_cells(cell for cell in plan.cells() if cell.nurse != "Grace" or cell.day < first - 1)
+            self.assertFalse([line for line in not_kept_lines(gone) if "Grace" in line])
 
     def test_agreed_days_cost_much(self):
         old = [Cell("Chen", 4, "Late", "Nurse")]
