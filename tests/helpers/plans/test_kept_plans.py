@@ -22,6 +22,10 @@ from inrc2pb.plans.plan_store import not_kept_lines
 from inrc2pb.plans.shift_changes import call_lines, change_lines, shift_changes
 from inrc2pb.plans.ward_plan import read_stored
 from inrc2pb.plans.wish_words import wish_lines
+from inrc2pb.programs.clock import Clock
+from inrc2pb.programs.progress import Progress
+from inrc2pb.search.bounds import Bound
+from inrc2pb.search.period_search import PeriodSearch
 from inrc2pb.shown.page import page_text
 from inrc2pb.week.facts import Charged
 from inrc2pb.week.faults import FileFault
@@ -275,6 +279,20 @@ class Training(KeptTest):
         self.assertNotIn("with work or training", printed)
         row = [day in range(5, 8) or ("Grace", day) in self.cells() for day in range(14)]
         self.assertLessEqual(max(len(run) for run in "".join(".x"[is_on] for is_on in row).split(".")), 5)
+
+    def test_the_bound_of_plans_that_count_training(self):
+        search = PeriodSearch(mock.Mock(**{"options.return_value": [], "later.return_value": [], "scenario.name": "ward"}), None, Clock(1), Progress(None))
+        search.penalty, search.bound = 1170, Bound(1080, "inrc2pb-bound", "absences")
+        begin = "lower bound 1080 of the sum with all absences (inrc2pb-bound)"
+        beside = "if training is work in a row, and no night shift comes before it or leave (plain Python, not proved)"
+        for bound, says in (
+            (1170, f"{begin}; 1170 {beside}: no such plan costs less"),
+            (1100, f"{begin}; 1100 {beside}: the gap is 70, 6.0 %"),
+            (1080, f"{begin}: the gap is 90, 7.7 %"),
+            (None, f"{begin}: the gap is 90, 7.7 %"),
+        ):
+            search.bound_beside = bound
+            self.assertEqual(search.line(), says)
 
     def test_what_no_plan_can_keep_is_told(self):
         # Only Dilek works nights, one is needed on Monday, and she has training on Tuesday.
