@@ -51,7 +51,7 @@ class Check:
         """Prints the warnings about a file without a mistake."""
         for warning in warnings:
             print(f"{path}: warning: {warning}")
-            self.impossible = self.impossible or warning.endswith(IMPOSSIBLE)
+            self.impossible = self.impossible or IMPOSSIBLE in warning
 
     def name(self, name: str, scenario: Scenario) -> Iterator[str]:
         """A warning if the file is of another ward."""

@@ -160,20 +160,23 @@ def main() -> Optional[int]:
     _check(given)
     folder = WardFolder(given.folder)
     if given.verb == "check":
-        print("\n".join(_verbs(folder).check()))
-        return 0
+        reading = _verbs(folder)
+        print("\n".join(reading.check()))
+        return reading.status
     folder.spreadsheet()
     find_program()
     if given.verb == "serve":
         _serve(folder, given)
         return 0
-    last = folder.last()
+    verbs: Optional[Verbs] = None
+    last: Optional[Path] = None
     try:
-        with folder.locked(_say):
-            verbs = _verbs(folder)
+        with folder.locked(_say, "; Ctrl-C ends it"):
+            # The time of a search begins here.
+            verbs, last = _verbs(folder), folder.last()
             lines = _done(verbs, given)
     except KeyboardInterrupt:
-        if folder.last() == last:
+        if verbs is None or folder.last() == last:
             _say("nothing was written")
         raise
     print("\n".join(lines))

@@ -1,6 +1,6 @@
 """What can be counted before planning: nurses who are needed at once, and shifts that a week asks for and contracts supply."""
 
-from typing import Collection, Dict, Iterator, List, Optional, Sequence, Tuple
+from typing import Collection, Dict, Iterator, List, NamedTuple, Optional, Sequence, Tuple
 
 from .absences import absences_of, joined
 from .odd_values import IMPOSSIBLE
@@ -8,7 +8,15 @@ from ..week.facts import SHIFTS
 from .rules import ASSIGNMENT_TOTAL, MISSING_NURSE
 from ..week.records import DAYS, Absence, Cell, History, Place, Scenario, WeekData
 
-_KEEPING = "no roster can meet it and keep every absence"
+# What warnings say of weeks whose rosters break an absence, or exceed a limit that holds.
+UNKEPT, ABOVE_LIMITS = "no roster that keeps every absence can meet it", "too many to keep the limits that hold"
+
+
+class _Short(NamedTuple):
+    """That places of a day need more nurses than there are, and what would help."""
+
+    text: str
+    cure: str
 
 
 def demand_warnings(scenario: Scenario, history: Optional[History], data: WeekData) -> Iterator[str]:
@@ -16,8 +24,10 @@ def demand_warnings(scenario: Scenario, history: Optional[History], data: WeekDa
     found: Dict[str, List[str]] = {}
     for day, name in enumerate(DAYS):
         always, there = _shortage(scenario, history, data, day, ()), _shortage(scenario, history, data, day, absences_of(data))
-        if always or there:
-            found.setdefault(f"{always}: {IMPOSSIBLE}" if always else f"{there}: {_KEEPING}", []).append(name)
+        if always:
+            found.setdefault(f"{always.text}: {IMPOSSIBLE}: {always.cure}", []).append(name)
+        elif there:
+            found.setdefault(f"{there.text}: {UNKEPT}: {there.cure}, or shorten an absence", []).append(name)
     for text, days in found.items():
         yield f"{joined(days)}: {text}"
     asked, supplied = asked_shifts(data), supplied_shifts(scenario, history)
@@ -58,7 +68,7 @@ def supply_warnings(scenario: Scenario, history: History, weeks: Sequence[WeekDa
         costs = f"each shift above costs {ASSIGNMENT_TOTAL} points, and a nurse below a best number {MISSING_NURSE}: lower best numbers"
         if hold.issuperset(scenario.nurses):
             costs = f"{best - supplied} will be missing, for {MISSING_NURSE} points each: lower best numbers"
-            costs = f"{least - supplied} too many to keep the limits that hold: lower minimum numbers" if least > supplied else costs
+            costs = f"{least - supplied} {ABOVE_LIMITS}: lower minimum numbers" if least > supplied else costs
         supply = f"and the contracts supply at most {supplied} beside absences"
         yield f"the best numbers ask for {best} shifts, the minimum numbers for {least}, {supply}: {costs}"
 
@@ -71,7 +81,9 @@ def can_work(scenario: Scenario, history: Optional[History], away: Collection[Ab
     return place.skill in scenario.nurses[nurse].skills and is_free and may_follow
 
 
-def _shortage(scenario: Scenario, history: Optional[History], data: WeekData, day: int, away: Collection[Absence]) -> str:
+def _shortage(
+    scenario: Scenario, history: Optional[History], data: WeekData, day: int, away: Collection[Absence]
+) -> Optional[_Short]:
     """The places of a day that need more nurses at once than could fill them, if there are any."""
     places = [
         place for place, asked in data.requirements.items() if place.day == day for _ in range(min(asked.minimum, len(scenario.nurses) + 1))
@@ -83,8 +95,8 @@ def _shortage(scenario: Scenario, history: Optional[History], data: WeekData, da
         if tried is not None:
             some = {places[slot], *(places[filled[nurse]] for nurse in tried)}
             short = [place for place in data.requirements if place in some]
-            return _shortage_text(scenario, data, short, len(tried))
-    return ""
+            return _short_of(scenario, data, short, len(tried))
+    return None
 
 
 def _fill(slot: int, places: Sequence[Place], could: Dict[Place, List[str]], filled: Dict[str, int]) -> Optional[List[str]]:
@@ -113,17 +125,18 @@ def _move(nurse: str, slot: int, came: Dict[str, int], filled: Dict[str, int]) -
         nurse = holders[left]
 
 
-def _shortage_text(scenario: Scenario, data: WeekData, short: Sequence[Place], have: int) -> str:
+def _short_of(scenario: Scenario, data: WeekData, short: Sequence[Place], have: int) -> _Short:
     """Places that need more nurses than there are, in words."""
     need = sum(data.requirements[place].minimum for place in short)
     skills, some = {place.skill for place in short}, [f"{place.shift} {data.requirements[place].minimum}" for place in short]
     if len(skills) > 1:
         named = joined(f"{place.shift} {place.skill}" for place in short)
-        return f"{named} need {need} nurses at once, and {have} could do it"
+        return _Short(f"{named} need {need} nurses at once, and {have} could do it", f"lower minimum numbers by {need - have} in all")
     skill = short[0].skill
     owners = sum(skill in nurse.skills for nurse in scenario.nurses.values())
     has = f"{have} have it" if owners == have else f"{have} of the {owners} who have it could do it"
-    return f"{need} with {skill} needed at once ({', '.join(some)}), and {has}"
+    cure = f"lower minimum numbers by {need - have}, or give more nurses the skill"
+    return _Short(f"{need} with {skill} needed at once ({', '.join(some)}), and {has}", cure)
 
 
 def hindrance(scenario: Scenario, history: History, away: Collection[Absence], cells: Sequence[Cell], nurse: str, place: Place) -> str:

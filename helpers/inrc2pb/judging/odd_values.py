@@ -6,7 +6,7 @@ from ..week.records import DAYS, Contract, History, Limits, NurseHistory, Requir
 from ..week.hints import plural
 from ..week.slots import is_utf8
 
-# The end of a warning of a week that has no roster.
+# What a warning of a week says that has no roster.
 IMPOSSIBLE = "no roster can meet it"
 
 
@@ -96,7 +96,8 @@ def week_warnings(scenario: Scenario, data: WeekData) -> Iterator[str]:
 def _odd_number(required: Requirement, have: int) -> str:
     """A warning of a place for which this number of nurses has the skill."""
     if required.minimum > have:
-        return f"at least {required.minimum} are needed, and {plural(have, 'nurse')} {_has(have)} the skill: {IMPOSSIBLE}"
+        cure = f"lower {required.minimum} to {have}, or give more nurses the skill"
+        return f"at least {required.minimum} are needed, and {plural(have, 'nurse')} {_has(have)} the skill: {IMPOSSIBLE}: {cure}"
     if required.optimal > have:
         return f"{required.optimal} are best, and {plural(have, 'nurse')} {_has(have)} the skill"
     if 0 < required.optimal < required.minimum:

@@ -3,7 +3,7 @@
 A choice is 0 for a day off, and one more than the index of its shift type otherwise.
 """
 
-from typing import Dict, List, NamedTuple, Sequence, Set, Tuple
+from typing import Dict, FrozenSet, List, NamedTuple, Sequence, Set, Tuple
 
 from ..week.records import DAYS, Contract, Limits, NurseHistory, ShiftType
 from .rules import DAYS_OFF_RUN, HALF_WEEKEND, SHIFT_RUN, SUNDAY, WORK_RUN
@@ -13,12 +13,35 @@ NEVER = 1 << 50
 
 
 class RunState(NamedTuple):
-    """The runs that are open at the end of a day, and the choice of that day."""
+    """The runs that are open at the end of a day, and the choice of that day. `trained` is the run of days with work and training, if it
+    has training, and `is_due` says that no day of it could have been off. If `is_called`, a choice differs from that of an older row."""
 
     choice: int
     shift_run: int
     work_run: int
     off_run: int
+    trained: int = 0
+    is_due: bool = False
+    is_called: bool = False
+
+
+# The choice of an older row for a day on which all choices are alike.
+ANY_CHOICE = 255
+
+
+class Beside(NamedTuple):
+    """A nurse's days away that concern the days beside them: those of training, which is work in a row, and those before which she should
+    have none of these shift types. Each day that is otherwise costs so much, in points; days before `fixed` do not change. A row that
+    differs from the older one costs `call` points.
+    """
+
+    training: FrozenSet[int] = frozenset()
+    free: FrozenSet[int] = frozenset()
+    nights: FrozenSet[str] = frozenset()
+    cost: int = 0
+    fixed: int = 0
+    older: bytes = b""
+    call: int = 0
 
 
 Step = Tuple[int, RunState]
@@ -41,16 +64,19 @@ class Runs:
     """What a day adds to the runs of nurses with one contract. Without `charging` only the shift types that may not follow count.
 
     `shift_run` is the weight of a charge of a run of a shift type, and `above` what a day of work above the maximum in a row costs more, in
-    points; NEVER forbids it.
+    points; NEVER forbids it. `beside` has days away that concern the days beside them.
     """
 
     def __init__(
-        self, types: Sequence[ShiftType], contract: Contract, days: int, charging: bool = True, shift_run: int = SHIFT_RUN, above: int = 0
+        self, types: Sequence[ShiftType], contract: Contract, days: int, charging: bool = True, shift_run: int = SHIFT_RUN, above: int = 0,
+        beside: Beside = Beside(),
     ) -> None:
         self.days, self.charging, self.contract, self._shift_run, self._above = days, charging, contract, shift_run, above
+        self._beside = beside
         self._known: Dict[Tuple[int, RunState], List[Step]] = {}
         self.shifts = [Limits(0, 0), *(kind.consecutive for kind in types)]
         self.numbers = {kind.name: number for number, kind in enumerate(types, 1)}
+        self._nights = {self.numbers[name] for name in beside.nights}
         self.forbidden: List[Set[int]] = [set(), *({self.numbers[name] for name in kind.forbidden_next} for kind in types)]
 
     def before(self, past: NurseHistory) -> RunState:
@@ -95,4 +121,20 @@ class Runs:
                 length, cost = (now.shift_run + 1, works) if choice == now.choice else (1, works + closed)
                 cost += self._shift_run * (length > limits.maximum)
                 found.append((cost, RunState(choice, shortened(length, limits, left), run, 0)))
-        return found
+        return [self._with_days_away(day, now, step) for step in found] if self._beside.cost or self._beside.call else found
+
+    def _with_days_away(self, day: int, before: RunState, step: Step) -> Step:
+        """The step with the run of work and training at the end of the day, and with what that, a night before and a call cost."""
+        (cost, now), away, limits = step, self._beside, Limits(1, self.contract.working_days.maximum)
+        run, is_due = 0, False
+        if now.choice:
+            run, is_due = before.trained + bool(before.trained), before.is_due and day < away.fixed
+        elif day in away.training:
+            run = (before.trained or before.work_run) + 1
+            is_due = before.is_due if before.trained else not before.work_run or day <= away.fixed
+        from_night = day in away.free and day > away.fixed and not now.choice and before.choice in self._nights
+        cost += away.cost * ((run > limits.maximum and not is_due) + from_night)
+        is_called = before.is_called or (away.call > 0 and away.older[day] not in (now.choice, ANY_CHOICE))
+        cost += away.call * (is_called and not before.is_called)
+        trained = shortened(run, limits, self.days - day - 1) if run else 0
+        return cost, now._replace(trained=trained, is_due=is_due, is_called=is_called)

@@ -9,6 +9,8 @@ from ..week.records import Cell, Request, Scenario, WeekData
 # The cost of another shift for a nurse, in points, in addition to the charges of the rules; and on a day that she has agreed on. It is
 # less than an absence.
 POINTS, AGREED_POINTS = 20, 250
+# The cost of a nurse with another shift, in addition to that of her shifts, since she has to be called.
+CALL_POINTS = 20
 
 
 def with_few_changes(

@@ -8,12 +8,14 @@ from ..sheets.plan_sheets import AWAY
 from ..week.faults import Misuse
 from ..week.hints import quoted
 from .plan_days import WEEK_DAYS
+from .search_verbs import WEEK_SECONDS
 from .verbs import Verbs
 from .ward_plan import WardPlan
 
 Fields = Mapping[str, str]
 _MOST_SECONDS = 3600.0
 _NEW_PLAN = "a new plan, and its pages"
+_AWAY_TEXT = "on one day, or to the last day; who leaves the ward is away to the end of the plan; plans from the first day on"
 # The field of a form that writes, after the user was asked.
 SURE = "sure"
 
@@ -34,7 +36,7 @@ class Form(NamedTuple):
 FORMS = (
     Form("check", "", "Read the spreadsheet", "names its mistakes, and prints the ward in sentences; writes nothing", (), False, ""),
     Form("plan", "Plan", "Plan", "the weeks that are not over", ("from", "seconds", "free"), False),
-    Form("away", "A nurse is away", "Write an absence", "and plan from its first day on", ("nurse", "first", "last", "reason")),
+    Form("away", "A nurse is away", "Write an absence", _AWAY_TEXT, ("nurse", "first", "last", "reason")),
     Form("back", "A nurse is back", "Back", "from a day on, with few changes", ("nurse", "first")),
     Form("swap", "Two nurses swap", "Look", "what it costs, and who else could swap", ("nurse", "first", "other", "other day", "write it")),
     Form("over", "The week is over", "End the week", "as it was planned, or with corrections such as Chen Fri off", ("corrections",)),
@@ -99,11 +101,12 @@ def form_markup(form: Form, plan: WardPlan, address: str, kept: Fields = {}) -> 
     return element("form", *inside, method="post", action=address)
 
 
-def sure_markup(fields: Fields, plan: WardPlan, address: str) -> Markup:
-    """The question before a verb writes."""
+def sure_markup(fields: Fields, plan: Optional[WardPlan], address: str) -> Markup:
+    """The question before a verb writes. Without a plan, which the spreadsheet may not give now, it is undo."""
     form = next(form for form in FORMS if form.verb == fields["verb"])
-    named = [plan.days.span([plan.first, plan.first + WEEK_DAYS - 1])] if form.verb == "over" else []
-    named += [readable(f"{_LABELS.get(name, name)} {_shown(plan, value)}") for name, value in fields.items() if name != "verb" and value]
+    named = [plan.days.span([plan.first, plan.first + WEEK_DAYS - 1])] if plan and form.verb == "over" else []
+    known = [(name, value) for name, value in fields.items() if name != "verb" and value]
+    named += [readable(f"{_LABELS.get(name, name)} {_shown(plan, value) if plan else value}") for name, value in known]
     given = ", ".join(named)
     hidden = [element("input", type="hidden", name=name, value=value) for name, value in {**fields, SURE: "yes"}.items()]
     yes = element("button", "Yes, write it", autofocus="")
@@ -122,7 +125,7 @@ def _shown(plan: WardPlan, value: str) -> str:
 
 
 def swap_markup(words: Mapping[str, str], text: str, address: str) -> Markup:
-    """A button for a swap that is known."""
+    """A button for a swap that is known, with this text."""
     hidden = [element("input", type="hidden", name=name, value=value) for name, value in {**words, "write it": "yes"}.items()]
     return element("form", *hidden, element("button", text, name="verb", value="swap"), method="post", action=address)
 
@@ -133,6 +136,7 @@ def _field(name: str, plan: WardPlan, kept: str) -> Markup:
         return joined(element("label", element("input", type="checkbox", name=name, value="yes"), label), " ")
     if name in ("seconds", "corrections"):
         kind = {"type": "number", "min": "1", "max": f"{_MOST_SECONDS:.0f}"} if name == "seconds" else {"type": "text"}
+        kind["placeholder"] = f"{WEEK_SECONDS * len(plan.weeks):.0f}" if name == "seconds" else ""
         return joined(element("label", label, element("input", name=name, value=kept or None, **kind)), " ")
     if name == "reason":
         choices: Sequence[Tuple[str, str]] = [(word, word) for word in ("ill", *(word for word in AWAY if word != "ill"))]

@@ -33,7 +33,7 @@ class Jobs:
     def verbs(self, spoken: Optional[io.StringIO] = None) -> Verbs:
         """The verbs of the folder, which say to this text how far they are."""
         text = spoken or io.StringIO()
-        return Verbs(self.folder, Means(self._read, Progress(text), lambda line: print(line, file=text), ""))
+        return Verbs(self.folder, Means(self._read, Progress(text), lambda line: print(line, file=text), "", "the button below writes it"))
 
     @property
     def runs(self) -> bool:
@@ -58,6 +58,8 @@ class Jobs:
         try:
             with self.folder.locked(lambda line: print(line, file=spoken)):
                 self._said = Said(verb(self.verbs(spoken)))
+        except KeyboardInterrupt:
+            self._said = Said(["stopped while it waited: nothing was written"])
         except Exception as fault:
             self._said = Said(fault_lines(fault), True)
 

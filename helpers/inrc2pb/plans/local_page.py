@@ -1,7 +1,7 @@
 """The local page of a ward: its forms, what the last verb has said, the roster, and the charges and swaps of one cell."""
 
 from dataclasses import replace
-from typing import Collection, List, NamedTuple, Optional, Sequence
+from typing import Collection, List, NamedTuple, Optional, Sequence, Tuple
 from urllib.parse import quote, urlencode
 
 from ..judging.absences import readable
@@ -15,11 +15,17 @@ from .local_forms import FORMS, Fields, form_markup, sure_markup, swap_markup
 from .local_jobs import Said
 from .pages import CALENDARS, roster_content
 from .plan_days import WEEK_DAYS
+from .swap_verb import NOT_WRITTEN
 from .swap_words import MOST_OFFERS, offer_text
 from .swaps import Swaps
 from .ward_plan import WardPlan
 
 REFRESH_SECONDS = 2
+WORKED_PAGE, _WORKED_TEXT, _ROSTER = "worked", "Weeks that are over", "roster"
+_GUIDE = (
+    "The spreadsheet is {}: change it, save it, and plan again. "
+    "A button that writes asks first, and Undo takes back what the last one wrote. "
+)
 STYLE = """
 form { margin: .5em 0 }
 fieldset { border: 1px solid #999; padding: .2em .5em .4em }
@@ -44,36 +50,52 @@ class Place(NamedTuple):
 
 
 class Shown(NamedTuple):
-    """What a page shows beside the plan: what was said, the cell that was clicked, the form that asks whether to write, and the fields of
-    the last form."""
+    """What a page shows beside the plan: what was said, the cell that was clicked, the form that asks whether to write, the fields of the
+    last form, the path of the spreadsheet, whether there is a page of the weeks that are over, and the name of the ward."""
 
     said: Said
     place: Optional[Place] = None
     asks: Fields = {}
     kept: Fields = {}
+    spreadsheet: str = ""
+    has_worked: bool = False
+    name: str = "Ward"
 
 
 def page_markup(plan: Optional[WardPlan], shown: Shown, address: str) -> str:
-    """The page. While a verb runs it loads itself again and again."""
-    name, said = readable(plan.scenario.name) if plan else "Ward", shown.said
+    """The page. While a verb runs it loads itself again and again, and has no plan, which would take the time of the search."""
+    name, said = shown.name, shown.said
     # A cell that was clicked, and a question, take the place of an older verb's answer.
     is_old = bool(shown.asks) or (shown.place is not None and not said.is_fault and not said.runs)
-    parts: List[Markup] = [element("h1", name), *([] if is_old else _said(said, address))]
-    if plan and shown.asks:
+    parts: List[Markup] = [element("h1", name), *([] if is_old else _said(said, shown.kept, address))]
+    if shown.asks:
         parts.append(sure_markup(shown.asks, plan, address))
     elif plan and not said.runs:
         if shown.place and plan.is_planned:
             parts.append(_cell(plan, shown.place, address))
-        parts.append(element("p", "A button that writes asks first, and Undo takes back what the last one wrote."))
+        to_roster = [element("a", "To the roster", href=f"#{_ROSTER}")] * plan.is_planned
+        parts.append(element("p", _GUIDE.format(shown.spreadsheet), *to_roster))
         clicked = {"nurse": shown.place.nurse, "first": plan.days.head(shown.place.day)} if shown.place else {}
         for form in FORMS:
             kept = shown.kept if form.verb == shown.kept.get("verb") and not clicked else clicked
             parts += [form_markup(form, plan, address, kept)] * (plan.is_planned or not form.needs_plan)
-    if plan and plan.is_planned and plan.weeks:
+    elif plan is None and not said.runs:
+        parts += _without_plan(shown, address)
+    if plan and (plan.is_planned and plan.weeks or plan.open_week):
         parts.append(_roster(plan, address))
     refresh = [element("meta", http_equiv="refresh", content=str(REFRESH_SECONDS))] * said.runs
-    style = element("style", Markup((page_style(_content(plan, address)) if plan and plan.is_planned else "") + STYLE))
+    style = element("style", Markup(page_style() + STYLE))
     return page_of(name, [*refresh, style], parts)
+
+
+def _without_plan(shown: Shown, address: str) -> List[Markup]:
+    """What there is if the spreadsheet has a fault, or not yet the days of the next period."""
+    again = element("a", "load this page again", href=address)
+    return [
+        element("p", f"Correct that in {shown.spreadsheet}, save it, and ", again, "."),
+        element("form", element("button", "Undo", name="verb", value="undo"), method="post", action=address),
+        element("p", *_linked([(_WORKED_TEXT, WORKED_PAGE)] * shown.has_worked, address), class_="links"),
+    ]
 
 
 def page_of(name: str, head: Sequence[Markup], parts: Sequence[Markup]) -> str:
@@ -84,11 +106,14 @@ def page_of(name: str, head: Sequence[Markup], parts: Sequence[Markup]) -> str:
     return f"<!DOCTYPE html>\n{element('html', element('head', *heads), body, lang='en')}\n"
 
 
-def _said(said: Said, address: str) -> List[Markup]:
-    """The lines of the last verb, and a button that stops it."""
+def _said(said: Said, kept: Fields, address: str) -> List[Markup]:
+    """The lines of the last verb, and a button that stops it, or that writes the swap of which it tells."""
     lines = element("pre", "\n".join(said.lines), role="alert" if said.is_fault else "status", class_="fault" if said.is_fault else None)
     stop = element("form", element("button", "Stop, and keep the best plan", name="verb", value="stop"), method="post", action=address)
-    return [lines] * bool(said.lines) + [stop] * said.runs
+    is_look = not said.runs and kept.get("verb") == "swap" and any(line.startswith(f"{NOT_WRITTEN}: ") for line in said.lines)
+    words = {name: value for name, value in kept.items() if value and name != "verb"}
+    write = [swap_markup(words, "Write this swap", address)] if is_look else []
+    return [*[lines] * bool(said.lines), *[stop] * said.runs, *write]
 
 
 def _content(plan: WardPlan, address: str) -> Content:
@@ -99,13 +124,22 @@ def _content(plan: WardPlan, address: str) -> Content:
 
 
 def _roster(plan: WardPlan, address: str) -> Markup:
-    table = RosterTable(_content(plan, address))
+    links = [(_WORKED_TEXT, WORKED_PAGE)] * bool(plan.open_week)
+    if not (plan.is_planned and plan.weeks):
+        return element("section", element("p", *_linked(links, address), class_="links"))
+    content = _content(plan, address)
+    table, notes = RosterTable(content), [element("p", note) for note in content.notes]
     legend = element("ul", *(element("li", line) for line in table.legend()), class_="legend")
-    links = [("Costs, totals and coverage", "roster"), ("Page for the wall", "wall"), *[("Calendars", CALENDARS)] * bool(plan.days.monday)]
-    pages = joined(*(joined(element("a", text, href=f"{address}{page}"), " ") for text, page in links))
+    calendars = [("Calendars", CALENDARS)] * bool(plan.days.monday)
+    links = [("Costs, totals and coverage", "roster"), ("Page for the wall", "wall"), *calendars, *links]
     hint = element("p", "Click a nurse's day: what her week costs, and who could take her shift.")
-    cost = element("p", "" if plan.view().penalty is None else f"{plan.view().penalty} points. ", pages, class_="links")
-    return element("section", element("h2", "Roster"), cost, hint, *table.tables(), legend)
+    cost = element("p", "" if plan.view().penalty is None else f"{plan.view().penalty} points. ", *_linked(links, address), class_="links")
+    return element("section", element("h2", "Roster"), cost, *notes, hint, *table.tables(), legend, id=_ROSTER)
+
+
+def _linked(links: Sequence[Tuple[str, str]], address: str) -> List[Markup]:
+    """Links to pages by their texts."""
+    return [joined(element("a", text, href=f"{address}{page}"), " ") for text, page in links]
 
 
 def calendars_markup(plan: WardPlan, address: str, there: Collection[str]) -> str:
@@ -114,7 +148,7 @@ def calendars_markup(plan: WardPlan, address: str, there: Collection[str]) -> st
     items = [element("li", element("a", nurse, href=f"{address}{CALENDARS}/{quote(name)}")) for nurse, name in links]
     text = "Each opens in a calendar program." if items else "There are none yet: the button Publish writes them, if the plan has dates."
     back = element("p", element("a", "Back", href=address))
-    style = element("style", Markup(STYLE))
+    style = element("style", Markup(page_style() + STYLE))
     return page_of("Calendars", [style], [element("h1", "Calendars"), element("p", text), element("ul", *items), back])
 
 
@@ -133,8 +167,9 @@ def _cell(plan: WardPlan, place: Place, address: str) -> Markup:
         element("ul", *(items or [element("li", "nothing is charged in this week")])),
     ]
     if cell:
-        parts.append(element("p", "Who could take it, and what it adds to the points:"))
-        for offer in swaps.offers(nurse, day)[:MOST_OFFERS]:
+        offers = swaps.offers(nurse, day)[:MOST_OFFERS]
+        parts.append(element("p", "Who could take it, and what it adds to the points:" if offers else "Nobody can take it."))
+        for offer in offers:
             others = [plan.days.head(other) for other in offer.swap.days if other != day]
             words = {
                 "nurse": nurse,

@@ -8,14 +8,15 @@ from http.server import BaseHTTPRequestHandler, ThreadingHTTPServer
 from typing import Dict, Optional, Tuple
 from urllib.parse import parse_qsl, quote, urlsplit
 
+from ..judging.absences import readable
 from ..programs.interrupts import Interrupts
 from ..shown.calendars import file_names
 from ..shown.page import page_text
 from ..week.faults import Misuse
-from .local_forms import SURE, verb_of, writes
+from .local_forms import SURE, Fields, verb_of, writes
 from .local_jobs import Jobs, Said, fault_lines
-from .local_page import Place, Shown, calendars_markup, page_markup
-from .pages import CALENDARS, roster_content
+from .local_page import WORKED_PAGE, Place, Shown, calendars_markup, page_markup
+from .pages import CALENDARS, WORKED, roster_content
 from .ward_plan import WardPlan
 
 # The most bytes of a form and of its address, its most fields, and the seconds that a browser has for a request.
@@ -35,15 +36,26 @@ class Site:
     def __init__(self, jobs: Jobs, host: str) -> None:
         self.jobs, self.host, self.port = jobs, host, 0
         self.base = f"/{secrets.token_urlsafe(16)}/"
+        # The ward, as far as it is known.
+        self.name = "Ward"
         self.fault: Optional[Said] = None
         # The fields of the last form.
         self.kept: Dict[str, str] = {}
+
+    @property
+    def spreadsheet(self) -> str:
+        """The path of the spreadsheet, or of the folder that should have it."""
+        try:
+            return str(self.jobs.folder.spreadsheet().resolve())
+        except Misuse:
+            return str(self.jobs.folder.top.resolve())
 
     def plan(self) -> Tuple[Optional[WardPlan], Said]:
         """The plan that holds, and what is said above it: a fault of the spreadsheet, or of a form, if there is one."""
         said = self.jobs.said()
         try:
             plan = self.jobs.verbs().current()
+            self.name = readable(plan.scenario.name)
         except Exception as fault:
             return None, said if said.runs else Said(fault_lines(fault), True)
         if self.fault and not said.runs:
@@ -83,13 +95,22 @@ class _Handler(BaseHTTPRequestHandler):
         path, query = self._path()
         if path is None:
             return
+        running = self.site.jobs.said()
+        if not path and running.runs:
+            return self._answer(page_markup(None, Shown(running, name=self.site.name), self.site.base))
         plan, said = self.site.plan()
-        if path and plan and plan.is_planned and plan.weeks:
+        worked = self.site.jobs.folder.top / WORKED
+        has_worked = worked.is_file() and (plan is None or plan.open_week > 0)
+        if path == WORKED_PAGE and has_worked:
+            self._answer(worked.read_bytes().decode("utf-8", errors="replace"))
+        elif path and plan and plan.is_planned and plan.weeks:
             self._page(path, plan)
         elif path:
             self._refuse(404, "there is no such page")
         else:
-            shown = Shown(said, _place(plan, query), kept=self.site.fields(said))
+            kept = self.site.fields(said)
+            place = _place(plan, query) or _looked(plan, kept, said)
+            shown = Shown(said, place, kept=kept, spreadsheet=self.site.spreadsheet, has_worked=has_worked, name=self.site.name)
             self._answer(page_markup(plan, shown, self.site.base))
 
     def _page(self, path: str, plan: WardPlan) -> None:
@@ -124,7 +145,7 @@ class _Handler(BaseHTTPRequestHandler):
             return self._refuse(400, "this is no form of the page")
         if self.site.post(fields):
             plan, said = self.site.plan()
-            return self._answer(page_markup(plan, Shown(said, asks=fields), self.site.base))
+            return self._answer(page_markup(plan, Shown(said, asks=fields, name=self.site.name), self.site.base))
         self.send_response(303)
         self.send_header("Location", self.site.base)
         self.send_header("Content-Length", "0")
@@ -172,6 +193,15 @@ def _place(plan: Optional[WardPlan], query: Dict[str, str]) -> Optional[Place]:
     nurse, day = query.get("nurse", ""), query.get("day", "")
     known = plan and nurse in plan.scenario.nurses and day.isdecimal() and len(day) < 4 and plan.first <= int(day) < plan.days.total
     return Place(nurse, int(day)) if known else None
+
+
+def _looked(plan: Optional[WardPlan], kept: Fields, said: Said) -> Optional[Place]:
+    """The nurse and the day of a look for all swaps, whose offers the page shows as buttons."""
+    if plan is None or kept.get("verb") != "swap" or kept.get("other") or said.is_fault or said.runs:
+        return None
+    days = {plan.days.head(day): day for day in range(plan.first, plan.days.total)}
+    nurse, day = kept.get("nurse", ""), days.get(kept.get("first", ""))
+    return Place(nurse, day) if day is not None and nurse in plan.scenario.nurses else None
 
 
 class LocalServer:

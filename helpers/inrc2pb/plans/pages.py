@@ -10,6 +10,7 @@ from ..shown.page import page_text
 from ..shown.page_tables import Content
 from ..week.dates import DAY
 from ..week.writing import write_text
+from .days_beside import beside_lines
 from .ward_plan import WardPlan
 
 ROSTER, WALL, WORKED, CALENDARS = "roster.html", "wall.html", "worked.html", "calendars"
@@ -44,4 +45,5 @@ def roster_content(plan: WardPlan, old: Optional[WardPlan] = None) -> Content:
     monday = None if plan.days.monday is None else plan.days.monday + plan.first * DAY
     before = old.view() if old and old.is_planned else None
     holidays = {day - plan.first for day in plan.sheet.holidays if day >= plan.first}
-    return Content(plan.view(), before, monday, plan.sheet.times, holidays=holidays, as_of=datetime.datetime.now())
+    notes = tuple(beside_lines(plan))
+    return Content(plan.view(), before, monday, plan.sheet.times, holidays=holidays, as_of=datetime.datetime.now(), notes=notes)

@@ -3,13 +3,16 @@
 import tempfile
 from dataclasses import replace
 from pathlib import Path
-from typing import Collection, Iterator, List, NamedTuple, Sequence, Tuple
+from typing import Collection, Dict, Iterator, List, NamedTuple, Sequence, Tuple
 
 from ..judging.absences import absences_of, is_broken_by, readable
+from ..judging.days_away import DaysAway
+from ..judging.runs import ANY_CHOICE
 from ..programs.clock import Clock
 from ..programs.interrupts import interrupts
 from ..programs.program import WeekFiles
 from ..programs.progress import Progress
+from ..rows.plan import Calls
 from ..search.period_search import PeriodSearch
 from ..search.planned_weeks import PeriodFiles, PlannedWeeks, history_name
 from ..search.why_none import EXISTS, why_none
@@ -19,7 +22,7 @@ from ..week.files import history_text, solution_text, week_text
 from ..week.records import DAYS, Cell, Solution, Week, WeekData
 from ..week.writing import write_text
 from .agreed_days import AgreedDay
-from .few_changes import with_few_changes
+from .few_changes import CALL_POINTS, with_few_changes
 from .plan_days import WEEK_DAYS
 from .skill_labels import with_old_skills
 from .ward_plan import FACTS, WardPlan
@@ -52,7 +55,8 @@ def search_plan(old: WardPlan, asked: Asked, progress: Progress) -> Found:
     """The best plan of the weeks that are not over. It begins with the old one, if there is one."""
     kept: List[Sequence[Cell]] = []
     with tempfile.TemporaryDirectory(prefix="inrc2pb-plan-") as name:
-        weeks = _weeks(_files(old, asked, Path(name)))
+        files, beside = _files(old, asked, Path(name)), old.days_away._replace(fixed=asked.first - old.first)
+        weeks = _weeks(files, beside, Calls(_older_rows(old), CALL_POINTS) if asked.few_changes and old.is_planned else Calls())
         start = [cell._replace(day=cell.day - old.first) for cell in old.cells()] if old.is_planned else None
         clock = Clock(asked.seconds)
         search = PeriodSearch(weeks, kept.append, clock, progress, start=start)
@@ -69,10 +73,20 @@ def search_plan(old: WardPlan, asked: Asked, progress: Progress) -> Found:
     return Found(old.with_cells(labelled), search.line(), clock.stopped)
 
 
-def _weeks(files: PeriodFiles) -> PlannedWeeks:
+def _older_rows(old: WardPlan) -> Dict[str, bytes]:
+    """The rows of the nurses who have shifts in the plan. On a day on which one is away she need not be called."""
+    numbers = {shift: number for number, shift in enumerate(old.scenario.shift_types, 1)}
+    found: Dict[str, bytes] = {}
+    for nurse in dict.fromkeys(nurse for nurse, _ in old.works):
+        cells = ((day, old.works.get((nurse, day))) for day in range(old.first, old.days.total))
+        found[nurse] = bytes(ANY_CHOICE if (nurse, day) in old.away else numbers[cell.shift] if cell else 0 for day, cell in cells)
+    return found
+
+
+def _weeks(files: PeriodFiles, beside: DaysAway, calls: Calls) -> PlannedWeeks:
     """The weeks of these files. A fault names a file without its folder, which is there for the search only."""
     try:
-        return PlannedWeeks(files)
+        return PlannedWeeks(files, beside, calls)
     except FileFault as fault:
         raise FileFault(fault.path.name, fault.line, f"{fault.message}: correct the plan or the spreadsheet", fault.fault) from fault
 

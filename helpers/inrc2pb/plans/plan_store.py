@@ -5,18 +5,20 @@ import shlex
 import tempfile
 from dataclasses import replace
 from pathlib import Path
-from typing import Callable, List, NamedTuple, Optional, Sequence
+from typing import Callable, Dict, Iterable, List, NamedTuple, Optional, Sequence, Set
 
 from ..judging.absences import absences_of, in_words, joined, readable, working_while_away
 from ..judging.limits import exceeded, limits_in_words, limits_way_out
 from ..programs.program import READ_OR_WRITE
 from ..programs.progress import Progress
 from ..week.faults import Misuse, fault_line
+from ..week.files import read_solution
 from ..week.hints import plural
 from . import pages
-from .record import Record
+from .plan_days import WEEK_DAYS, PlanDays
+from .record import Record, read_record
 from .ward_folder import WardFolder
-from .ward_plan import Sheet, WardPlan, continued, first_plan, published_days, read_stored
+from .ward_plan import Sheet, WardPlan, continued, first_plan, read_stored, roster_name
 from .wording import Wording
 from .written_absences import WrittenAbsence
 
@@ -25,12 +27,14 @@ Reader = Callable[[Path, Optional[str], Sequence[WrittenAbsence]], Sheet]
 
 
 class Means(NamedTuple):
-    """How the verbs read a spreadsheet, show the progress of a search, say what goes before their results, and how a user ends a search."""
+    """How the verbs read a spreadsheet, show the progress of a search, and say what goes before their results; how a user ends a search,
+    and writes a swap."""
 
     read: Reader
     progress: Progress
     say: Callable[[str], None]
     end: str = "Ctrl-C ends the search and keeps the best plan"
+    write: str = "type it again with --do"
 
 
 class PlanStore:
@@ -85,6 +89,18 @@ class PlanStore:
             self.status = READ_OR_WRITE
             return [f"the plan holds, but its pages are not written: {fault_line(fault)}"]
         return [f"written: {', '.join(map(str, written))}"] * bool(written)
+
+
+def published_days(folders: Iterable[Path], days: PlanDays) -> Dict[str, Set[int]]:
+    """The days of each nurse's shifts in plans of these days that hung on the wall."""
+    found: Dict[str, Set[int]] = {}
+    for folder in folders:
+        of_plan = read_record(folder)
+        rosters = [(number, folder / roster_name(number)) for number in range(days.weeks)]
+        for number, path in rosters if of_plan.published and of_plan.days == days else ():
+            for cell in read_solution(path).cells if path.exists() else ():
+                found.setdefault(cell.nurse, set()).add(WEEK_DAYS * number + cell.day)
+    return found
 
 
 def wording_of(plan: WardPlan, words: Sequence[str], usage: str) -> Wording:

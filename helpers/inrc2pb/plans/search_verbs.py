@@ -10,14 +10,14 @@ from ..programs.program import BROKEN_RULE, NO_ROSTER
 from ..week.faults import Misuse, ProgramFault
 from ..week.hints import plural
 from .agreed_days import AgreedDay, broken_line
-from .few_changes import POINTS
+from .days_beside import beside_lines
+from .few_changes import CALL_POINTS, POINTS
 from .needless_changes import without_needless_changes
 from .plan_days import WEEK_DAYS
 from .plan_search import MOST, NONE, Asked, Found, search_plan, why_no_plan
 from .plan_store import PlanStore, cost_lines, not_kept_lines, wording_of
 from .shift_changes import call_lines, cell_text, change_lines, shift_changes
 from .ward_plan import WardPlan
-from .training_rows import training_lines
 from .wish_words import wish_lines
 from .written_absences import BACK, with_days
 
@@ -129,13 +129,14 @@ def _result(store: PlanStore, old: WardPlan, found: Found, few_changes: bool) ->
     is_kept = not lines
     changes = shift_changes(before.cells(), new.cells()) if before else []
     if before and (before.published or few_changes):
-        lines += [*change_lines(changes, new.days, new.away), *call_lines(changes, new.away)] or ["no shift changes"]
+        called = call_lines(changes, new.away) or ["nobody to call"]
+        lines += [*change_lines(changes, new.days, new.away), *called] if changes else ["no shift changes"]
     elif before:
         # Nobody has seen the older plan.
         lines.append(f"{plural(len(changes), 'shift')} {'differs' if len(changes) == 1 else 'differ'} from the last plan")
     lines += [_broken(old, new, one) for one in old.agreed if one not in new.agreed]
-    lines += [*training_lines(new), *wish_lines(before, new), *cost_lines(new)]
-    lines += [f"a change was counted as {POINTS} points more, which are not in this sum"] * few_changes
+    lines += [*beside_lines(new), *wish_lines(before, new), *cost_lines(new)]
+    lines += [f"a change was counted as {POINTS} points more, and a nurse to call as {CALL_POINTS}; they are not in this sum"] * few_changes
     lines += [_SHARE.sub("", found.bound)] * (is_kept and not few_changes)
     lines += ["stopped: this is the best plan until then"] * found.stopped
     if not is_kept:

@@ -8,12 +8,17 @@ from ..programs.program import BROKEN_RULE
 from ..shown.why import change_lines as charge_lines
 from ..week.faults import Misuse
 from .agreed_days import AgreedDay
+from .days_beside import beside_lines
 from .plan_store import PlanStore, cost_lines, wording_of
 from .shift_changes import call_lines, change_lines, shift_changes
 from .swap_words import offer_lines, shift_of
 from .swaps import Swap, Swaps, swapped
 from .ward_plan import WardPlan
 from .wish_words import wish_lines
+
+
+# The line of a look for a swap that can be written.
+NOT_WRITTEN = "nothing is written"
 
 
 def swap(store: PlanStore, words: Sequence[str], do: bool) -> List[str]:
@@ -25,7 +30,7 @@ def swap(store: PlanStore, words: Sequence[str], do: bool) -> List[str]:
     swaps = Swaps(old)
     if wording.is_over:
         if do:
-            raise Misuse("--do is for a swap of two nurses: name the other one and her day")
+            raise Misuse("a swap that is written is of two nurses: name the other one and her day")
         return offer_lines(old, swaps, nurse, day)
     asked = Swap(nurse, wording.nurse(), (day,))
     asked = asked._replace(days=tuple(sorted({day, day if wording.is_over else wording.open_day()})))
@@ -43,13 +48,15 @@ def _swap(store: PlanStore, old: WardPlan, asked: Swap, do: bool) -> List[str]:
     faults = [f"not possible: {fault}" for fault in swaps.faults(asked)]
     if faults:
         store.status = BROKEN_RULE
-        return [*faults, "nothing is written", *offer_lines(old, swaps, *shift_of(swaps, asked))]
+        return [*faults, NOT_WRITTEN, *offer_lines(old, swaps, *shift_of(swaps, asked))]
     changes = shift_changes(old.cells(), new.cells())
     lines = [*change_lines(changes, old.days), *call_lines(changes)]
     lines += wish_lines(old, new)
+    before = set(beside_lines(old))
+    lines += [line for line in beside_lines(new) if line not in before]
     lines += [readable(line) for line in charge_lines(old.view(), new.view()) if line[:1] in " +-"]
     if not do:
-        return [*lines, "nothing is written: type it again with --do", *offer_lines(old, swaps, *shift_of(swaps, asked))]
+        return [*lines, f"{NOT_WRITTEN}: {store.means.write}", *offer_lines(old, swaps, *shift_of(swaps, asked))]
     # The program has the last word on the new rosters.
     cost_lines(new)
     agreed = [AgreedDay(nurse, day) for nurse in (asked.one, asked.other) for day in asked.days]

@@ -1,13 +1,10 @@
 """Swaps of two nurses: on each day of a swap they have each other's shifts, so each place keeps its number of nurses."""
 
-from dataclasses import replace
 from typing import Dict, Iterator, List, NamedTuple, Optional, Sequence, Tuple
 
 from ..judging.absences import absences_of, is_broken_by, readable
-from ..judging.limits import exceeded, excess, limits_in_words
-from ..judging.next_history import next_nurse_history
-from ..judging.rules import costs
-from ..week.records import Cell, History, Week, WeekData
+from ..week.records import Cell
+from .nurse_weeks import NurseWeeks
 from .plan_days import WEEK_DAYS
 from .ward_plan import WardPlan
 
@@ -33,12 +30,6 @@ def swapped(cells: Sequence[Cell], swap: Swap) -> List[Cell]:
     return [cell._replace(nurse=others.get(cell.nurse, cell.nurse)) if cell.day in swap.days else cell for cell in cells]
 
 
-def _of_nurse(data: WeekData, nurse: str) -> WeekData:
-    """What a week's file has about one nurse."""
-    requests = tuple(request for request in data.requests if request.nurse == nurse)
-    return replace(data, requirements={}, requests=requests, limits=frozenset(limit for limit in data.limits if limit.nurse == nurse))
-
-
 class Swaps:
     """The swaps in a plan, judged by its rules."""
 
@@ -47,10 +38,10 @@ class Swaps:
         self._cells: Dict[str, Dict[int, Cell]] = {nurse: {} for nurse in plan.scenario.nurses}
         for cell in plan.cells():
             self._cells[cell.nurse][cell.day] = cell
-        self._data = {(nurse, number): _of_nurse(plan.data[number], nurse) for nurse in self._cells for number in plan.weeks}
+        self._alone = NurseWeeks(plan)
         self._away = {number: absences_of(plan.data[number]) for number in plan.weeks}
         self._held = {(cell.nurse, WEEK_DAYS * number + cell.day) for number in plan.weeks for cell in plan.held[number]}
-        self._costs = {nurse: self._cost(nurse, cells) for nurse, cells in self._cells.items()}
+        self._costs = {nurse: self._alone.cost(nurse, cells) for nurse, cells in self._cells.items()}
 
     def works(self, nurse: str, day: int) -> Optional[Cell]:
         """The nurse's assignment on a day, if she has one."""
@@ -65,7 +56,7 @@ class Swaps:
 
     def cost(self, swap: Swap) -> int:
         """What the swap adds to the penalty: only the two nurses' charges change."""
-        return sum(self._cost(nurse, cells) - self._costs[nurse] for nurse, cells in self._after(swap))
+        return sum(self._alone.cost(nurse, cells) - self._costs[nurse] for nurse, cells in self._after(swap))
 
     def faults(self, swap: Swap) -> List[str]:
         """Why the swap cannot be: hard rules, absences and held shifts that it breaks."""
@@ -86,32 +77,11 @@ class Swaps:
             if same is None:
                 yield from (Swap(nurse, other, (day, back)) for back in cells if back not in self._cells[nurse])
 
-    def _weeks(self, nurse: str, cells: Dict[int, Cell]) -> Iterator[Tuple[Week, List[Cell]]]:
-        """Each week that is not over, as if the ward had this nurse alone and needed nobody, with her assignments."""
-        plan = self._plan
-        scenario = replace(plan.scenario, nurses={nurse: plan.scenario.nurses[nurse]})
-        past = plan.histories[plan.open_week].nurses[nurse]
-        for number in plan.weeks:
-            of_week = [cell._replace(day=day % WEEK_DAYS) for day, cell in cells.items() if day // WEEK_DAYS == number]
-            yield Week(scenario, History(number, scenario.name, {nurse: past}), self._data[nurse, number]), of_week
-            past = next_nurse_history(past, {cell.day: cell.shift for cell in of_week})
-
-    def _cost(self, nurse: str, cells: Dict[int, Cell]) -> int:
-        """What the nurse is charged for these assignments in all weeks that are not over."""
-        return sum(sum(costs(week, of_week).values()) for week, of_week in self._weeks(nurse, cells))
-
-    def _above(self, nurse: str, cells: Dict[int, Cell]) -> Tuple[int, List[str]]:
-        """How much these assignments of the nurse have above limits that hold, and in words."""
-        weeks = [(exceeded(week, week.data.limits, of_week), of_week) for week, of_week in self._weeks(nurse, cells)]
-        named = [self._plan.day_names(number) for number in self._plan.weeks]
-        words = [limits_in_words(charges, of_week, names) for (charges, of_week), names in zip(weeks, named) if charges]
-        return sum(excess(charges) for charges, _ in weeks), words
-
     def _faults(self, nurse: str, cells: Dict[int, Cell], days: Sequence[int]) -> Iterator[str]:
         """Why the nurse cannot have these assignments, of which those on these days are new."""
         plan = self._plan
-        above, words = self._above(nurse, cells)
-        if above > self._above(nurse, self._cells[nurse])[0]:
+        above, words = self._alone.above(nurse, cells)
+        if above > self._alone.above(nurse, self._cells[nurse])[0]:
             yield f"{', '.join(words)}, and this limit holds"
         shift_on = {
             plan.first - 1: plan.histories[plan.open_week].nurses[nurse].last_shift,

@@ -5,10 +5,14 @@ from pathlib import Path
 from typing import List, Optional, Sequence
 
 from ..judging.absences import readable
+from ..judging.demand import ABOVE_LIMITS, UNKEPT
+from ..judging.odd_values import IMPOSSIBLE
+from ..programs.program import BROKEN_RULE, NO_ROSTER
 from ..shown.telling import held_sentences, history_sentences, limit_sentences, scenario_sentences, week_sentences
 from ..shown.why import breach_lines
 from ..week.faults import FileFault, Misuse, fault_line
 from . import search_verbs, swap_verb, week_end
+from .days_beside import beside_lines
 from .pages import WALL
 from .plan_days import WEEK_DAYS
 from .plan_store import Means, PlanStore
@@ -53,9 +57,10 @@ class Verbs:
         return week_end.over(self._store, words)
 
     def check(self) -> List[str]:
-        """The warnings of the spreadsheet, and the ward in sentences."""
+        """The warnings of the spreadsheet, and the ward in sentences. That no plan can meet a minimum is in the status."""
         plan = self.current()
-        lines = [f"warning: {readable(line)}" for line in plan.sheet.warnings]
+        self._store.status = _status_of(plan.sheet.warnings)
+        lines = [f"warning: {line}" for line in (*map(readable, plan.sheet.warnings), *beside_lines(plan))]
         limits = limit_sentences(plan.scenario, plan.data[plan.open_week]) if plan.weeks else ()
         lines += [*scenario_sentences(plan.scenario), *limits, "", *history_sentences(plan.histories[plan.open_week], plan.sheet.credit)]
         for number in plan.weeks:
@@ -64,6 +69,7 @@ class Verbs:
             lines += ["", f"Week {number}, {plan.days.text(WEEK_DAYS * number)}:", *told, *held_sentences(plan.held[number])]
         if plan.is_planned:
             lines += ["", *breach_lines(plan.view(), "plan")]
+        lines += ["", "No plan can keep all of this: do what the warnings at the top say."] * bool(self.status)
         return [readable(line) for line in lines]
 
     def page(self) -> List[str]:
@@ -87,6 +93,13 @@ class Verbs:
             return [*lines, *self._store.pages(plan), *[f"{folder.top / WALL} is as it was: take it down"] * stale]
         except (FileFault, Misuse) as fault:
             return [*lines, f"its pages are not written: {fault_line(fault)}"]
+
+
+def _status_of(warnings: Sequence[str]) -> int:
+    """The exit status that a plan would have by these warnings: no roster, or one that does not keep all absences and limits."""
+    if any(IMPOSSIBLE in line for line in warnings):
+        return NO_ROSTER
+    return BROKEN_RULE if any(words in line for line in warnings for words in (UNKEPT, ABOVE_LIMITS)) else 0
 
 
 def _made(folder: Path) -> str:

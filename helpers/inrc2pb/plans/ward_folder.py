@@ -7,9 +7,11 @@ import os
 import re
 import shutil
 import tempfile
+import threading
 from pathlib import Path
 from typing import Callable, Dict, Iterator, List, Optional, TextIO
 
+from ..programs.interrupts import interrupts
 from ..week.faults import Misuse
 from ..week.hints import quoted
 from ..week.writing import write_text
@@ -17,6 +19,8 @@ from ..week.writing import write_text
 PLANS, UNDONE, LOCK = "plans", "undone", "lock"
 _SPREADSHEETS, _CSV = (".ods", ".xlsx"), (".csv", ".tsv")
 _NAME = re.compile("([0-9]{4})-.+")
+# Seconds between two looks whether the run that works in the folder has ended.
+_PAUSE = 0.2
 
 
 class WardFolder:
@@ -80,10 +84,11 @@ class WardFolder:
         return last.rename(self.plans / UNDONE / last.name)
 
     @contextlib.contextmanager
-    def locked(self, wait: Callable[[str], None]) -> Iterator[None]:
-        """Within the block no other run writes to the folder. `wait` is called with what to say, if one does now."""
+    def locked(self, say: Callable[[str], None], end: str = "") -> Iterator[None]:
+        """Within the block no other run writes to the folder. If one does now, `say` is called with that, and with how a user ends the
+        wait; who does so gets a KeyboardInterrupt."""
         with self._lock_file() as file:
-            self._take(file, wait)
+            self._take(file, say, end)
             yield
 
     def _lock_file(self) -> TextIO:
@@ -95,12 +100,26 @@ class WardFolder:
             fault.filename = str(self.top if isinstance(fault, PermissionError) else self.plans)
             raise
 
-    def _take(self, file: TextIO, wait: Callable[[str], None]) -> None:
-        try:
-            fcntl.flock(file, fcntl.LOCK_EX | fcntl.LOCK_NB)
-        except BlockingIOError:
-            wait(f"another run works in {self.top}: this one waits for its end, Ctrl-C ends it")
-            fcntl.flock(file, fcntl.LOCK_EX)
+    def _take(self, file: TextIO, say: Callable[[str], None], end: str) -> None:
+        if _is_taken(file):
+            return
+        say(f"another run works in {self.top}: this one waits for its end, and its time begins then{end}")
+        stopped = threading.Event()
+        with interrupts() as signals, signals.calling(stopped.set):
+            while not stopped.wait(_PAUSE):
+                if _is_taken(file) and not signals.caught:
+                    say("the other run has ended")
+                    return
+        raise KeyboardInterrupt
+
+
+def _is_taken(file: TextIO) -> bool:
+    """Locks the file, if no other run has locked it. Returns whether it is locked."""
+    try:
+        fcntl.flock(file, fcntl.LOCK_EX | fcntl.LOCK_NB)
+        return True
+    except BlockingIOError:
+        return False
 
 
 def _umask_of(folder: Path) -> int:

@@ -3,9 +3,10 @@
 from dataclasses import dataclass, field, replace
 from functools import cached_property
 from pathlib import Path
-from typing import Dict, FrozenSet, Iterable, List, Mapping, NamedTuple, Optional, Sequence, Set, Tuple
+from typing import Dict, FrozenSet, Iterable, List, Mapping, NamedTuple, Optional, Sequence, Tuple
 
 from ..judging.absences import absences_of, readable
+from ..judging.days_away import DaysAway
 from ..judging.given import read_given, with_given
 from ..judging.leave import credited
 from ..judging.next_history import next_history
@@ -22,6 +23,8 @@ from ..week.writing import write_text
 from . import record
 from .agreed_days import NAME as AGREED
 from .agreed_days import AgreedDay, agreed_text, read_agreed
+from .free_days import days_away_of
+from .leavers import leaving_days, with_shifts_until_leaving
 from .plan_days import WEEK_DAYS, PlanDays
 from .record import Record, read_record
 from .written_absences import WrittenAbsence, read_written, written_text
@@ -29,6 +32,8 @@ from .written_absences import NAME as ABSENCES
 
 START, FACTS, REASONS = "start.txt", "facts.txt", "reasons.txt"
 ALWAYS_OFF = "off"
+# The properties of a plan that do not depend on its rosters.
+_OF_SHEET = ("scenario", "claims", "data", "held", "away", "days_away")
 Cells = Tuple[Cell, ...]
 
 
@@ -62,18 +67,6 @@ def read_stored(folder: Path) -> Stored:
     weeks = [number for number in range(of_plan.days.weeks) if (folder / roster_name(number)).exists()]
     rosters = {number: read_solution(folder / roster_name(number)).cells for number in weeks}
     return Stored(folder, of_plan, start, rosters, read_written(folder, of_plan.days), read_agreed(folder, of_plan.days))
-
-
-def published_days(folders: Iterable[Path], days: PlanDays) -> Dict[str, Set[int]]:
-    """The days of each nurse's shifts in plans of these days that hung on the wall."""
-    found: Dict[str, Set[int]] = {}
-    for folder in folders:
-        of_plan = read_record(folder)
-        rosters = [(number, folder / roster_name(number)) for number in range(days.weeks)]
-        for number, path in rosters if of_plan.published and of_plan.days == days else ():
-            for cell in read_solution(path).cells if path.exists() else ():
-                found.setdefault(cell.nurse, set()).add(WEEK_DAYS * number + cell.day)
-    return found
 
 
 def roster_name(number: int) -> str:
@@ -124,7 +117,9 @@ class WardPlan:
     @cached_property
     def claims(self) -> Tuple[Claim, ...]:
         """The absences and the limits that hold, as facts."""
-        return read_given(FACTS, self.scenario, self.sheet.texts[FACTS])
+        claims, history = read_given(FACTS, self.scenario, self.sheet.texts[FACTS]), credited(self.start, self.sheet.credit)
+        leaving = leaving_days(read_reasons(REASONS, self.scenario, self.sheet.texts[REASONS]), self.days.total)
+        return tuple(with_shifts_until_leaving(claims, self.scenario, history, self.rosters, leaving))
 
     @cached_property
     def data(self) -> List[WeekData]:
@@ -160,6 +155,17 @@ class WardPlan:
         weeks = ((number, self.reasons(number)) for number in self.weeks)
         return {(nurse, WEEK_DAYS * number + day): word for number, away in weeks for (nurse, day), word in away.items()}
 
+    @cached_property
+    def days_away(self) -> DaysAway:
+        """The days away that concern the days beside them, in the weeks that are not over. Here and in `shifts` days count from their
+        first one."""
+        return days_away_of(self.away, self.first, self.scenario.shift_types, self.sheet.times)
+
+    @cached_property
+    def shifts(self) -> Dict[Tuple[str, int], str]:
+        """The shift types of the nurses' days in the weeks that are not over."""
+        return {(nurse, day - self.first): cell.shift for (nurse, day), cell in self.works.items()}
+
     def week(self, number: int) -> Week:
         """A week's ward, history and file."""
         return Week(self.scenario, self.histories[number], self.data[number])
@@ -178,7 +184,9 @@ class WardPlan:
         for cell in cells:
             found[cell.day // WEEK_DAYS].append(cell._replace(day=cell.day % WEEK_DAYS))
         ordered = {number: tuple(sorted(of_week, key=self._order)) for number, of_week in found.items()}
-        return replace(self, rosters={**self.rosters, **ordered})
+        new = replace(self, rosters={**self.rosters, **ordered})
+        new.__dict__.update({name: value for name, value in self.__dict__.items() if name in _OF_SHEET})
+        return new
 
     def _order(self, cell: Cell) -> Tuple[int, int]:
         return list(self.scenario.nurses).index(cell.nurse), cell.day

@@ -58,7 +58,7 @@ def _broken_by_hand(old: WardPlan, worked: WardPlan) -> Iterator[str]:
     found = [line for line in _broken_in(worked, worked.open_week) if line not in _broken_in(old, old.open_week)]
     yield from found
     if found:
-        yield "if it was not worked so, type undo, and over with other corrections"
+        yield "if it was not worked so: undo, then over with other corrections"
 
 
 def _next_week(store: PlanStore, worked: WardPlan) -> List[str]:
@@ -68,7 +68,7 @@ def _next_week(store: PlanStore, worked: WardPlan) -> List[str]:
     lines = [f"week {number} is over: the plan goes on from {new.days.text(new.first)}"]
     broken = [line for number in new.weeks for line in _broken_in(new, number)]
     if broken:
-        lines += [*broken, f"after these corrections the plan does not fit any more: type plan {new.days.head(new.first)}"]
+        lines += [*broken, f"after these corrections the plan does not fit any more: plan again, from {new.days.head(new.first)} on"]
     return [*lines, *store.save(f"over {number}", new)]
 
 
@@ -90,5 +90,5 @@ def _next_period(store: PlanStore, worked: WardPlan) -> List[str]:
     # The pages show the period that is over.
     lines = store.pages(replace(worked, open_week=number + 1, published=False))
     begin = f"from {monday} on, " if monday else ""
-    then = "into the sheet plan, with its wishes and absences; then type: plan"
+    then = "into the sheet plan, with its wishes and absences; then plan"
     return [*lines, "the period is over", f"write the days of the next one, {begin}{then}"]

@@ -4,13 +4,14 @@ Days count from 0 through all weeks. A choice is 0 for a day off, and one more t
 """
 
 from dataclasses import dataclass, replace
-from typing import Dict, FrozenSet, Iterable, Iterator, List, NamedTuple, NewType, Optional, Sequence, Tuple
+from typing import Dict, FrozenSet, Iterable, Iterator, List, Mapping, NamedTuple, NewType, Optional, Sequence, Tuple
 
 from ..judging.absences import MARK, absences_of
+from ..judging.days_away import DaysAway
 from ..week.facts import SHIFTS, WEEKENDS, Charged, Choice, Claim
 from ..week.records import Absence, Cell, History, KeptLimit, Place, Request, Requirement, Scenario, WeekData
 from ..judging.rules import MISSING_NURSE, REQUEST
-from ..judging.runs import NEVER
+from ..judging.runs import NEVER, Beside
 
 WEEK_DAYS = 7
 # The units of costs. Prices are whole numbers of thousandths of a point.
@@ -23,8 +24,16 @@ STEP = 5
 Held = Dict[Tuple[str, int], List[Cell]]
 
 
+class Calls(NamedTuple):
+    """The rows of nurses in an older roster, and what a nurse costs whose row differs from it, in points. ANY_CHOICE differs from none."""
+
+    older: Mapping[str, bytes] = {}
+    points: int = 0
+
+
 class Keeping(NamedTuple):
-    """What each broken absence, and each charge above a limit that is kept, costs more, in points. NEVER: rows may not have it."""
+    """What each broken absence costs more, and each charge above a limit that is kept, or day beside days away that should be otherwise, in
+    points. NEVER: rows may not have it."""
 
     absence: int
     limit: int
@@ -41,7 +50,8 @@ class Plan:
 
     `demand` has the places that ask for nurses, with the day of the plan; its optimal numbers are not below its minimums.
     `nurses` are those whose rows are searched, and `keeping` says how their rows keep the absences of `away`, with the day of the plan,
-    and the limits. Without `charging` only the hard rules count: nothing costs anything, and each nurse below a minimum costs one point.
+    the limits, and the days beside those of `beside`. Without `charging` only the hard rules count: nothing costs anything, and each
+    nurse below a minimum costs one point.
     """
 
     scenario: Scenario
@@ -55,6 +65,8 @@ class Plan:
     away: FrozenSet[Absence] = frozenset()
     limits: FrozenSet[KeptLimit] = frozenset()
     keeping: Keeping = STRICT
+    beside: DaysAway = DaysAway()
+    calls: Calls = Calls()
 
     @staticmethod
     def of(
@@ -101,13 +113,18 @@ class Plan:
         """Whether rows that do not keep them cost more than the rules say."""
         return self.asks and any(0 < cost < NEVER for cost in self.keeping)
 
+    @property
+    def keeps_more(self) -> bool:
+        """Whether there is something to keep beside absences."""
+        return bool(self.limits or self.beside.training or self.beside.free)
+
     def kept(self, keeping: Keeping) -> "Plan":
         """The same plan, with other costs of what is not kept."""
         return replace(self, keeping=keeping)
 
     def less_strict(self) -> Iterator["Plan"]:
         """The same plan, if no rows keep all absences and limits: first with all absences kept."""
-        if self.limits:
+        if self.keeps_more:
             yield self.kept(ABSENCES_KEPT)
         if self.away:
             yield self.kept(FEW_BROKEN)
@@ -115,6 +132,15 @@ class Plan:
     def most_above(self, nurse: str, kind: str) -> Optional[int]:
         """How often the nurse may exceed her contract's maximum of this kind; None if no limit of hers is kept."""
         return min((limit.most for limit in self.limits if limit[:2] == (nurse, kind)), default=None)
+
+    def beside_of(self, nurse: str) -> Beside:
+        """The nurse's days away that concern the days beside them, if these are kept, and her older row."""
+        training, free = (frozenset(day for who, day in days if who == nurse) for days in self.beside[:2])
+        older = self.calls.older.get(nurse, b"")
+        found = Beside(older=older, call=self.calls.points) if self.charging and older else Beside()
+        if not (self.charging and self.keeping.limit and (training or free)):
+            return found
+        return found._replace(training=training, free=free, nights=self.beside.nights, cost=self.keeping.limit, fixed=self.beside.fixed)
 
     def facts(self) -> Tuple[Claim, ...]:
         """The absences and limits that its rows keep, as facts about its weeks."""
@@ -141,7 +167,7 @@ class Plan:
         """The same plan without the soft rules."""
         demand = {place: Requirement(asked.minimum, asked.minimum) for place, asked in self.demand.items() if asked.minimum}
         away = self.away if self.keeping.absence == NEVER else frozenset()
-        return replace(self, demand=demand, charging=False, away=away, limits=frozenset())
+        return replace(self, demand=demand, charging=False, away=away, limits=frozenset(), beside=DaysAway(), calls=Calls())
 
     def requests(self) -> Dict[str, List[Request]]:
         """The requests of each nurse, with the days of the plan."""

@@ -4,7 +4,7 @@ import copy
 from typing import Any, Dict, List, NamedTuple, Optional, Sequence, Tuple, Union
 
 from .plan import FREE, POINT, STEP, Plan, Points, Thousandths
-from ..judging.runs import NEVER, Runs, RunState
+from ..judging.runs import NEVER, Beside, Runs, RunState
 from ..judging.rules import SHIFT_RUN
 from ..week.facts import WORK_DAYS
 from ..week.records import Place
@@ -19,6 +19,8 @@ Prices = List[int]
 # The price of a nurse of each crew, in thousandths.
 Gains = Union[Sequence[int], Dict[int, int]]
 _Pay = List[List[int]]
+# What the runs of a nurse depend on beside her past: her contract, what a day of work above its maximum costs more, and her days away.
+_Kind = Tuple[str, int, Beside]
 
 
 class Priced(NamedTuple):
@@ -85,14 +87,15 @@ class Pricing:
         self.plan, self.crews = plan, crews
         scenario, pasts = plan.scenario, plan.history.nurses
         types = tuple(scenario.shift_types.values())
-        runs: Dict[Tuple[str, int], Runs] = {}
-        kinds: Dict[Tuple[Tuple[str, int], Totals], List[int]] = {}
+        runs: Dict[_Kind, Runs] = {}
+        kinds: Dict[Tuple[_Kind, Totals], List[int]] = {}
         states: List[RunState] = []
         for index, nurse in enumerate(plan.nurses):
             contract = scenario.contract_of(nurse)
-            key = contract.name, 0 if plan.most_above(nurse, WORK_DAYS) is None else plan.keeping.limit
+            above = 0 if plan.most_above(nurse, WORK_DAYS) is None else plan.keeping.limit
+            key = contract.name, above, plan.beside_of(nurse)
             if key not in runs:
-                runs[key] = Runs(types, contract, plan.days, plan.charging, shift_run, key[1])
+                runs[key] = Runs(types, contract, plan.days, plan.charging, shift_run, above, key[2])
             states.append(runs[key].before(pasts[nurse]))
             kinds.setdefault((key, Totals.of(plan, contract, pasts[nurse])), []).append(index)
         self.graphs: List[Graph] = [None] * len(plan.nurses)  # type: ignore[list-item]

@@ -93,7 +93,7 @@ class RowRun:
             self._try(search.generate, ROWS_SHARE)
             if search.complete and search.misses_minimums and (self._keeps_limits or self._no_roster()):
                 return
-            if search.complete and self._dives_beside:
+            if search.complete and self._dives_beside and search.penalty is not None:
                 break
             rows = self._try(search.dive, LAST_DIVE_SHARE if search.complete else DIVE_SHARE)
             if rows:
@@ -115,8 +115,8 @@ class RowRun:
 
     @property
     def _keeps_limits(self) -> bool:
-        """Whether limits may be the reason that minimums are missed."""
-        return bool(self.plan.limits) and self.plan.keeping.limit == NEVER
+        """Whether limits, or days beside days away, may be the reason that minimums are missed."""
+        return self.plan.keeps_more and self.plan.keeping.limit == NEVER
 
     def _no_roster(self) -> bool:
         """Whether prices prove that no roster keeps the minimums."""
@@ -129,7 +129,7 @@ class RowRun:
 
     def _close_gap(self, search: RowSearch, solver: LinearSolver) -> None:
         """Looks for the best roster, with a tree of cases beside that."""
-        if not (self._dives_beside or search.is_proved):
+        if search.penalty is None or not (self._dives_beside or search.is_proved):
             self._try(lambda part: search.choose(search.known_within(), part, "known rows"), KNOWN_SHARE)
         if search.penalty is None or search.is_proved:
             return

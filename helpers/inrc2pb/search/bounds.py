@@ -3,15 +3,16 @@
 import os
 import re
 import tempfile
-from dataclasses import dataclass
+from dataclasses import dataclass, replace
 from pathlib import Path
 from typing import Callable, List, Optional, Sequence
 
+from ..judging.days_away import DaysAway
 from ..programs.processes import Processes
 from ..programs.program import WeekFiles, find_program, run_unless_stopped
 from ..rows.case_pricing import CasePricing
 from ..rows.certificate import Certificate
-from ..rows.plan import FREE, STRICT, Keeping, Plan
+from ..rows.plan import FREE, STRICT, Calls, Keeping, Plan
 from ..rows.pricing import Pricing, plain_bound
 from ..rows.row_arrays import numpy
 from ..rows.row_run import RowRun
@@ -105,14 +106,15 @@ class Bounds:
         if certificate is None:
             return None
         self._write(certificate)
-        plan, only = run.plan.kept(keeping), _only(run.plan, keeping)
+        # Bounds speak of absences and limits alone.
+        plan, only = replace(run.plan.kept(keeping), beside=DaysAway(), calls=Calls()), _only(run.plan, keeping)
         answer = self._prover.answer(self._options, self._name, certificate, plan.facts(), seconds)
         found = re.match("lower bound ([0-9]{1,18})\n", answer or "")
         if answer is not None and not found:
             self._prover.fail("its answer is no bound")
         if found:
             return Bound(int(found[1]), PROVER, only)
-        points = run.lower_bound if run.plan.keeping == keeping else None
+        points = run.lower_bound if run.plan == plan else None
         return Bound(_plain_points(plan, run, certificate) if points is None else points, PLAIN, only)
 
     def no_roster(self, plan: Plan, certificate: Certificate, seconds: float) -> Optional[str]:

@@ -50,6 +50,8 @@ class PeriodSearch:
         self._start, self._seed = start, seed
         self.penalty: Optional[int] = None
         self.bound: Optional[Bound] = None
+        # What no plan costs less than that keeps the days beside days away, too. No program has proved it.
+        self.bound_beside: Optional[int] = None
         self._proves = False
         self._cells: Sequence[Cell] = ()
         # How much of the absences and limits the best plan does not keep, and its penalty: a smaller rank is better.
@@ -100,6 +102,8 @@ class PeriodSearch:
         if self._rank is None or not runs or self._weeks.later():
             return
         keeping = FREE if self._rank[0] else ONLY_ABSENCES if self._rank[1] else STRICT
+        if keeping == STRICT and (self._weeks.beside.training or self._weeks.beside.free) and not self._weeks.calls.points:
+            self.bound_beside = runs[0].lower_bound
         self._proves = True
         seconds = STOPPED_SECONDS if self._clock.stopped else PROOF_SECONDS
         self.bound = self._bounds.of(runs[0] if keeping == STRICT else runs[-1], keeping, seconds)
@@ -115,22 +119,22 @@ class PeriodSearch:
             penalty = self._checked(cells, trial)
             if penalty is None:
                 return None
-            value = run.search.value_of(rows) if self._weeks.later() and run.search and not plan.adds else None
+            value = run.search.value_of(rows) if counts_more and run.search and not plan.adds else None
             rank = (*self._weeks.not_kept(cells), penalty if value is None else value)
             if self._rank is None or rank < self._rank or value is not None:
                 self._keep(cells)
                 self._cells, self._rank, self.penalty = cells, rank, rank[2]
                 given = "week after week" if self._start is None else "the earlier plan"
                 self._progress.improved(penalty, given if finder == GIVEN else finder)
-            # Before the search, the cost of the weeks that are not known is not known either.
-            return Points(rank[2]) if run.search or not self._weeks.later() else None
+            # Before the search, the cost of calls, and of the weeks that are not known, is not known either.
+            return Points(rank[2]) if run.search or not counts_more else None
 
         def heard() -> None:
             keeps_all = self._rank is not None and not any(self._rank[:2])
             if run.lower_bound is not None and plan.keeping == STRICT and keeps_all and not self._weeks.later():
                 self._progress.bound_rose(run.lower_bound)
 
-        splits = not self._weeks.later()
+        splits, counts_more = not self._weeks.later(), bool(self._weeks.later() or plan.calls.points)
         run = RowRun(plan, solver, self._clock, offer, heard, self._first(plan, solver), self._seed, splits)
         runs.append(run)
         run.run()
@@ -193,7 +197,17 @@ class PeriodSearch:
             return "no lower bound"
         only = f" with all {self.bound.only}" if self.bound.only else ""
         bound = f"lower bound {self.bound.points} of the sum{only} ({self.bound.by})"
+        if self.bound_beside is not None and self.bound_beside > self.bound.points:
+            return f"{bound}; {self._line_beside(self.penalty, self.bound_beside)}"
         if self.penalty <= self.bound.points:
             less = "no plan that keeps them costs less" if only else "no plan costs less"
             return f"{bound}: {less}" + (", proved" if self.bound.by != PLAIN else "")
         return f"{bound}: the gap is {self.penalty - self.bound.points}, {gap_share(self.penalty, self.bound.points)}"
+
+    @staticmethod
+    def _line_beside(penalty: int, bound: int) -> str:
+        """The same of the plans that also keep the days beside days away."""
+        kept = f"{bound} if training is work in a row, and no night shift comes before it or leave ({PLAIN})"
+        if penalty <= bound:
+            return f"{kept}: no such plan costs less"
+        return f"{kept}: the gap is {penalty - bound}, {gap_share(penalty, bound)}"

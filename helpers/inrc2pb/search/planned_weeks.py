@@ -4,7 +4,9 @@ from dataclasses import dataclass, field, replace
 from pathlib import Path
 from typing import Dict, Iterator, List, NamedTuple, Optional, Sequence, Tuple
 
+from ..judging import days_away
 from ..judging.absences import absences_of, in_words, way_out, working_while_away
+from ..judging.days_away import DaysAway
 from ..judging.given import read_given, with_given
 from ..judging.limits import exceeded, excess, limits_in_words, limits_way_out
 from ..week.faults import Misuse
@@ -12,7 +14,7 @@ from ..week.records import Cell, History, Scenario, Solution, Week, WeekData
 from ..week.files import check_week_number, check_weeks_left, read_history, read_scenario, read_week, write_history, write_solution
 from ..judging.misfits import read_held
 from ..judging.next_history import next_history
-from ..rows.plan import WEEK_DAYS, Plan
+from ..rows.plan import WEEK_DAYS, Calls, Plan
 from ..programs.program import WeekFiles
 
 
@@ -44,10 +46,11 @@ class WrittenWeek(NamedTuple):
 
 
 class PlannedWeeks:
-    """The weeks that are planned, as values. `hints` names the fix files that seem to be of another week."""
+    """The weeks that are planned, as values. `hints` names the fix files that seem to be of another week, and `beside` has the days away
+    that concern the days beside them; `calls` has an older roster."""
 
-    def __init__(self, files: PeriodFiles) -> None:
-        self.files = files
+    def __init__(self, files: PeriodFiles, beside: DaysAway = DaysAway(), calls: Calls = Calls()) -> None:
+        self.files, self.beside, self.calls = files, beside, calls
         self.hints: List[str] = []
         self.scenario: Scenario = read_scenario(files.scenario)
         self.history: History = read_history(files.history, self.scenario)
@@ -78,7 +81,8 @@ class PlannedWeeks:
 
     def plan(self) -> Plan:
         """All weeks as one plan, those of the forecast included."""
-        return Plan.of(self.scenario, self.history, [*self.data, *self.later()], self.files.early, self.held)
+        plan = Plan.of(self.scenario, self.history, [*self.data, *self.later()], self.files.early, self.held)
+        return replace(plan, beside=self.beside, calls=self.calls)
 
     def week_files(self, number: int, history: Optional[Path] = None) -> WeekFiles:
         """The files of a week. Its history is the given one of the first week, or another."""
@@ -103,10 +107,12 @@ class PlannedWeeks:
                 history = next_history(self.scenario, history, of_week)
 
     def not_kept(self, cells: Sequence[Cell]) -> Tuple[int, int]:
-        """How many absences these assignments break, and how much they have above limits."""
+        """How many absences these assignments break, and how much they have above limits, with the days beside days away."""
         weeks = list(self.each(cells)) if any(data.limits or absences_of(data) for data in self.data) else []
         broken = sum(len(working_while_away(absences_of(week.data), of_week)) for week, of_week in weeks)
-        return broken, sum(excess(exceeded(week, week.data.limits, of_week)) for week, of_week in weeks)
+        above = sum(excess(exceeded(week, week.data.limits, of_week)) for week, of_week in weeks)
+        shifts = {(cell.nurse, cell.day): cell.shift for cell in cells}
+        return broken, above + days_away.excess(self.scenario, self.history, self.beside, shifts)
 
     def warnings(self, cells: Sequence[Cell]) -> Iterator[str]:
         """The weeks in which these assignments break an absence or exceed a limit, who works then, and what to do."""

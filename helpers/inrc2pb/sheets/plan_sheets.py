@@ -9,7 +9,7 @@ from ..week.faults import Gathering
 from ..week.hints import plural
 from ..week.records import DAYS, Absence, Cell, Place, Request, Requirement, Scenario
 from .sheet_files import Book
-from .sheet_rows import SheetCell, SheetRow, Table
+from .sheet_rows import SheetCell, SheetRow, Table, about
 from ..week.slots import MAX_NUMBER
 from .ward_sheets import Ward, table_of
 
@@ -19,7 +19,9 @@ COUNTED, NOT_EMPLOYED = ("ill", "leave", "training"), ("away", "unpaid")
 _WISH, _NO_WISH = ("wish", "wish off", "off?"), ("", "-")
 _NO_SHIFT = re.compile(r"(not|no)[ _-]*(\S.*)", re.IGNORECASE)
 _PAIR = re.compile(r"\(?([0-9]{1,4}) ?(\+|,|\.\.) ?([0-9]{1,4})\)?")
-_RANGE = re.compile(r"([0-9]{1,4}) ?(?:[-\u2013/]|to) ?([0-9]{1,4})")
+_RANGE = re.compile(r"([0-9]{1,4}) ?(?:[-\u2013/.,]|to) ?([0-9]{1,4})")
+# Half a nurse, or two numbers.
+_DECIMAL = re.compile(r"([0-9]{1,4})[.,]([0-9]{1,4})")
 _DATE = re.compile(r"([0-9]{4})-([0-9]{1,2})-([0-9]{1,2})|([0-9]{1,2})\.([0-9]{1,2})\.([0-9]{4})")
 _OTHER_DATE = re.compile(r"\b([0-9]{1,2})[/-]([0-9]{1,2})[/-]([0-9]{4})\b")
 # A date as a spreadsheet counts it, from 1954 on.
@@ -205,9 +207,13 @@ def _needed(cell: SheetCell) -> Requirement:
     """The numbers of a cell: `2`, `2+1` (at least two, three are best), `2..3` or nothing."""
     if cell.text in _NO_WISH:
         return Requirement(0, 0)
-    pair = _PAIR.fullmatch(cell.text)
+    decimal, advice = _DECIMAL.fullmatch(cell.text), _pair_for(cell.text)
+    if decimal and int(decimal[2]):
+        low = int(decimal[1])
+        cell.fault(f"'{cell.text}' is no whole number, or it is two numbers: write {low} or {low + 1}, or {advice}")
+    pair = None if decimal else _PAIR.fullmatch(cell.text)
     if not pair:
-        number = cell.number(pair=_pair_for(cell.text))
+        number = cell.number(pair=advice)
         return Requirement(number, number)
     minimum, sign, second = int(pair[1]), pair[2], int(pair[3])
     best = minimum + second if sign == "+" else second
@@ -219,9 +225,10 @@ def _needed(cell: SheetCell) -> Requirement:
 
 
 def _pair_for(text: str) -> str:
-    """How the needs have a minimum and a best number, such as those of the text `2-3`, of which a spreadsheet may make a date."""
-    found = _RANGE.fullmatch(text)
-    minimum, best = (int(found[1]), int(found[2])) if found else (2, 3)
+    """How the needs have a minimum and a best number, such as those of the text `2-3`, of which a spreadsheet may make a date, or one
+    more than the only number of the text."""
+    found, least = _RANGE.fullmatch(text), int(about(text) or 2)
+    minimum, best = (int(found[1]), int(found[2])) if found else (least, least + 1)
     if minimum >= best:
         minimum, best = 2, 3
     return f"{minimum}+{best - minimum} for {minimum} at least and better {best}"

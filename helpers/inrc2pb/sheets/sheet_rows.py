@@ -18,6 +18,8 @@ _NO_WIDTH = re.compile("[\u200b-\u200d\u2060\ufeff]")
 _BROKEN = re.compile(r"#(REF!|BEZUG!|DIV/0!|NAME\?|VALUE!|WERT!|NUM!|ZAHL!|NULL!|N/A|NV|SPILL!)|Err:[0-9]+", re.IGNORECASE)
 _SAVE = "open the file in a spreadsheet program, and save it again"
 SUM = re.compile(r"=([0-9]{1,4})\+([0-9]{1,4})")
+# A number with words or a sign, as `ca. 2`, `~2` or `2 nurses`.
+_ABOUT = re.compile(r"(?:(?:[^\W\d]+(?:\. ?| ))+|[~<>?\u2264\u2265\u00b1] ?)([0-9]{1,4})|([0-9]{1,4}) ?(?:[^\W\d]+\.?|[?])")
 # The sign after a maximum that is never exceeded.
 KEPT = "!"
 
@@ -25,6 +27,12 @@ KEPT = "!"
 def tidy(text: str) -> str:
     """The text with composed letters, and with one blank for each sequence of them, of whatever kind."""
     return " ".join(_NO_WIDTH.sub("", unicodedata.normalize("NFC", text)).split())
+
+
+def about(text: str) -> str:
+    """The only number of a text that has words or a sign beside it; nothing if it is something else."""
+    found = _ABOUT.fullmatch(text)
+    return found[1] or found[2] if found else ""
 
 
 def letters_of(column: int) -> str:
@@ -86,7 +94,7 @@ class SheetCell(NamedTuple):
             return f"the sign {KEPT} is for shifts max, work max and weekends"
         if not pair and re.fullmatch(r"[0-9]+[.,][0-9]+", self.text):
             return "shifts are counted, not hours"
-        number = "write a number such as 2"
+        number = f"write {about(self.text) or 'a number such as 2'}"
         return f"{number}, or {pair}" if pair else f"{number}{'' if re.search('[0-9]', self.text) else empty}"
 
     def new_name(self, kind: str, taken: Collection[str]) -> str:

@@ -13,7 +13,7 @@ from .sheet_rows import KEPT, SheetCell, SheetRow, Table
 from ..week.slots import MAX_CONTRACTS, MAX_NUMBER, MAX_NURSES, MAX_SHIFTS, MAX_SKILLS, closest
 
 _WEEKDAYS = ("Monday", "Tuesday", "Wednesday", "Thursday", "Friday", "Saturday", "Sunday")
-_NIGHT = re.compile("night|nacht|nuit|noche|notte|noite", re.IGNORECASE)
+NIGHT = re.compile("night|nacht|nuit|noche|notte|noite", re.IGNORECASE)
 _YES, _NO = ("1", "yes", "x", "true"), ("", "0", "no", "-", "false")
 _HEADS = {
     "shifts": (("shift",), ("min in a row", "max in a row", "not followed by", "times")),
@@ -240,7 +240,7 @@ def ward_warnings(ward: Ward) -> Iterator[str]:
             yield f"sheet nurses: {nurse} never works: nobody can plan her"
     for name, shift in types.items():
         later = [other for other in types if name in types[other].forbidden_next]
-        if _NIGHT.search(name) and later and not shift.forbidden_next:
+        if NIGHT.search(name) and later and not shift.forbidden_next:
             turned = "is 'not followed by' the other way round?"
             yield f"sheet shifts: {name} may not follow {later[0]}, and each shift type may follow {name}: {turned}"
 

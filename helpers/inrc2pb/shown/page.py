@@ -79,7 +79,7 @@ RULES = {
 }  # fmt: skip
 
 
-def page_style(page: Content) -> Markup:
+def page_style() -> Markup:
     """The style, with the colors of the shift types. Browsers print them only if `print-color-adjust` says so."""
     colors = "".join(f".s{number} {{ background: {color}; color: {ink_on(color)} }}\n" for number, color in enumerate(COLORS))
     return Markup(STYLE + colors)
@@ -107,6 +107,7 @@ def _summary(page: Content) -> Iterator[str]:
     made = f"; as of {page.as_of:%A}, {date_text(page.as_of)} {page.as_of:%Y, %H:%M}" if page.as_of else ""
     yield f"{named}{plural(len(view.nurses), 'nurse')}, {plural(count, 'shift')}{cost}{before}{made}"
     yield from breach_lines(view)
+    yield from () if page.only_table else page.notes
 
 
 def _roster(page: Content) -> Markup:
@@ -178,7 +179,7 @@ def page_text(page: Content) -> str:
     parts = [_roster(page), *([] if page.only_table else _details(page))]
     head = element(
         "head", element("meta", charset="utf-8"), element("meta", name="viewport", content="width=device-width"),
-        element("title", title(page)), element("style", page_style(page)),
+        element("title", title(page)), element("style", page_style()),
     )  # fmt: skip
     body = element("body", element("main", *(joined(part, Markup("\n")) for part in parts)))
     return f"<!DOCTYPE html>\n{element('html', head, Markup(chr(10)), body, lang='en')}\n"

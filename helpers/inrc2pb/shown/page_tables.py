@@ -34,7 +34,7 @@ class Content:
 
     `only_table` is for a wall: nothing on what the roster costs, nor on wishes and held shifts. `link` has the address of a nurse's day
     in a week of the table, if its cells are links. `holidays` are days from the first Monday on with numbers of their own, as bank holidays
-    have, and `as_of` says when the page was made.
+    have, `as_of` says when the page was made, and `notes` are lines on what to look at.
     """
 
     view: RosterView
@@ -45,6 +45,7 @@ class Content:
     link: Optional[Callable[[int, str, int], str]] = None
     holidays: Collection[int] = ()
     as_of: Optional[datetime.datetime] = None
+    notes: Sequence[str] = ()
 
     def week_name(self, week: int) -> str:
         """The name of a week: its number, and that of the calendar if its dates are known."""

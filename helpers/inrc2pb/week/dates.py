@@ -11,6 +11,8 @@ from .slots import did_you_mean
 
 MONTHS = ("Jan", "Feb", "Mar", "Apr", "May", "Jun", "Jul", "Aug", "Sep", "Oct", "Nov", "Dec")
 DAY = datetime.timedelta(days=1)
+# A shift that lasts longer than this after midnight is a night shift.
+_NIGHT_ENDS = datetime.timedelta(hours=3)
 _TIMES = re.compile("([0-9]{1,2}:[0-9]{2}) ?[-\u2013] ?([0-9]{1,2}:[0-9]{2})")
 
 
@@ -19,6 +21,12 @@ class Times(NamedTuple):
 
     start: datetime.time
     length: datetime.timedelta
+
+    @property
+    def is_night(self) -> bool:
+        """Whether the shift takes a part of the night."""
+        begin = datetime.timedelta(hours=self.start.hour, minutes=self.start.minute)
+        return begin + self.length > DAY + _NIGHT_ENDS
 
     def __str__(self) -> str:
         end = (datetime.datetime.combine(datetime.date.min, self.start) + self.length).time()

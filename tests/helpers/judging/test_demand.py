@@ -34,14 +34,14 @@ def can_be_filled(scenario, data, day):
 class Demand(unittest.TestCase):
     def test_nurses_who_are_needed_at_once(self):
         # Three of the seven nurses have Charge.
-        wanted = ["Tue: 4 with Charge needed at once (Day 2, Night 2), and 3 have it: no roster can meet it"]
+        wanted = ["Tue: 4 with Charge needed at once (Day 2, Night 2), and 3 have it: no roster can meet it: lower minimum numbers by 1, or give more nurses the skill"]
         self.assertEqual(list(demand_warnings(WARD, PAST, needing(Day_Charge=2, Night_Charge=2))), wanted)
-        wanted = ["Tue: Day Charge, Day Nurse, Late Nurse and Night Nurse need 8 nurses at once, and 7 could do it: no roster can meet it"]
+        wanted = ["Tue: Day Charge, Day Nurse, Late Nurse and Night Nurse need 8 nurses at once, and 7 could do it: no roster can meet it: lower minimum numbers by 1 in all"]
         self.assertEqual(list(demand_warnings(WARD, PAST, needing(Day_Charge=2, Day_Nurse=2, Late_Nurse=2, Night_Nurse=2))), wanted)
 
     def test_nurses_who_are_away_are_not_counted(self):
         away = replace(DATA, absences=frozenset({Absence("Amara", 1, None), Absence("Bruno", 1, None), Absence("Ewa", 1, "Day")}))
-        wanted = ["Tue: 1 with Charge needed at once (Day 1), and 0 of the 3 who have it could do it: no roster can meet it and keep every absence"]
+        wanted = ["Tue: 1 with Charge needed at once (Day 1), and 0 of the 3 who have it could do it: no roster that keeps every absence can meet it: lower minimum numbers by 1, or give more nurses the skill, or shorten an absence"]
         self.assertEqual(list(demand_warnings(WARD, PAST, away)), wanted)
 
     def test_a_warning_says_whether_the_places_can_be_filled(self):

@@ -23,8 +23,9 @@ WARNINGS = [
     (WARD / "history-1.txt", "Amara 5 1 Day 2 2 0", "Amara 5 1 Day 2 6 0", "--his", "Amara has 6 working days in a row, and 5 assignments"),
     (WARD / "history-1.txt", "Amara 5", "Amara 25", "--his", "Amara has 25 assignments, and 1 week of the period is over (leave with credit?)"),
     (WEEK, "Day Charge (1,1) (1,1)", "Day Charge (5,5) (5,5)", "--week",
-     "Day Charge on Mon, Tue: at least 5 are needed, and 3 nurses have the skill: no roster can meet it\n"
-     "Mon and Tue: 5 with Charge needed at once (Day 5), and 3 have it: no roster can meet it\n"
+     "Day Charge on Mon, Tue: at least 5 are needed, and 3 nurses have the skill: no roster can meet it: lower 5 to 3, or give more nurses the skill\n"
+     "Mon and Tue: 5 with Charge needed at once (Day 5), and 3 have it: no roster can meet it: "
+     "lower minimum numbers by 2, or give more nurses the skill\n"
      "it asks for at least 34 shifts, and the contracts supply at most 32 a week: if all weeks ask for so many, each shift above costs points"),
     (WEEK, "Day Charge (1,1) (1,1)", "Day Charge (1,1) (1,4)", "--week", "Day Charge on Tue: 4 are best, and 3 nurses have the skill"),
     (WEEK, "Day Charge (1,1)", "Day Charge (2,1)", "--week", "Day Charge on Mon: (2,1) has a minimum above the optimal number"),

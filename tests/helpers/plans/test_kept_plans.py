@@ -6,7 +6,7 @@ from dataclasses import replace
 from unittest import mock
 from xml.etree import ElementTree
 
-from test_plans import FolderTest
+from test_plans import MONDAY, FolderTest
 from ward import HAS_CBC, files, run
 
 from inrc2pb.judging.limits import limits_way_out
@@ -14,17 +14,25 @@ from inrc2pb.judging.rules import Charge
 from inrc2pb.commands.plan import read_sheet
 from inrc2pb.plans import pages, ward_folder
 from inrc2pb.plans.agreed_days import AgreedDay, agreed_text, read_agreed
+from inrc2pb.plans.days_beside import beside_lines
 from inrc2pb.plans.few_changes import with_few_changes
 from inrc2pb.plans.needless_changes import without_needless_changes
 from inrc2pb.plans.plan_days import PlanDays
+from inrc2pb.plans.plan_store import not_kept_lines
 from inrc2pb.plans.shift_changes import call_lines, change_lines, shift_changes
-from inrc2pb.plans.training_rows import training_lines
 from inrc2pb.plans.ward_plan import read_stored
 from inrc2pb.plans.wish_words import wish_lines
+from inrc2pb.programs.clock import Clock
+from inrc2pb.programs.progress import Progress
+from inrc2pb.search.bounds import Bound
+from inrc2pb.search.period_search import PeriodSearch
+from inrc2pb.shown.page import page_text
+from inrc2pb.week.facts import Charged
 from inrc2pb.week.faults import FileFault
 from inrc2pb.week.records import Absence, Cell, Request
 
 BARE = PlanDays(None, 2)
+BARE_DATES = [PlanDays(MONDAY, 2).text(day) for day in range(14)]
 
 
 class KeptTest(FolderTest):
@@ -86,14 +94,55 @@ class Words(KeptTest):
         found = without_needless_changes(old, needless)
         self.assertEqual([one[:2] for one in shift_changes(old.cells(), found.cells())], [("Grace", 4)])
 
+    def test_one_nurse_is_called_in_place_of_two(self):
+        # Finn works late on the weekend, Ewa and Grace are off, and Ewa is off on Monday, too.
+        self.rows["plan"][6][6:8] = ["ill", "ill"]
+        self.write()
+        old = replace(self.plan, sheet=read_sheet(self.ward, None, ()))
+        cells = [cell for cell in old.cells() if (cell.nurse, cell.day) not in (("Finn", 5), ("Finn", 6))]
+        new = old.with_cells([*cells, Cell("Grace", 5, "Late", "Nurse"), Cell("Ewa", 6, "Late", "Nurse")])
+        changes = shift_changes(old.cells(), without_needless_changes(old, new).cells())
+        self.assertEqual([(one.nurse, one.day) for one in changes], [("Ewa", 5), ("Finn", 5), ("Ewa", 6), ("Finn", 6)])
+        self.assertEqual(call_lines(changes, old.away), ["1 nurse to call: Ewa"])
+
     def test_training_between_days_of_work_is_told(self):
         # Grace works from Monday to Friday, and may work five days in a row.
         self.rows["plan"][7][6] = "training"
         self.write()
         plan = replace(self.plan, sheet=read_sheet(self.ward, None, ()))
-        says = "Grace has 6 days in a row with work or training, to Sat 5 Dec, and her contract at most 5 with work"
-        self.assertEqual(list(training_lines(plan)), [says])
-        self.assertEqual(list(training_lines(self.plan)), [])
+        says = "Grace has 6 days in a row with work or training, Mon 30 Nov to Sat 5 Dec, and her contract at most 5 with work"
+        self.assertEqual(list(beside_lines(plan)), [says])
+        self.assertEqual(list(beside_lines(self.plan)), [])
+
+    def test_a_night_before_training_or_leave_is_told(self):
+        # Dilek has worked Night on Sunday, and does so on Monday and Tuesday.
+        self.rows["plan"][4][1] = self.rows["plan"][4][4] = "leave"
+        self.write()
+        nurse, night = next((cell.nurse, cell.day) for cell in self.plan.cells() if cell.shift == "Night" and cell.day < 13)
+        row = next(row for row in self.rows["plan"] if row[0] == nurse)
+        row[night + 2] = "training"
+        self.write()
+        says = f"{nurse} works Night on {BARE_DATES[night]}, and has training on {BARE_DATES[night + 1]}"
+        printed = run("plan", self.ward, "check")[1]
+        self.assertIn(f"warning: {says}\n", printed)
+        self.assertIn("warning: Dilek works Night on the Sunday before, and has leave on Mon 30 Nov\n", printed)
+        plan = replace(self.plan, sheet=read_sheet(self.ward, None, ()))
+        # The page has the line, but not the one for the wall.
+        self.assertIn(f"<p>{says}</p>", page_text(pages.roster_content(plan)))
+        self.assertNotIn(says, page_text(replace(pages.roster_content(plan), only_table=True)))
+
+    def test_a_nurse_who_leaves_may_have_the_shifts_until_then(self):
+        # Grace has five shifts from Monday to Friday. Her limit is that of the part of the plan before she leaves, rounded up.
+        self.rows["contracts"][1][1:3] = ["0", "8!"]
+        for first, most in ((8, 1), (6, 2), (3, 0)):
+            self.rows["plan"][7][1:] = [""] * (first - 1) + ["away"] * (15 - first)
+            self.write()
+            sheet = read_sheet(self.ward, None, ())
+            plan = replace(self.plan, sheet=sheet)
+            limit = next(fact.most for fact, _ in plan.claims if isinstance(fact, Charged) and fact.nurse == "Grace")
+            self.assertEqual(limit, most, first)
+            gone = plan.with_cells(cell for cell in plan.cells() if cell.nurse != "Grace" or cell.day < first - 1)
+            self.assertFalse([line for line in not_kept_lines(gone) if "Grace" in line])
 
     def test_agreed_days_cost_much(self):
         old = [Cell("Chen", 4, "Late", "Nurse")]
@@ -119,11 +168,11 @@ class Words(KeptTest):
 class Weeks(KeptTest):
     def test_a_week_after_which_the_plan_breaks_a_rule(self):
         printed = self.does("over", "Bruno", "Sun", "Night,", "Finn", "Fri", "off,")
-        cure = "after these corrections the plan does not fit any more: type plan 2026-12-07"
+        cure = "after these corrections the plan does not fit any more: plan again, from 2026-12-07 on"
         self.assertIn("week 1 breaks H3: Bruno may not work Day on Mon after Night on the Sunday before\n", printed)
         self.assertIn(f"{cure}\n", printed)
         self.assertIn("week 0 breaks H2: Fri Late Nurse has 0 nurses and needs at least 1\n", printed)
-        self.assertIn("if it was not worked so, type undo", printed)
+        self.assertIn("if it was not worked so: undo, then over with other corrections", printed)
         self.assertNotIn("to call", printed)
         cells = files.read_solution(self.last() / "roster-0.txt").cells
         self.assertIn(Cell("Bruno", 6, "Night", "Nurse"), cells)
@@ -135,7 +184,7 @@ class Weeks(KeptTest):
         printed = self.does("over", "Grace", "Sat", "Day", "Grace", "Sun", "Day")
         self.assertIn("week 0 exceeds a limit that holds: Grace has 7 days of work in a row", printed)
         self.assertIn("week 1 exceeds a limit that holds: Grace has 12 days of work in a row, to Fri 11 Dec, of at most 5", printed)
-        self.assertIn("type plan 2026-12-07", printed)
+        self.assertIn("plan again, from 2026-12-07 on", printed)
 
     def test_the_page_for_the_wall(self):
         # On Friday of week 1 one nurse fewer is best, as on a bank holiday; the other cells are as in all weeks.
@@ -216,6 +265,46 @@ class NotKept(KeptTest):
         self.assertRegex(printed, "(?m)^week 1: lower minimum numbers, hold fewer shifts, or allow these nurses more; ")
         self.assertIn("\nthis plan is written, but it does not keep what the first lines say: ", printed)
         self.assertNotIn("gap", printed)
+
+
+@unittest.skipUnless(HAS_CBC, "cbc is not installed")
+class Training(KeptTest):
+    def test_a_search_counts_training_as_work(self):
+        # Grace works from Monday to Friday in both weeks, and comes to training from work.
+        self.rows["plan"][7][6:9] = ["training", "training", "training"]
+        self.write()
+        before = replace(self.plan, sheet=read_sheet(self.ward, None, ()))
+        self.assertEqual(len(list(beside_lines(before))), 1)
+        printed = self.does("plan")
+        self.assertNotIn("with work or training", printed)
+        row = [day in range(5, 8) or ("Grace", day) in self.cells() for day in range(14)]
+        self.assertLessEqual(max(len(run) for run in "".join(".x"[is_on] for is_on in row).split(".")), 5)
+
+    def test_the_bound_of_plans_that_count_training(self):
+        search = PeriodSearch(mock.Mock(**{"options.return_value": [], "later.return_value": [], "scenario.name": "ward"}), None, Clock(1), Progress(None))
+        search.penalty, search.bound = 1170, Bound(1080, "inrc2pb-bound", "absences")
+        begin = "lower bound 1080 of the sum with all absences (inrc2pb-bound)"
+        beside = "if training is work in a row, and no night shift comes before it or leave (plain Python, not proved)"
+        for bound, says in (
+            (1170, f"{begin}; 1170 {beside}: no such plan costs less"),
+            (1100, f"{begin}; 1100 {beside}: the gap is 70, 6.0 %"),
+            (1080, f"{begin}: the gap is 90, 7.7 %"),
+            (None, f"{begin}: the gap is 90, 7.7 %"),
+        ):
+            search.bound_beside = bound
+            self.assertEqual(search.line(), says)
+
+    def test_what_no_plan_can_keep_is_told(self):
+        # Only Dilek works nights, one is needed on Monday, and she has training on Tuesday.
+        for row in self.rows["nurses"][1:]:
+            row[3] = "" if row[0] == "Dilek" else "Night"
+        self.rows["needs"] = [row for row in self.rows["needs"] if row[1] != "Night"]
+        self.rows["needs"].append(["", "Night", "Nurse", "1", *["0"] * 6])
+        self.rows["plan"][4][2] = "training"
+        self.write()
+        status, printed, said = run("plan", self.ward, "plan", "--time", "10")
+        self.assertEqual(status, 0, said)
+        self.assertIn("Dilek works Night on Mon 30 Nov, and has training on Tue 1 Dec\n", printed)
 
 
 @unittest.skipUnless(HAS_CBC, "cbc is not installed")

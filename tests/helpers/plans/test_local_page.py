@@ -89,7 +89,7 @@ class Page(FolderTest):
             ("is no nurse: ", {"verb": "away", "reason": "ill", "nurse": "<script>", "first": "2026-12-04"}),
             ("is before Fri 4 Dec", {"verb": "away", "reason": "ill", "nurse": "Chen", "first": "2026-12-04", "last": "2026-12-02"}),
             ("a shift type is missing", {"verb": "over", "corrections": "Chen Fri"}),
-            ("--do is for a swap of two nurses", {"verb": "swap", "nurse": "Grace", "first": "2026-12-04", "write_it": "yes"}),
+            ("a swap that is written is of two nurses", {"verb": "swap", "nurse": "Grace", "first": "2026-12-04", "write_it": "yes"}),
         ):
             with self.subTest(fields):
                 self.assert_refused(says, fields)
@@ -122,9 +122,50 @@ class Page(FolderTest):
         self.assertEqual(self.asks("POST", form="verb=swap&nurse=Grace&first=2026-12-04")[0], 303)
         self.jobs.wait()
         page = self.asks()[1]
-        self.assertIn("who could take Grace&#x27;s Day on Fri 4 Dec", page)
+        self.assertIn("<h2>Grace, Fri 4 Dec: Day Nurse</h2>", page)
+        self.assertIn(" takes it</button>", page)
         self.assertIn('<option value="Grace" selected="">', page)
         self.assertIn('<option value="2026-12-04" selected="">', page)
+
+    def test_a_look_for_a_swap_has_a_button_that_writes_it(self):
+        self.write_plan()
+        self.asks("POST", form="verb=swap&nurse=Grace&first=2026-11-30&other=Chen&other+day=")
+        self.jobs.wait()
+        page = self.asks()[1]
+        self.assertIn("nothing is written: the button below writes it", page)
+        form = next(form for form in re.findall("<form.*?</form>", page) if "Write this swap" in form)
+        fields = {"nurse": "Grace", "first": "2026-11-30", "other": "Chen", "write it": "yes", "verb": "swap"}
+        self.assertEqual({name: value for name, value in re.findall('name="([^"]*)" (?:type="[^"]*" )?value="([^"]*)"', form)}, fields)
+        # A swap that cannot be has no such button: Finn never works Night.
+        cells, nurses = self.cells(), [row[0] for row in self.rows["nurses"][1:]]
+        nurse, day = next(key for key, cell in sorted(cells.items()) if cell[0] == "Night" and ("Finn", key[1]) not in cells)
+        self.assertIn("Finn", nurses)
+        self.asks("POST", form=urlencode({"verb": "swap", "nurse": nurse, "first": DATES[day], "other": "Finn"}))
+        self.jobs.wait()
+        page = self.asks()[1]
+        self.assertIn("not possible: Finn never works Night", page)
+        self.assertNotIn("Write this swap", page)
+        # Nobody else works nights.
+        for row in self.rows["nurses"][1:]:
+            row[3] = "" if row[0] == nurse else "Night"
+        self.write()
+        self.assertIn("<p>Nobody can take it.</p>", self.asks(path=f"{self.site.path}?nurse={nurse}&day={day}")[1])
+
+    def test_what_a_newcomer_looks_for(self):
+        page = self.asks()[1]
+        self.assertIn(f"The spreadsheet is {self.ward}", page)
+        self.write_plan()
+        self.assertNotIn("Weeks that are over", self.asks()[1])
+        self.assertEqual(self.asks(path=f"{self.site.path}worked")[0], 404)
+        for _ in range(2):
+            self.assertIn(f'href="{self.site.path}worked"', self.sends(verb="over"))
+            self.assertIn("weeks 0" if _ else "week 0", self.asks(path=f"{self.site.path}worked")[1])
+        # The period is over: the page says what to write into the spreadsheet, and undo goes back.
+        page = self.asks()[1]
+        self.assertIn("write the days of the next one from 2026-12-14 on", page)
+        self.assertIn(f'<a href="{self.site.path}">load this page again</a>', page)
+        self.assertIn("<h2>Undo?</h2>", self.asks("POST", form="verb=undo")[1])
+        self.assertIn("holds again", self.sends(verb="undo"))
 
     def test_two_browsers(self):
         self.write_plan()
@@ -150,6 +191,7 @@ class Page(FolderTest):
         page = self.asks()[1]
         for name in ("roster", "wall", "calendars"):
             self.assertIn(f'href="{self.site.path}{name}"', page)
+        self.assertTrue('href="#roster"' in page and '<section id="roster">' in page)
         self.assertEqual(self.asks(path=f"{self.site.path}calendars/Chen.ics")[0], 404)
         self.assertIn("There are none yet", self.asks(path=f"{self.site.path}calendars")[1])
         self.sends(verb="page")

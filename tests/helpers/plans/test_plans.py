@@ -12,6 +12,7 @@ import tempfile
 import time
 import unittest
 from dataclasses import replace
+from pathlib import Path
 
 from ward import HAS_CBC, HELPERS, ROSTER, HelperTest, files, program, run
 
@@ -390,12 +391,36 @@ class Refused(FolderTest):
             row[8:10] = [words.get(row[0], "")] * 2
         self.rows["nurses"][6][4] = "Tue"
         self.write()
-        printed = self.does("check")
+        # All who have the skill Charge are away.
+        status, printed, _ = run("plan", self.ward, "check")
+        self.assertEqual(status, 6)
         says = ("Amara is ill", "Bruno has leave", "Dilek has training", "Ewa has unpaid leave", "Grace is away", "Finn is always off")
         for line in says:
             self.assertIn(f"{line} on Mon and Tue.\n" if line[:4] != "Finn" else f"{line} on Tue.\n", printed)
         self.assertIn("; 3 shifts (3 for days away) and 0 weekends in this period.\n", printed)
         self.assertFalse((self.ward / "plans").exists())
+
+    def test_minimum_numbers_that_no_plan_meets(self):
+        plain = {name: [list(row) for row in rows] for name, rows in self.rows.items()}
+        charge = next(number for number, row in enumerate(plain["needs"]) if row[1:3] == ["Day", "Charge"])
+        # Amara, Bruno and Ewa have the skill Charge.
+        for status, cells, says in (
+            (5, [("needs", charge, 5, "4")], "Day Charge on Wed: at least 4 are needed, and 3 nurses have the skill: "
+             "no roster can meet it: lower 4 to 3, or give more nurses the skill"),
+            (6, [("plan", row, 3, "leave") for row, cells in enumerate(plain["plan"]) if cells[0] in ("Amara", "Bruno", "Ewa")],
+             "Wed: 1 with Charge needed at once (Day 1), and 0 of the 3 who have it could do it: "
+             "no roster that keeps every absence can meet it: lower minimum numbers by 1, or give more nurses the skill, or shorten an absence"),
+            (6, [("contracts", row, 2, "2!") for row in (1, 2)] + [("contracts", row, 1, "0") for row in (1, 2)], " too many to keep the limits that hold: lower minimum numbers"),
+        ):  # fmt: skip
+            with self.subTest(says):
+                self.rows = {name: [list(row) for row in rows] for name, rows in plain.items()}
+                for sheet, row, column, text in cells:
+                    self.rows[sheet][row][column] = text
+                self.write()
+                ended, printed, said = run("plan", self.ward, "check")
+                self.assertEqual((ended, said), (status, ""), printed)
+                self.assertIn(says, printed)
+                self.assertEqual(printed.splitlines()[-1], "No plan can keep all of this: do what the warnings at the top say.")
 
     def test_wrong_verbs_and_options(self):
         for says, *words in (
@@ -453,18 +478,50 @@ class Refused(FolderTest):
         (self.ward / "plans").mkdir()
         with open(self.ward / "plans" / "lock", "w") as lock, tempfile.TemporaryFile("w+") as said:
             fcntl.flock(lock, fcntl.LOCK_EX)
-            command = [sys.executable, str(HELPERS / "inrc2pb-plan"), str(self.ward), "undo"]
-            second = subprocess.Popen(command, stderr=said, env=dict(os.environ))
-            self.addCleanup(second.kill)
-            line = f"another run works in {self.ward}: this one waits for its end, Ctrl-C ends it\n"
-            limit = time.monotonic() + 30
-            while time.monotonic() < limit and os.fstat(said.fileno()).st_size < len(line.encode()):
-                time.sleep(0.05)
+            second = self.begun("undo", said)
             self.assertIsNone(second.poll())
             fcntl.flock(lock, fcntl.LOCK_UN)
             self.assertEqual(second.wait(timeout=30), 1)
             said.seek(0)
-            self.assertTrue(said.read().startswith(line))
+            self.assertEqual(said.read().splitlines()[1:], ["the other run has ended", f"inrc2pb-plan: {self.ward}: there is nothing to undo"])
+
+    def begun(self, verb, said):
+        """A run of this verb, as soon as it waits for another one."""
+        begun = subprocess.Popen([sys.executable, str(HELPERS / "inrc2pb-plan"), str(self.ward), verb], stderr=said, env=dict(os.environ))
+        self.addCleanup(begun.kill)
+        line = f"another run works in {self.ward}: this one waits for its end, and its time begins then; Ctrl-C ends it\n"
+        limit = time.monotonic() + 30
+        while time.monotonic() < limit and os.fstat(said.fileno()).st_size < len(line.encode()):
+            time.sleep(0.05)
+        said.seek(0)
+        self.assertEqual(said.read(), line)
+        return begun
+
+    def test_a_run_that_waits_can_be_ended(self):
+        (self.ward / "plans").mkdir()
+        with open(self.ward / "plans" / "lock", "w") as lock, tempfile.TemporaryFile("w+") as said:
+            fcntl.flock(lock, fcntl.LOCK_EX)
+            second = self.begun("plan", said)
+            second.send_signal(signal.SIGINT)
+            self.assertEqual(second.wait(timeout=30), 130)
+            said.seek(0)
+            self.assertEqual(said.read().splitlines()[1], "nothing was written")
+
+    @unittest.skipUnless(HAS_CBC, "cbc is not installed")
+    def test_the_time_of_a_search_begins_after_the_wait(self):
+        (self.ward / "plans").mkdir()
+        with open(self.ward / "plans" / "lock", "w") as lock, tempfile.TemporaryFile("w+") as said:
+            fcntl.flock(lock, fcntl.LOCK_EX)
+            second = self.begun("plan", said)
+            time.sleep(3)
+            fcntl.flock(lock, fcntl.LOCK_UN)
+            limit = time.monotonic() + 60
+            while time.monotonic() < limit and "penalty" not in (text := Path(f"/proc/self/fd/{said.fileno()}").read_text()):
+                time.sleep(0.05)
+            second.send_signal(signal.SIGINT)
+            second.wait(timeout=60)
+            # The first line of the search has the seconds since its begin.
+            self.assertLess(float(re.search(r"([0-9.]+) s  penalty", text)[1]), 3)
 
 
 if __name__ == "__main__":

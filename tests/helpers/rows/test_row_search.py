@@ -14,7 +14,7 @@ from inrc2pb.rows import row_generation, row_program
 from inrc2pb.programs.clock import Clock, TimeIsOver
 from inrc2pb.solvers.answers import Chosen, SolverFault
 from inrc2pb.solvers.linear_solvers import LinearSolver, LinearSolvers
-from inrc2pb.rows.first_rows import matched_rows
+from inrc2pb.rows.first_rows import Descent, matched_rows
 from inrc2pb.rows.plan import Plan
 from inrc2pb.rows.pricing import Crews, Pricing
 from inrc2pb.programs.processes import Processes
@@ -73,6 +73,24 @@ class RowSearches(HelperTest):
             with self.subTest(name):
                 search = self.run_rows(week_of(name)).search
                 self.assertEqual((search.penalty, search.lower_bound, search.is_proved), (optimum, optimum, True))
+
+    @unittest.skipUnless(HAS_CBC, "needs cbc")
+    def test_weeks_whose_first_rows_are_no_roster(self):
+        week = week_of("n005w4")
+        plan = Plan.of(week.scenario, week.history, [week.data, week.data])
+        solver, found = LinearSolvers(["cbc"], Processes(), self.folder, self.fail), []
+
+        def offer(rows, _finder):
+            if staffed(plan, run.crews, rows).below:
+                return None
+            found.append(run.search.value_of(rows))
+            return found[-1]
+
+        # Nobody works in the first rows, and one nurse after another finds no better ones.
+        run = RowRun(plan, solver, Clock(60.0), offer, lambda: None, [bytes(14)] * 5)
+        with mock.patch.object(Descent, "sweep", return_value=0):
+            run.run()
+        self.assertTrue(found)
 
     @unittest.skipUnless(HAS_CBC, "needs cbc")
     def test_columns_that_were_dropped_come_back(self):

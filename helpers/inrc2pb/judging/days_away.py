@@ -1,0 +1,60 @@
+"""Days away that concern the days beside them: training is work in a row, and before training or leave nobody should have a night shift."""
+
+from typing import Collection, FrozenSet, Iterator, List, Mapping, NamedTuple, Tuple
+
+from ..week.records import History, Scenario
+
+NurseDay = Tuple[str, int]
+
+
+class DaysAway(NamedTuple):
+    """The days of `training` count as work in a row, and on the day before each of `free` nobody should have a shift type of `nights`,
+    which end on the next day. Days count from the first Monday of the plan; those before `fixed` do not change."""
+
+    training: FrozenSet[NurseDay] = frozenset()
+    free: FrozenSet[NurseDay] = frozenset()
+    nights: FrozenSet[str] = frozenset()
+    fixed: int = 0
+
+
+class LongRow(NamedTuple):
+    """Days in a row with work and training, more than the contract of the nurse has with work. `number` is with the days before Monday."""
+
+    nurse: str
+    days: List[int]
+    number: int
+    most: int
+
+
+def long_rows(scenario: Scenario, history: History, away: DaysAway, works: Collection[NurseDay]) -> Iterator[LongRow]:
+    """The rows of days with training that are too long, if nurses work on these days."""
+    for nurse in dict.fromkeys(nurse for nurse, _ in sorted(away.training)):
+        most, past = scenario.contract_of(nurse).working_days.maximum, history.nurses[nurse].working_days
+        for days in _in_a_row({day for who, day in (*works, *away.training) if who == nurse}):
+            number = len(days) + (past if days[0] == 0 else 0)
+            if number > most and any((nurse, day) in away.training for day in days):
+                yield LongRow(nurse, days, number, most)
+
+
+def _in_a_row(days: Collection[int]) -> Iterator[List[int]]:
+    """The days in groups of days that follow one another."""
+    row: List[int] = []
+    for day in sorted(days):
+        if row and day != row[-1] + 1:
+            yield row
+            row = []
+        row.append(day)
+    if row:
+        yield row
+
+
+def nights_before(away: DaysAway, works: Mapping[NurseDay, str]) -> List[NurseDay]:
+    """The days of `free` to which nurses come from a night shift, if they have these shift types."""
+    return [(nurse, day) for nurse, day in sorted(away.free) if works.get((nurse, day - 1)) in away.nights]
+
+
+def excess(scenario: Scenario, history: History, away: DaysAway, works: Mapping[NurseDay, str]) -> int:
+    """How many days of too long rows, and nights before training or leave, could be otherwise, if nurses have these shift types."""
+    rows = long_rows(scenario, history, away, works)
+    above = sum(row.number - row.most for row in rows if any((row.nurse, day) in works for day in row.days if day >= away.fixed))
+    return above + sum(day > away.fixed for _, day in nights_before(away, works))

@@ -1,0 +1,25 @@
+"""The days beside days away in words: work in a row with training in it, and night shifts before training or leave."""
+
+from typing import Iterator
+
+from ..judging.absences import readable
+from ..judging.days_away import long_rows, nights_before
+from ..week.hints import plural
+from .ward_plan import WardPlan
+
+
+def beside_lines(plan: WardPlan) -> Iterator[str]:
+    """The nurses who have more days in a row with work or training than their contracts have with work, or who come to training or leave
+    from a night shift."""
+    away, shifts, first = plan.days_away, plan.shifts, plan.first
+    if not plan.weeks:
+        return
+    for row in long_rows(plan.scenario, plan.histories[plan.open_week], away, shifts):
+        days = plan.days.span([first + row.days[0], first + row.days[-1]])
+        number = plural(row.number, "day")
+        yield f"{readable(row.nurse)} has {number} in a row with work or training, {days}, and her contract at most {row.most} with work"
+    past = {(nurse, -1): before.last_shift or "" for nurse, before in plan.histories[plan.open_week].nurses.items()}
+    for nurse, day in nights_before(away, {**past, **shifts}):
+        shift, word = shifts.get((nurse, day - 1)) or past[nurse, -1], plan.away[nurse, first + day]
+        night = plan.days.text(first + day - 1) if first + day else "the Sunday before"
+        yield readable(f"{nurse} works {shift} on {night}, and has {word} on {plan.days.text(first + day)}")
