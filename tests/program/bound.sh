@@ -131,8 +131,8 @@ bounds_two_weeks() {
     says 'an absence' 'lower bound 30\npenalty 30\noptimal\n' "${two[@]}" --proof mondays --given off --roster nobody nobody
     says 'two shifts' 'lower bound 30\npenalty 30\noptimal\n' "${two[@]}" --proof sunday_too --given not_off --roster monday sunday
     says 'facts that exclude each other' 'no roster exists\n' "${two[@]}" --given both --minimums
-    refuses 'a fact that rosters do not meet' 6 'given fact 1 is not met' "${two[@]}" --given off --roster monday nobody
-    refuses 'the second fact' 6 'given fact 2 is not met' "${two[@]}" --given not_off --roster monday nobody
+    refuses 'a fact that rosters do not meet' 6 'facts line 5: not met' "${two[@]}" --given off --roster monday nobody
+    refuses 'the second fact' 6 'facts line 6: not met' "${two[@]}" --given not_off --roster monday nobody
     refuses 'a hard rule in the second week' 6 'week 2: roster breaks H3' --sce no_two.txt --his history.txt --week week.txt week.txt \
         --roster sunday monday
     refuses 'a held cell that the second roster lacks' 6 'week 2: roster breaks H5' "${two[@]}" --fix 2=monday --roster nobody nobody

@@ -58,7 +58,7 @@ def refusal(period: Period, plan: Plan) -> Optional[Tuple[int, str]]:
         return 1, f"week {beyond + 1}: history: out of limits"
     if rule:
         return 6, f"week {rule[0] + 1}: roster breaks {rule[1]}" if len(period.weeks) > 1 else f"roster breaks {rule[1]}"
-    return None if fact is None else (6, f"given fact {fact + 1} is not met")
+    return None if fact is None else (6, f"facts line {fact + 5}: not met")
 
 
 def plans_of(period: Period, chance: random.Random, every: Dict[str, List[Chain]]) -> Plans:

@@ -1,15 +1,13 @@
 //! Facts' files: their values, and their faults.
 use crate::week_files::two_nurses;
 use rota_core::Kind::{Ended, Limit, NoNumber, OtherWord, Trailing, Unknown};
-use rota_core::{
-    ChargeKind, ChargeLimit, Condition, DayChoice, Fact, FileFault, FileName, Kind, NurseLimit,
-};
-use rota_read::{read_facts, read_scenario};
+use rota_core::{ChargeKind, ChargeLimit, DayChoice, Fact, FileFault, FileName, Kind, NurseLimit};
+use rota_read::{GivenFacts, read_facts, read_scenario};
 use std::alloc::Global;
 use std::process::Abort;
 
 // The facts that the text spells about plans of two weeks, for two nurses, three shift types and two skills.
-fn facts_of(alloc: Global, text: &[u8]) -> Result<Vec<Condition>, FileFault> {
+fn facts_of(alloc: Global, text: &[u8]) -> Result<GivenFacts, FileFault> {
     let scenario = read_scenario(alloc, two_nurses().scenario)?;
     read_facts(alloc, &scenario, 2, text)
 }
@@ -24,8 +22,8 @@ NOT CHARGES SHIFT_RUNS ALL 0
 HOLDS CHARGES WORK_DAYS NURSE Bob 1
 HOLDS CHARGES SHIFTS ALL 2
 HOLDS CHARGES WEEKENDS NURSE Ann 3
-NOT EVEN
-NOT EVEN
+NOT
+EVEN NOT EVEN
 ";
 
 fn choice(week: u8, nurse: u16, day: u8, choice: Option<u8>) -> Fact {
@@ -41,8 +39,8 @@ fn charges(kind: ChargeKind, nurse: Option<u16>, most: u16) -> Fact {
     Fact::Charges(ChargeLimit { kind, nurse, most })
 }
 
-// The facts of the file, each with whether it holds.
-fn wanted_facts() -> [(bool, Fact); 9] {
+// The facts of the file, each with whether it holds and the line that it begins on.
+fn wanted_facts() -> [(u32, bool, Fact); 9] {
     let place = NurseLimit {
         week: 0,
         day: 5,
@@ -51,23 +49,29 @@ fn wanted_facts() -> [(bool, Fact); 9] {
         most: 9999,
     };
     [
-        (true, choice(1, 1, 6, Some(1))),
-        (false, choice(0, 0, 0, None)),
-        (true, Fact::Nurses(place)),
-        (false, charges(ChargeKind::ShiftRuns, None, 0)),
-        (true, charges(ChargeKind::WorkDays, Some(1), 1)),
-        (true, charges(ChargeKind::Assignments, None, 2)),
-        (true, charges(ChargeKind::Weekends, Some(0), 3)),
-        (false, Fact::EvenShiftRuns),
-        (false, Fact::EvenShiftRuns),
+        (4, true, choice(1, 1, 6, Some(1))),
+        (5, false, choice(0, 0, 0, None)),
+        (6, true, Fact::Nurses(place)),
+        (7, false, charges(ChargeKind::ShiftRuns, None, 0)),
+        (8, true, charges(ChargeKind::WorkDays, Some(1), 1)),
+        (9, true, charges(ChargeKind::Assignments, None, 2)),
+        (10, true, charges(ChargeKind::Weekends, Some(0), 3)),
+        (11, false, Fact::EvenShiftRuns),
+        (12, false, Fact::EvenShiftRuns),
     ]
 }
 
-fn are_wanted(found: &[Condition]) -> bool {
+fn are_wanted(found: &GivenFacts) -> bool {
     let wanted = wanted_facts();
-    found.len() == wanted.len()
-        && found.iter().zip(wanted).all(|(one, (holds, fact))| one.holds == holds
+    let conditions = &found.conditions;
+    let lines = &found.lines;
+    conditions.len() == wanted.len()
+        && conditions.iter().zip(wanted).all(|(one, (_, holds, fact))| one.holds == holds
             && one.fact == fact)
+        && lines
+            .iter()
+            .zip(wanted_facts())
+            .all(|(line, (wanted, _, _))| *line == wanted)
 }
 
 #[test]
@@ -81,7 +85,7 @@ fn facts_have_their_values(rt: HostRuntime) {
 #[test]
 fn no_facts(rt: HostRuntime) {
     let none = facts_of(rt.alloc(), b"FACTS s1 ROWS = 0");
-    assert!(rt; none.is_ok_and(|found| found.is_empty()));
+    assert!(rt; none.is_ok_and(|found| found.conditions.is_empty() && found.lines.is_empty()));
 }
 
 /// A text, and the kind and line of its fault.

@@ -89,8 +89,8 @@ fn given_facts_are_met(rt: HostRuntime) -> Result<(), Fail> {
         rosters: &[NOBODY, NOBODY],
         ..two_weeks(one_nurse_one_shift())
     };
-    check_fault(&rt, rt.alloc(), &unmet, None, PeriodFault::Unmet(2))?;
-    assert!(rt; period_status(&PeriodFault::Unmet(2)) == 6);
+    check_fault(&rt, rt.alloc(), &unmet, None, PeriodFault::Unmet(4))?;
+    assert!(rt; period_status(&PeriodFault::Unmet(4)) == 6);
     let met = Run {
         rosters: &[ANN_WORKS, NOBODY],
         ..unmet

@@ -8,8 +8,8 @@ use Rattle.rota_core.specs.InstanceTables.{InstanceTables, problem_of}
 use Rattle.rota_core.specs.RosterTables.{RosterTables, set_of}
 use Rattle.rota_core.specs.ScenarioTables.{ScenarioTables}
 use Rattle.rota_core.specs.declared.ports.Source.{Ghosts}
-use Rattle.rota_certificate.specs.Facts.{Case}
 use Rattle.rota_certificate.specs.Plans.{History}
+use Rattle.rota_read.specs.FactsLayout.{GivenTables}
 use Rattle.rota_pb.specs.PeriodFaults.{fault_in_week}
 use Rattle.rota_pb.specs.RunPorts.{Reader, reader_of}
 use Rattle.rota_pb.specs.Steps.{Step}
@@ -67,7 +67,7 @@ module _ {S : Type 0} (port : Ghosts S) where
       (reader_of port file file)).untouched
   judges-no-roster weeks rosters file = some-none weeks rosters (slice_get weeks (length rosters)) file refl
 
-  pub judges-none : (weeks : List InstanceTables) (given : Case) (files : List S) → (judge_plan weeks given
+  pub judges-none : (weeks : List InstanceTables) (given : GivenTables) (files : List S) → (judge_plan weeks given
       (each_of (reader_of port) files files)).untouched
   unfolding each_of
   judges-none weeks given [] = tt
@@ -78,11 +78,11 @@ module _ {S : Type 0} (port : Ghosts S) where
   )
 
 -- the step of given rosters
-abbrev pub judge_some : List InstanceTables → Case → List Reader → PeriodStep (Option Judged)
+abbrev pub judge_some : List InstanceTables → GivenTables → List Reader → PeriodStep (Option Judged)
 judge_some weeks given readers =
     judge_all weeks readers >>= λ rosters. meet_given weeks given rosters >>= λ judged. check (λ found. found ≡ Some judged) (λ fault. ⊥)
 
-module _ {S : Type 0} (port : Ghosts S) (weeks : List InstanceTables) (given : Case) where
+module _ {S : Type 0} (port : Ghosts S) (weeks : List InstanceTables) (given : GivenTables) where
   -- with rosters
   pub judges-some : (olds news : List S) → 0 < length olds → length news ≡ length olds → (result : Result (Option Judged) PeriodFault) →
       (judge_some weeks given (each_of (reader_of port) olds news)).ends result →
@@ -168,7 +168,7 @@ module _ {S : Type 0} (port : Ghosts S) where
       (subst (λ (was : List (WeekFiles S)). (read_weeks early ward (each_of (week_readers port) was new)).ends result) same ends)
 
   -- the rosters were judged from the files of a slice
-  pub rosters-back : (weeks : List InstanceTables) (given : Case) (olds slice new : List S) (len : ℕ) → slice ≡ olds → length slice ≡ len
+  pub rosters-back : (weeks : List InstanceTables) (given : GivenTables) (olds slice new : List S) (len : ℕ) → slice ≡ olds → length slice ≡ len
       →
       length new ≡ length slice → (result : Result (Option Judged) PeriodFault) →
       (judge_plan weeks given (each_of (reader_of port) slice new)).ends result →

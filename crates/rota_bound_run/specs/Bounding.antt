@@ -20,5 +20,5 @@ bound_run question files out = do
   given ← for_all (read_given ward.scenario (length weeks) files.given)
   certificate ← for_all (read_proof ward.scenario (length weeks) files.proof)
   judged ← judge_plan weeks given files.rosters
-  answer ← make (IsAnswer question.minimums weeks given certificate judged)
+  answer ← make (IsAnswer question.minimums weeks given.conditions certificate judged)
   for_all (send out (bound_text answer))

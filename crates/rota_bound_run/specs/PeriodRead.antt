@@ -5,10 +5,9 @@ use Rattle.rota_core.specs.InstanceTables.{InstanceTables}
 use Rattle.rota_core.specs.PriceTables.{PriceTables, prices_of}
 use Rattle.rota_core.specs.ScenarioTables.{ScenarioTables}
 use Rattle.rota_core.specs.declared.certificate.Certificate.{Certificate}
-use Rattle.rota_core.specs.declared.certificate.Condition.{Condition}
 use Rattle.rota_core.specs.declared.fault.FileName.TheVariants as names
 use Rattle.rota_read.specs.CertificateLayout.{IsCertificateOf, SpellsCertificate, certificate, leaf_with, node_of}
-use Rattle.rota_read.specs.FactsLayout.{facts}
+use Rattle.rota_read.specs.FactsLayout.{GivenTables, facts, no_facts}
 use Rattle.rota_pb.specs.RunPorts.{IsRead}
 use Rattle.rota_pb.specs.Steps.{Step, call, check, find}
 use Rattle.rota_pb.specs.WeekFiles.{FailsCheck, read_file}
@@ -29,8 +28,8 @@ abbrev pub read_weeks : Bool → Ward → List FilesOfWeek → PeriodStep (List 
 read_weeks early ward files = in_turn (read_next early ward (length files)) [] files
 
 -- the given facts are read; without a file there are none
-abbrev pub read_given : ScenarioTables → (weeks : ℕ) → OptionalReader → Step (List Condition)
-read_given s weeks absent = find (λ given. given ≡ [])
+abbrev pub read_given : ScenarioTables → (weeks : ℕ) → OptionalReader → Step GivenTables
+read_given s weeks absent = find (λ given. given ≡ no_facts)
 read_given s weeks (named reader) = read_file names.Facts (facts s weeks) reader
 
 -- a table of the scenario, in which each price is 0

@@ -1,12 +1,12 @@
 -- The rosters of all weeks of a period, and the facts that they must meet.
-use Rattle.std.specs.Prelude.{◌≡◌, ℕ, ◌+◌, ⊤, List, [], ◌∷◌, ◌++◌, length, map, Option, None, Some, slice_get}
+use Rattle.std.specs.Prelude.{◌≡◌, ℕ, ⊤, List, [], ◌∷◌, ◌++◌, length, map, Option, None, Some, slice_get}
 use Rattle.rota_core.specs.InstanceTables.{InstanceTables, problem_of}
 use Rattle.rota_core.specs.RosterTables.{RosterTables, set_of}
 use Rattle.rota_certificate.specs.CountedCharges.{IsFirstUnmetCondition, plan_from}
 use Rattle.rota_certificate.specs.Facts.{Case, IsIn}
 use Rattle.rota_certificate.specs.Plans.{KeepRules, plan_cost}
+use Rattle.rota_read.specs.FactsLayout.{GivenTables}
 use Rattle.rota_pb.specs.RunPorts.{Reader}
-use Rattle.rota_pb.specs.declared.period_fault.PeriodFault.{PeriodFault}
 use Rattle.rota_pb.specs.declared.period_fault.PeriodFault.TheVariants.{Unmet}
 use Rattle.rota_bound_run.specs.Judging.{history_before, judge_week}
 use Rattle.rota_bound_run.specs.PeriodSteps.{PeriodStep, ◌>>=◌, check, for_week, in_turn, make}
@@ -29,15 +29,17 @@ pub record IsJudged (weeks : List InstanceTables) (given : Case) (judged : Judge
   pub meet : IsIn (plan_from weeks judged.rosters.items) given
   pub penalty_is : judged.penalty ≡ plan_cost (plan_from weeks judged.rosters.items)
 
--- the rosters do not meet a given fact: the first that they do not meet
-abbrev pub UnmetFact : List InstanceTables → Case → List RosterTables → PeriodFault → Type 0
-UnmetFact weeks given rosters fault = (index : ℕ) × (fault ≡ Unmet (index + 1)) × IsFirstUnmetCondition (plan_from weeks rosters) given
-    index
+-- the rosters do not meet a given fact: the first that they do not meet begins on this line
+pub record IsUnmet (weeks : List InstanceTables) (given : GivenTables) (rosters : List RosterTables) (line : ℕ) : Type 0 where
+  pub index : ℕ
+  pub first : IsFirstUnmetCondition (plan_from weeks rosters) given.conditions index
+  pub begins : slice_get given.lines index ≡ Some line
 
 -- the rosters must meet the given facts
-abbrev pub meet_given : List InstanceTables → Case → List RosterTables → PeriodStep Judged
+abbrev pub meet_given : List InstanceTables → GivenTables → List RosterTables → PeriodStep Judged
 meet_given weeks given rosters =
-    check (λ judged. (judged.rosters.items ≡ rosters) × IsJudged weeks given judged) (UnmetFact weeks given rosters)
+    check (λ judged. (judged.rosters.items ≡ rosters) × IsJudged weeks given.conditions judged)
+    (λ fault. (line : ℕ) × (fault ≡ Unmet line) × IsUnmet weeks given rosters line)
 
 -- the rosters are read and judged in the order of the weeks, if there is memory for the pasts
 abbrev pub judge_all : List InstanceTables → List Reader → PeriodStep (List RosterTables)
@@ -46,7 +48,7 @@ judge_all weeks readers = do
   in_turn (judge_next weeks) [] readers
 
 -- the rosters are read and judged, and must meet the given facts; there may be none
-abbrev pub judge_plan : List InstanceTables → Case → List Reader → PeriodStep (Option Judged)
+abbrev pub judge_plan : List InstanceTables → GivenTables → List Reader → PeriodStep (Option Judged)
 judge_plan weeks given [] = check (λ judged. judged ≡ None) (λ fault. ⊥)
 judge_plan weeks given (reader ∷ readers) = do
   rosters ← judge_all weeks (reader ∷ readers)

@@ -4,16 +4,16 @@ ghost use Rattle.rota_core.specs.Certificates.{AreConditionsFor};
 ghost use Rattle.rota_core.specs.Limits.{max_number};
 ghost use Rattle.rota_core.specs.ScenarioTables.{numbers_of};
 ghost use Rattle.rota_core.specs.declared.fault.FileName.TheVariants as names;
-ghost use Rattle.rota_read.specs.FactsLayout.{facts};
+ghost use Rattle.rota_read.specs.FactsLayout.{facts, given_of};
 ghost use Rattle.rota_pb.specs.RunPorts.{reader_of};
 ghost use Rattle.rota_pb.specs.WeekFiles.{read_file as file_reading};
 ghost use Rattle.rota_bound_run.specs.PeriodFiles.{reader_if};
 ghost use Rattle.rota_bound_run.specs.PeriodRead.{read_given};
 ghost use Rattle.rota_bound_run.specs.PeriodSteps.{EndsAs};
 
-use rota_core::{Condition, Scenario, Source};
+use rota_core::{Scenario, Source};
 use rota_pb::{Fault, read_file};
-use rota_read::read_facts;
+use rota_read::{GivenFacts, read_facts};
 use std::alloc::Global;
 
 // The facts of the file, for plans of this number of weeks.
@@ -22,11 +22,12 @@ fn read_facts_from<S: Source>(
     scenario: &Scenario,
     weeks: u8,
     source: &mut S,
-) -> Result<Vec<Condition>, Fault>
-    ensures reads { EndsAs (λ given. given.items)
+) -> Result<GivenFacts, Fault>
+    ensures reads { EndsAs given_of
         (file_reading names.Facts (facts scenario.now weeks) (reader_of S.Source source.old source.new)).ends result }
-    ensures few { IfOk result (λ given. length given.items ≤ max_number) }
-    ensures shape { IfOk result (λ given. AreConditionsFor (numbers_of scenario.now) weeks given.items) }
+    ensures few { IfOk result (λ given. length given.conditions.items ≤ max_number) }
+    ensures shape { IfOk result (λ given. AreConditionsFor (numbers_of scenario.now) weeks given.conditions.items) }
+    ensures lines { IfOk result (λ given. length given.lines.items ≡ length given.conditions.items) }
 {
     let text = read_file(alloc, source)?;
     Ok(read_facts(alloc, scenario, weeks, &text)?)
@@ -38,14 +39,18 @@ pub(crate) fn read_given<S: Source>(
     scenario: &Scenario,
     weeks: u8,
     file: &mut Option<S>,
-) -> Result<Vec<Condition>, Fault>
-    ensures reads { EndsAs (λ given. given.items) (read_given scenario.now weeks (reader_if S.Source file.old file.new)).ends result }
-    ensures few { IfOk result (λ given. length given.items ≤ max_number) }
-    ensures shape { IfOk result (λ given. AreConditionsFor (numbers_of scenario.now) weeks given.items) }
+) -> Result<GivenFacts, Fault>
+    ensures reads { EndsAs given_of (read_given scenario.now weeks (reader_if S.Source file.old file.new)).ends result }
+    ensures few { IfOk result (λ given. length given.conditions.items ≤ max_number) }
+    ensures shape { IfOk result (λ given. AreConditionsFor (numbers_of scenario.now) weeks given.conditions.items) }
+    ensures lines { IfOk result (λ given. length given.lines.items ≡ length given.conditions.items) }
     ensures same { is_some file.new ≡ is_some file.old }
 {
     match file {
         Some(source) => read_facts_from(alloc, scenario, weeks, source),
-        None => Ok(Vec::new(alloc)),
+        None => Ok(GivenFacts {
+            conditions: Vec::new(alloc),
+            lines: Vec::new(alloc),
+        }),
     }
 }

@@ -3,6 +3,7 @@ ghost use Rattle.std.specs.Prelude.{◌≡◌, ◌<◌, [], IfOk, IfSome, length
 ghost use Rattle.rota_core.specs.Certificates.{AreConditionsFor};
 ghost use Rattle.rota_core.specs.InstanceTables.{problem_of};
 ghost use Rattle.rota_core.specs.RosterTables.{set_of};
+ghost use Rattle.rota_read.specs.FactsLayout.{given_of};
 ghost use Rattle.rota_pb.specs.RunPorts.{reader_of};
 ghost use Rattle.rota_certificate.specs.CountedCharges.{IsPlanned, numbers_in, plan_from};
 ghost use Rattle.rota_certificate.specs.PeriodBounds.{AreGivenFor, IsPeriod};
@@ -14,8 +15,9 @@ ghost use Rattle.rota_bound_run.specs.PlanJudged.{IsJudged, judge_all, judge_pla
 use crate::judged_week::judge_week;
 use crate::pasts::pasts_before;
 use rota_certificate::first_unmet;
-use rota_core::{Condition, Instance, Roster, Source};
+use rota_core::{Instance, Roster, Source};
 use rota_pb::PeriodFault;
+use rota_read::GivenFacts;
 use std::alloc::Global;
 
 /// Rosters of the weeks that keep the hard rules, and the sum of their penalties.
@@ -59,19 +61,16 @@ fn judge_all<S: Source>(
     Ok(judged)
 }
 
-// The rosters, if they meet the given facts. `Unmet` with the first fact that they do not meet.
-fn meet_given(
-    weeks: &[Instance],
-    given: &[Condition],
-    judged: Judged,
-) -> Result<Judged, PeriodFault>
+// The rosters, if they meet the given facts. `Unmet` with the line of the first fact that they do not meet.
+fn meet_given(weeks: &[Instance], given: &GivenFacts, judged: Judged) -> Result<Judged, PeriodFault>
     requires planned { IsPlanned weeks.now judged.rosters.items }
-    requires given { AreGivenFor weeks.now given.now }
+    requires given { AreGivenFor weeks.now given.now.conditions.items }
+    requires lines { length given.now.lines.items ≡ length given.now.conditions.items }
     requires penalty { judged.penalty ≡ plan_cost (plan_from weeks.now judged.rosters.items) }
-    ensures { (meet_given weeks.now given.now judged.rosters.items).ends result }
+    ensures { (meet_given weeks.now (given_of given.now) judged.rosters.items).ends result }
 {
-    match first_unmet(weeks, &judged.rosters, given) {
-        Some(index) => Err(PeriodFault::Unmet(index + 1)),
+    match first_unmet(weeks, &judged.rosters, &given.conditions) {
+        Some(index) => Err(PeriodFault::Unmet(given.lines[index])),
         None => Ok(judged),
     }
 }
@@ -81,15 +80,16 @@ fn meet_given(
 pub(crate) fn judge_plan<S: Source>(
     alloc: Global,
     weeks: &mut [Instance],
-    given: &[Condition],
+    given: &GivenFacts,
     files: &mut [S],
 ) -> Result<Option<Judged>, PeriodFault>
     requires period { IsPeriod weeks.old }
-    requires given { AreGivenFor weeks.old given.now }
+    requires given { AreGivenFor weeks.old given.now.conditions.items }
+    requires lines { length given.now.lines.items ≡ length given.now.conditions.items }
     requires rosters { AreRosters (length weeks.old) files.old }
     requires some { 0 < length weeks.old }
-    ensures reads { (judge_plan weeks.old given.now (each_of (reader_of S.Source) files.old files.new)).ends result }
-    ensures judged { IfOk result (λ found. IfSome found (IsJudged weeks.old given.now)) }
+    ensures reads { (judge_plan weeks.old (given_of given.now) (each_of (reader_of S.Source) files.old files.new)).ends result }
+    ensures judged { IfOk result (λ found. IfSome found (IsJudged weeks.old given.now.conditions.items)) }
     ensures same { weeks.new ≡ weeks.old }
     ensures count { length files.new ≡ length files.old }
 {

@@ -25,8 +25,8 @@ use std::alloc::Global;
 ///
 /// Errors: `File` with the first fault of the first file that has one; `LateWeek` after the data of a week before
 /// which the scenario ends; `Limit` at line 0 of the history if a roster leaves a number beyond the limits of a
-/// history's file; `Breaks` with the first hard rule that a roster breaks; `Unmet` with the first given fact that the
-/// rosters do not meet; `Read` if a reader failed before it reported its end; `Memory`. Later readers are then not
+/// history's file; `Breaks` with the first hard rule that a roster breaks; `Unmet` with the line of the first given fact that
+/// the rosters do not meet; `Read` if a reader failed before it reported its end; `Memory`. Later readers are then not
 /// touched, and the writer is not called. `Write` if the writer failed: it got a prefix of the text.
 pub fn run_bound<S: Source, W: Target>(
     alloc: Global,
@@ -47,7 +47,7 @@ pub fn run_bound<S: Source, W: Target>(
     let answer = answer_for(
         alloc,
         &weeks,
-        &given,
+        &given.conditions,
         &certificate,
         question.minimums,
         &judged,

@@ -13,4 +13,4 @@ fault_in_week weeks index fault = (if weeks == 1 then Run fault else InWeek (ind
 abbrev pub period_status : PeriodFault → ℕ
 period_status (Run fault) = exit_status fault
 period_status (InWeek week fault) = exit_status fault
-period_status (Unmet number) = 6
+period_status (Unmet line) = 6

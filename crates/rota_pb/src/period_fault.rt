@@ -17,8 +17,8 @@ pub enum PeriodFault {
     Run(Fault),
     /// A fault of the files or the roster of one of several weeks. The first week has the number 1.
     InWeek { week: usize, fault: Fault },
-    /// The rosters do not meet a given fact. The first fact of the file has the number 1.
-    Unmet(usize),
+    /// The rosters do not meet a given fact: the first that they do not meet begins on this line of its file.
+    Unmet(u32),
 }
 
 impl From<Fault> for PeriodFault {
@@ -52,7 +52,7 @@ impl fmt::Display for PeriodFault {
         match self {
             PeriodFault::Run(fault) => write!(f, "{fault}"),
             PeriodFault::InWeek { week, fault } => write!(f, "week {week}: {fault}"),
-            PeriodFault::Unmet(number) => write!(f, "given fact {number} is not met"),
+            PeriodFault::Unmet(line) => write!(f, "facts line {line}: not met"),
         }
     }
 }

@@ -1,5 +1,5 @@
 -- The facts that a text spells name what exists.
-use Rattle.std.proofs.Common.{◌≡◌, ℕ, zero, suc, ◌+◌, ◌-◌, ◌<◌, ◌≤◌, Bool, true, false, List, [], ◌∷◌, ◌++◌, length, Option, Ok, refl, subst, arith}
+use Rattle.std.proofs.Common.{◌≡◌, ℕ, zero, suc, ◌+◌, ◌-◌, ◌<◌, ◌≤◌, Bool, true, false, List, [], ◌∷◌, ◌++◌, length, Option, Ok, refl, sym, ◌∙◌, subst, arith}
 use Rattle.std.specs.Option.{ForSome}
 use Rattle.rota_core.specs.Certificates.{AreConditionsFor, IsChargeLimitFor, IsChoiceFor, IsFactFor, IsNurseLimitFor}
 use Rattle.rota_core.specs.Limits.{max_number}
@@ -9,9 +9,10 @@ use Rattle.rota_core.specs.declared.certificate.Condition.{Condition}
 use Rattle.rota_core.specs.declared.certificate.DayChoice.{DayChoice}
 use Rattle.rota_core.specs.declared.certificate.Fact.{Fact}
 use Rattle.rota_core.specs.declared.certificate.NurseLimit.{NurseLimit}
-use Rattle.rota_read.specs.FactsLayout.{charge_limit, condition_row, day_choice, fact, fact_after, facts, nurse_limit, nurse_unless, week_number}
+use Rattle.rota_read.specs.FactsLayout.{GivenTables, charge_limit, condition_row, day_choice, fact, fact_after, facts, given_of, no_facts, nurse_limit, nurse_unless, week_number}
 use Rattle.rota_read.specs.declared.facts.FactWord.{FactWord}
 use Rattle.rota_read.specs.declared.facts.FactWord.TheVariants as words
+use Rattle.rota_read.specs.declared.facts.GivenFacts.{GivenFacts}
 use Rattle.rota_read.specs.Files.{Fills, Spells}
 use Rattle.rota_read.specs.Layout.{codes, day_names, none_taken, repeat}
 use Rattle.rota_read.specs.Reading.{read_text}
@@ -92,40 +93,58 @@ module _ (t : ScenarioTables) (weeks : ℕ) where
   unfolding Fills fact
   fact-exists front one h = after-exists h.0 h.2 one h.5
 
-  condition_rows-keep : (n i : ℕ) (conditions : List Condition) (front : List Token) (last : List Condition) →
-      Fills (repeat n (condition_row t weeks) conditions) front last → length conditions ≡ i → AreConditionsFor (numbers_of t) weeks conditions →
-      (length last ≡ n + i) × AreConditionsFor (numbers_of t) weeks last
+  -- this number of facts, which name only nurses, weeks, shift types and skills that exist, and a line for each
+  record AreRows (n : ℕ) (given : GivenTables) : Type 0 where
+    pub count : length given.conditions ≡ n
+    pub lines : length given.lines ≡ n
+    pub exist : AreConditionsFor (numbers_of t) weeks given.conditions
+
+  condition_rows-keep : (n i : ℕ) (given : GivenTables) (front : List Token) (last : GivenTables) →
+      Fills (repeat n (condition_row t weeks) given) front last → AreRows i given → AreRows (n + i) last
   unfolding Fills repeat condition_row
-  condition_rows-keep zero i conditions front last h size k = rw h.1 (omega (arith, size), k)
-  condition_rows-keep (suc n) i conditions front last h size k =
+  condition_rows-keep zero i given front last h are =
+      rw h.1 (record { count = omega (arith, are.count); lines = omega (arith, are.lines); exist = are.exist })
+  condition_rows-keep (suc n) i given front last h are =
       let row = h.4 in
       let one = row.5 in
-      let condition : Condition = record { fact = one.0; holds = row.0 } in
-      let kept = all_push (λ (c : Condition). IsFactFor (numbers_of t) weeks c.fact) conditions condition k (fact-exists one.1 one.0 one.4) in
-      let longer = length_push conditions condition i size in
-      let rest = subst (λ (next : List Condition). Fills (repeat n (condition_row t weeks) next) h.2 last) one.5.1 h.5 in
-      let all = condition_rows-keep n (suc i) (conditions ++ condition ∷ []) h.2 last rest longer kept in
-      (omega (arith, all.0), all.1)
+      let condition : Condition = record { fact = one.0; holds = row.0.0 } in
+      let next : GivenTables = record { conditions = given.conditions ++ condition ∷ []; lines = given.lines ++ row.0.1 ∷ [] } in
+      let more : AreRows (suc i) next = record {
+        count = length_push given.conditions condition i are.count;
+        lines = length_push given.lines row.0.1 i are.lines;
+        exist = all_push (λ (c : Condition). IsFactFor (numbers_of t) weeks c.fact) given.conditions condition are.exist
+            (fact-exists one.1 one.0 one.4);
+      } in
+      let rest = subst (λ (state : GivenTables). Fills (repeat n (condition_row t weeks) state) h.2 last) one.5.1 h.5 in
+      let all = condition_rows-keep n (suc i) next h.2 last rest more in
+      record { count = omega (arith, all.count); lines = omega (arith, all.lines); exist = all.exist }
 
-  -- conditions that are spelled: at most `max_number`, of facts that name only nurses, weeks, shift types and skills that exist
-  spelled-are : (text : List ℕ) (found : List Condition) → Spells (facts t weeks) text found →
-      (length found ≤ max_number) × AreConditionsFor (numbers_of t) weeks found
+  -- facts that are spelled: at most `max_number`
+  spelled-are : (text : List ℕ) (found : GivenTables) → Spells (facts t weeks) text found →
+      (n : ℕ) × (n ≤ max_number) × AreRows n found
   unfolding Fills facts
   spelled-are text found h =
       -- the word, any word, the number of rows, the rows
       let count = h.filled.5.5 in
       let within = setting-within (codes "ROWS") 0 max_number count.1 count.0 count.4 in
-      let rows = condition_rows-keep count.0 0 [] _ found count.5 refl tt in
-      (omega (arith, rows.0, within.1), rows.1)
+      let none : AreRows 0 no_facts = record { count = refl; lines = refl; exist = tt } in
+      (count.0 + 0, omega (arith, within.1), condition_rows-keep count.0 0 no_facts _ found count.5 none)
 
-  -- conditions that are read are of such facts
-  pub facts-read : (text : List ℕ) (found : List Condition) → read_text (facts t weeks) text ≡ Ok found →
-      AreConditionsFor (numbers_of t) weeks found
-  facts-read text found h = (spelled-are text found (spells-read (facts t weeks) text found h)).1
+  module _ (text : List ℕ) (found : GivenFacts) (read : read_text (facts t weeks) text ≡ Ok (given_of found)) where
+    are-read : (n : ℕ) × (n ≤ max_number) × AreRows n (given_of found)
+    are-read = spelled-are text (given_of found) (spells-read (facts t weeks) text (given_of found) read)
 
-  -- there are not more of them than a number of a file says
-  pub facts-few : (text : List ℕ) (found : List Condition) → read_text (facts t weeks) text ≡ Ok found → length found ≤ max_number
-  facts-few text found h = (spelled-are text found (spells-read (facts t weeks) text found h)).0
+    -- facts that are read name what exists
+    pub facts-read : AreConditionsFor (numbers_of t) weeks found.conditions.items
+    facts-read = are-read.2.exist
+
+    -- there are not more of them than a number of a file says
+    pub facts-few : length found.conditions.items ≤ max_number
+    facts-few = let are = are-read in omega (arith, are.1, are.2.count)
+
+    -- each begins on a line
+    pub facts-lines : length found.lines.items ≡ length found.conditions.items
+    facts-lines = let are = are-read in are.2.lines ∙ sym are.2.count
 
 -- the results of the reader of facts, by the results of reading
-pub ruleset facts_steps = (spells-read, fault_in-read, facts-read, facts-few)
+pub ruleset facts_steps = (spells-read, fault_in-read, facts-read, facts-few, facts-lines)

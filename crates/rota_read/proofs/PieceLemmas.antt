@@ -70,13 +70,13 @@ tokens_from-word_and_blank (x ∷ xs) b line rest is_word blank =
     ∙ ap (λ tokens. record { word = x ∷ xs; line = line } ∷ tokens) (one_blank b line rest blank)
 
 -- a word and a blank
-pub piece-word : {V : Type 0} (read : List ℕ → Result V Kind) (value : V) (word : List ℕ) (b : ℕ) → IsWord word → is_whitespace b ≡ true →
-    read word ≡ Ok value → FillsAsPiece (slot read) (word ++ b ∷ []) value
+pub piece-word : {V : Type 0} (read : Token → Result V Kind) (value : V) (word : List ℕ) (b : ℕ) → IsWord word → is_whitespace b ≡ true →
+    ((line : ℕ) → read (record { word = word; line = line }) ≡ Ok value) → FillsAsPiece (slot read) (word ++ b ∷ []) value
 unfolding Fills
 piece-word read value word b is_word blank fits = λ line. (
   record { word = word; line = line } ∷ [],
   next_line b line,
-  (record { word = word; line = line }, refl, fits),
+  (record { word = word; line = line }, refl, fits line),
   λ rest. ap (tokens_from line) (append_assoc word (b ∷ []) rest) ∙ tokens_from-word_and_blank word b line rest is_word blank,
 )
 
@@ -102,11 +102,11 @@ no_sign (x ∷ xs) is_word =
 pub piece-exactly : (word : List ℕ) (b : ℕ) → IsWord word → is_whitespace b ≡ true → bytes_eq word word ≡ true →
     FillsAsPiece (exactly word) (word ++ b ∷ []) word
 unfolding exactly
-piece-exactly word b is_word blank fits = piece-word _ word word b is_word blank (rw fits refl)
+piece-exactly word b is_word blank fits = piece-word _ word word b is_word blank (λ line. rw fits refl)
 
 pub piece-any_word : (word : List ℕ) (b : ℕ) → IsWord word → is_whitespace b ≡ true → FillsAsPiece any_word (word ++ b ∷ []) word
 unfolding any_word
-piece-any_word word b is_word blank = piece-word _ word word b is_word blank (rw (no_sign word is_word) refl)
+piece-any_word word b is_word blank = piece-word _ word word b is_word blank (λ line. rw (no_sign word is_word) refl)
 
 -- a numeral whose value is its number
 module _ (reads_back : (n : ℕ) → ReadsBack n) where
@@ -118,11 +118,11 @@ module _ (reads_back : (n : ℕ) → ReadsBack n) where
   unfolding number
   piece-number low high n b from up_to blank =
       piece-word _ n (numeral n) b (reads_back n).word blank
-      (rw ((reads_back n).decimal_only, (reads_back n).number, below low n from, below n high up_to) refl)
+      (λ line. rw ((reads_back n).decimal_only, (reads_back n).number, below low n from, below n high up_to) refl)
 
 pub piece-known_name : (names : List (List ℕ)) (is_taken : ℕ → Bool) (name : List ℕ) (index b : ℕ) → IsWord name →
     is_whitespace b ≡ true → index_of names name ≡ Some index → is_taken index ≡ false →
     FillsAsPiece (known_name names is_taken) (name ++ b ∷ []) index
 unfolding known_name
 piece-known_name names is_taken name index b is_word blank found free =
-    piece-word _ index name b is_word blank (rw (no_sign name is_word, found, free) refl)
+    piece-word _ index name b is_word blank (λ line. rw (no_sign name is_word, found, free) refl)

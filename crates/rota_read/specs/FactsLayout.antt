@@ -11,12 +11,17 @@ use Rattle.rota_core.specs.declared.certificate.NurseLimit.{NurseLimit}
 use Rattle.rota_core.specs.declared.fault.Kind.TheVariants as kinds
 use Rattle.rota_read.specs.declared.facts.FactWord.{FactWord}
 use Rattle.rota_read.specs.declared.facts.FactWord.TheVariants as words
+use Rattle.rota_read.specs.declared.facts.GivenFacts.{GivenFacts}
 use Rattle.rota_read.specs.Layout.{ℕ, Bool, true, false, Option, Some, None, List, codes, option_map_or, max_number, ScenarioTables}
 use Rattle.rota_read.specs.Layout.{Layout, end, slot, ◌>>=◌, exactly, number, any_word, known_name, none_taken, day_names, shift_or, repeat, setting}
 
 -- a token that has a meaning here; the value is this meaning
 unfoldable pub keyword : {V : Type 0} → (List ℕ → Option V) → Layout V
-keyword meaning = slot (λ word. option_map_or (λ value. Ok value) (meaning word) (Err kinds.OtherWord))
+keyword meaning = slot (λ token. option_map_or (λ value. Ok value) (meaning token.word) (Err kinds.OtherWord))
+
+-- such a token; the value is its meaning, and its line
+unfoldable pub keyword_on_line : {V : Type 0} → (List ℕ → Option V) → Layout (V × ℕ)
+keyword_on_line meaning = slot (λ token. option_map_or (λ value. Ok (value, token.line)) (meaning token.word) (Err kinds.OtherWord))
 
 -- whether a token is the first of two words, if it is one of them
 abbrev pub is_first : (first second word : List ℕ) → Option Bool
@@ -102,17 +107,30 @@ fact t weeks = do
   word ← keyword fact_word
   fact_after t weeks word
 
--- one more condition: whether a fact holds, and the fact
-unfoldable pub condition_row : ScenarioTables → ℕ → List Condition → Layout (List Condition)
-condition_row t weeks conditions = do
-  holds ← one_of_two (codes "HOLDS") (codes "NOT")
+-- facts, each with whether it holds, and the line that each begins on
+pub record GivenTables : Type 0 where
+  pub conditions : List Condition
+  pub lines : List ℕ
+
+-- no fact
+abbrev pub no_facts : GivenTables
+no_facts = record { conditions = []; lines = [] }
+
+-- one more fact: whether it holds, with the line of this word, and the fact
+unfoldable pub condition_row : ScenarioTables → ℕ → GivenTables → Layout GivenTables
+condition_row t weeks given = do
+  first ← keyword_on_line (is_first (codes "HOLDS") (codes "NOT"))
   one ← fact t weeks
-  end (conditions ++ record { fact = one; holds = holds } ∷ [])
+  end (record { conditions = given.conditions ++ record { fact = one; holds = first.0 } ∷ []; lines = given.lines ++ first.1 ∷ [] })
 
 -- the slots of the whole file; any word may be the scenario's name
-unfoldable pub facts : ScenarioTables → (weeks : ℕ) → Layout (List Condition)
+unfoldable pub facts : ScenarioTables → (weeks : ℕ) → Layout GivenTables
 facts t weeks = do
   _ ← exactly (codes "FACTS")
   _ ← any_word
   count ← setting (codes "ROWS") 0 max_number
-  repeat count (condition_row t weeks) []
+  repeat count (condition_row t weeks) no_facts
+
+-- the contents of the facts of a file
+abbrev pub given_of : GivenFacts → GivenTables
+given_of found = record { conditions = found.conditions.items; lines = found.lines.items }

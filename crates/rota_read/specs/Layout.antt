@@ -12,6 +12,7 @@ use Rattle.rota_core.specs.Decimal.{is_decimal, decimal}
 use Rattle.rota_core.specs.declared.fault.Kind.{Kind}
 use Rattle.rota_core.specs.declared.fault.Kind.TheVariants as kinds
 use Rattle.rota_core.specs.declared.values.Span.{Span}
+use Rattle.rota_read.specs.Tokens.{Token}
 
 -- whether a token is a sign
 abbrev pub is_sign_token : List ℕ → Bool
@@ -25,22 +26,23 @@ infixl 10 ◌>>=◌
 -- part that follows for its value.
 pub data Layout : Type 0 → Type 1 where
   end : {V : Type 0} → V → Layout V
-  slot : {V : Type 0} → (List ℕ → Result V Kind) → Layout V
+  slot : {V : Type 0} → (Token → Result V Kind) → Layout V
   ◌>>=◌ : {A B : Type 0} → Layout A → (A → Layout B) → Layout B
 
 -- this word or sign
 unfoldable pub exactly : List ℕ → Layout (List ℕ)
-exactly wanted = slot (λ word. if bytes_eq wanted word then Ok word else Err kinds.OtherWord)
+exactly wanted = slot (λ token. if bytes_eq wanted token.word then Ok token.word else Err kinds.OtherWord)
 
 -- a number from low to high
 unfoldable pub number : ℕ → ℕ → Layout ℕ
-number low high = slot (λ word.
-    if is_decimal word then (if nat_le low (decimal word) && nat_le (decimal word) high then Ok (decimal word) else Err kinds.Limit)
+number low high = slot (λ token.
+    if is_decimal token.word then
+    (if nat_le low (decimal token.word) && nat_le (decimal token.word) high then Ok (decimal token.word) else Err kinds.Limit)
     else Err kinds.NoNumber)
 
 -- a word, which is a token that is no sign, with this value or fault
 abbrev pub word_slot : {V : Type 0} → (List ℕ → Result V Kind) → Layout V
-word_slot read = slot (λ word. if is_sign_token word then Err kinds.OtherWord else read word)
+word_slot read = slot (λ token. if is_sign_token token.word then Err kinds.OtherWord else read token.word)
 
 -- any word
 unfoldable pub any_word : Layout (List ℕ)

@@ -24,9 +24,9 @@ filled_by (Ok value) t rest = Ok (value, record { last = t.line; rest = rest })
 filled_by (Err kind) t rest = Err (record { kind = kind; line = t.line })
 
 -- the value of the next token, and the rest after it, or a fault
-abbrev pub fill : {V : Type 0} → (List ℕ → Result V Kind) → ℕ → List Token → Result (V × Reading) Fault
+abbrev pub fill : {V : Type 0} → (Token → Result V Kind) → ℕ → List Token → Result (V × Reading) Fault
 fill read last [] = Err (record { kind = kinds.Ended; line = last })
-fill read last (t ∷ tokens) = filled_by (read t.word) t tokens
+fill read last (t ∷ tokens) = filled_by (read t) t tokens
 
 unfoldable pub read_layout : {V : Type 0} → Layout V → Reading → Result (V × Reading) Fault
 read_layout (end v) left = Ok (v, left)

@@ -1,6 +1,6 @@
 //! Reads facts about a plan, and a facts' file.
 
-ghost use Rattle.std.specs.Prelude.{◌≡◌, ◌≤◌, [], length, IfOk, IfErr};
+ghost use Rattle.std.specs.Prelude.{◌≡◌, ◌≤◌, codes, length, IfOk, IfErr};
 ghost use Rattle.rota_core.specs.Certificates.{AreConditionsFor};
 ghost use Rattle.rota_core.specs.Limits.{max_number};
 ghost use Rattle.rota_core.specs.ScenarioTables.{numbers_of};
@@ -8,7 +8,7 @@ ghost use Rattle.rota_core.specs.declared.fault.FileName.TheVariants as files;
 ghost use Rattle.rota_read.specs.FileAnswers.{IsFaultOf};
 ghost use Rattle.rota_read.specs.Files.{Spells};
 ghost use Rattle.rota_read.specs.Layout.{repeat};
-ghost use Rattle.rota_read.specs.FactsLayout.{charge_kind, charge_limit, condition_row, day_choice, fact, fact_word, facts, keyword, nurse_limit, nurse_unless, one_of_two, week_number};
+ghost use Rattle.rota_read.specs.FactsLayout.{charge_kind, charge_limit, condition_row, day_choice, fact, fact_word, facts, given_of, is_first, keyword, keyword_on_line, no_facts, nurse_limit, nurse_unless, one_of_two, week_number};
 ghost use Rattle.rota_read.specs.Reading.{read_layout, read_text, Reads, ReadsFile};
 
 use crate::cursor::Cursor;
@@ -18,6 +18,15 @@ use rota_core::{
     NurseLimit, Scenario,
 };
 use std::alloc::Global;
+
+/// Facts about all plans.
+#[derive(Drop)]
+pub struct GivenFacts {
+    /// Each fact, with whether it holds.
+    pub conditions: Vec<Condition>,
+    /// The line of the file that each fact begins on.
+    pub lines: Vec<u32>,
+}
 
 /// The word that a fact begins with.
 #[derive(Clone, Copy)]
@@ -64,6 +73,19 @@ fn charge_kind(word: &[u8]) -> Option<ChargeKind>
     None
 }
 
+// Whether the word is the first of these two, if it is one of them.
+fn is_first(first: &[u8], second: &[u8], word: &[u8]) -> Option<bool>
+    ensures { result ≡ is_first first.now second.now word.now }
+{
+    if word == first {
+        return Some(true);
+    }
+    if word == second {
+        return Some(false);
+    }
+    None
+}
+
 impl<'a> Cursor<'a> {
     #[tactic(auto, unfolding(crate::specs::FactsLayout::keyword, crate::specs::Reading::read_layout))]
     fn fact_word(&mut self) -> Result<FactWord, Stop>
@@ -87,13 +109,19 @@ impl<'a> Cursor<'a> {
         ensures { Reads (λ is. is) result self.new (read_layout (one_of_two first.now second.now) self.old) }
     {
         let token = self.token()?;
-        if token.word == first {
-            return Ok(true);
-        }
-        if token.word != second {
+        is_first(first, second, token.word).ok_or(token.fault(Kind::OtherWord))
+    }
+
+    // Whether the next fact holds, and the line that it begins on.
+    #[tactic(auto, unfolding(crate::specs::FactsLayout::keyword_on_line, crate::specs::Reading::read_layout))]
+    fn beginning(&mut self) -> Result<(bool, u32), Stop>
+        ensures { Reads (λ first. first) result self.new (read_layout (keyword_on_line (is_first (codes "HOLDS") (codes "NOT"))) self.old) }
+    {
+        let token = self.token()?;
+        let Some(holds) = is_first(b"HOLDS", b"NOT", token.word) else {
             return Err(token.fault(Kind::OtherWord));
-        }
-        Ok(false)
+        };
+        Ok((holds, token.line))
     }
 
     // A week, from 0.
@@ -174,22 +202,23 @@ impl<'a> Cursor<'a> {
         }
     }
 
-    // Reads one more condition.
+    // Reads one more fact.
     #[tactic(auto, unfolding(crate::specs::FactsLayout::condition_row, crate::specs::Reading::read_layout))]
     fn condition_row(
         &mut self,
         scenario: &Scenario,
         weeks: u8,
-        conditions: &mut Vec<Condition>,
+        given: &mut GivenFacts,
     ) -> Result<(), Stop>
-        ensures { Reads (λ _. conditions.new.items) result self.new (read_layout (condition_row scenario.now weeks conditions.old.items) self.old) }
+        ensures { Reads (λ _. given_of given.new) result self.new (read_layout (condition_row scenario.now weeks (given_of given.old)) self.old) }
     {
-        let holds = self.one_of_two(b"HOLDS", b"NOT")?;
+        let (holds, line) = self.beginning()?;
         let fact = self.fact(scenario, weeks)?;
-        Ok(conditions.push(Condition { fact, holds })?)
+        given.conditions.push(Condition { fact, holds })?;
+        Ok(given.lines.push(line)?)
     }
 
-    // Reads this number of conditions.
+    // Reads this number of facts.
     #[tactic(auto, using(crate::proofs::RowSteps::row_steps))]
     fn condition_rows(
         &mut self,
@@ -197,38 +226,41 @@ impl<'a> Cursor<'a> {
         scenario: &Scenario,
         weeks: u8,
         count: u16,
-    ) -> Result<Vec<Condition>, Stop>
-        ensures { Reads (λ v. v.items) result self.new (read_layout (repeat count (condition_row scenario.now weeks) []) self.old) }
+    ) -> Result<GivenFacts, Stop>
+        ensures { Reads given_of result self.new (read_layout (repeat count (condition_row scenario.now weeks) no_facts) self.old) }
     {
-        let mut conditions = Vec::new(alloc);
+        let mut given = GivenFacts {
+            conditions: Vec::new(alloc),
+            lines: Vec::new(alloc),
+        };
         for _ in 0..count {
-            self.condition_row(scenario, weeks, &mut conditions)?;
+            self.condition_row(scenario, weeks, &mut given)?;
         }
-        Ok(conditions)
+        Ok(given)
     }
 }
 
-// The conditions of the whole text.
+// The facts of the whole text.
 #[tactic(auto, using(crate::proofs::EndLemmas::front_fails), unfolding(crate::specs::FactsLayout::facts, crate::specs::Layout::exactly, crate::specs::Reading::read_layout, crate::specs::Reading::read_text))]
 fn whole_facts(
     alloc: Global,
     scenario: &Scenario,
     weeks: u8,
     text: &[u8],
-) -> Result<Vec<Condition>, Stop>
-    ensures { ReadsFile (λ v. v.items) result (read_text (facts scenario.now weeks) text.now) }
+) -> Result<GivenFacts, Stop>
+    ensures { ReadsFile given_of result (read_text (facts scenario.now weeks) text.now) }
 {
     let mut cursor = Cursor::open(text)?;
     cursor.exactly(b"FACTS")?;
     cursor.word()?;
     let count = cursor.setting(b"ROWS", 0, MAX_NUMBER)?;
-    let conditions = cursor.condition_rows(alloc, scenario, weeks, count)?;
+    let given = cursor.condition_rows(alloc, scenario, weeks, count)?;
     cursor.finish()?;
-    Ok(conditions)
+    Ok(given)
 }
 
-/// Returns the facts that the text spells, each with whether it holds, for a scenario and plans of this number of
-/// weeks.
+/// Returns the facts that the text spells, each with whether it holds and with the line that it begins on, for a
+/// scenario and plans of this number of weeks.
 ///
 /// The text is a facts' file, in the layout of `docs/formats.md`.
 ///
@@ -244,10 +276,11 @@ pub fn read_facts(
     scenario: &Scenario,
     weeks: u8,
     text: &[u8],
-) -> Result<Vec<Condition>, FileFault>
-    ensures spelled { IfOk result (λ v. Spells (facts scenario.now weeks) text.now v.items) }
-    ensures few { IfOk result (λ v. length v.items ≤ max_number) }
-    ensures shape { IfOk result (λ v. AreConditionsFor (numbers_of scenario.now) weeks v.items) }
+) -> Result<GivenFacts, FileFault>
+    ensures spelled { IfOk result (λ given. Spells (facts scenario.now weeks) text.now (given_of given)) }
+    ensures few { IfOk result (λ given. length given.conditions.items ≤ max_number) }
+    ensures shape { IfOk result (λ given. AreConditionsFor (numbers_of scenario.now) weeks given.conditions.items) }
+    ensures lines { IfOk result (λ given. length given.lines.items ≡ length given.conditions.items) }
     ensures fault { IfErr result (IsFaultOf files.Facts (facts scenario.now weeks) text.now) }
 {
     whole_facts(alloc, scenario, weeks, text).map_err(|stop| stop.in_file(FileName::Facts))

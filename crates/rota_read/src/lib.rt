@@ -36,7 +36,7 @@ mod week_tables;
 
 pub use certificate::read_certificate;
 pub use days::day_name;
-pub use facts::read_facts;
+pub use facts::{GivenFacts, read_facts};
 pub use history::read_history;
 pub use scenario::read_scenario;
 pub use solution::{read_fixed, read_solution};

@@ -1,5 +1,6 @@
 use Rattle.std.proofs.Common.{◌≡◌, ℕ, ◌<◌, ap, ◌∙◌, refl, arith, subst, length, Ok, Err}
 use Rattle.std.proofs.lemmas.Result.{err_from_is_err_and}
+use Rattle.rota_read.specs.FactsLayout.{given_of}
 use Rattle.rota_pb.specs.RunPorts.{reader_of}
 use Rattle.rota_bound_run.specs.Bounding.{bound_run}
 use Rattle.rota_bound_run.specs.PeriodFiles.{reader_if}
@@ -80,14 +81,14 @@ returns-in_err-certificate-clause-outcome g c =
     let files = c.args.files.now in
     let weeks = c.in_ok-weeks.weeks.items in
     let count : c.len-count.result ≡ length weeks = c.len-count.ensures ∙ c.in_ok-weeks.weeks.ok.0 in
-    let given = c.in_ok-given.given.items in
+    let given = given_of c.in_ok-given.given in
     went_on c.in_ok-ward.ward c.in_ok-ward.ensures.reads
     (went_on c.in_ok-weeks.weeks.items (weeks-back g.S.Source c.args.question.early c.in_ok-ward.ward files.weeks.items
     c.deref_mut.result.now c.read_weeks.new.files files.weeks.len
     c.deref_mut.ensures.value c.deref_mut.ensures.len (same-length c.deref_mut.result.now c.read_weeks.new.files
     c.in_ok-weeks.ensures.same) _ c.in_ok-weeks.ensures.reads)
-    (went_on c.in_ok-given.given.items (subst (λ (n : ℕ). (read_given c.in_ok-ward.ward.scenario n (reader_if g.S.Source files.given
-    c.read_given.new.file)).ends (Ok c.in_ok-given.given.items)) count c.in_ok-given.ensures.reads)
+    (went_on given (subst (λ (n : ℕ). (read_given c.in_ok-ward.ward.scenario n (reader_if g.S.Source files.given
+    c.read_given.new.file)).ends (Ok given)) count c.in_ok-given.ensures.reads)
     (stopped_for_all (read_proof c.in_ok-ward.ward.scenario (length weeks) (reader_if g.S.Source files.proof c.read_proof.new.file)) _ _
     c.from_residual-in_err-certificate.ensures.1 (subst (λ (n : ℕ). (read_proof c.in_ok-ward.ward.scenario n (reader_if g.S.Source
     files.proof c.read_proof.new.file)).ends (Err c.in_err-certificate.field-0.0)) count c.in_err-certificate.ensures.reads)
@@ -99,20 +100,20 @@ returns-in_err-judged-clause-outcome g c =
     let files = c.args.files.now in
     let weeks = c.in_ok-weeks.weeks.items in
     let count : c.len-count.result ≡ length weeks = c.len-count.ensures ∙ c.in_ok-weeks.weeks.ok.0 in
-    let given = c.in_ok-given.given.items in
+    let given = given_of c.in_ok-given.given in
     went_on c.in_ok-ward.ward c.in_ok-ward.ensures.reads
     (went_on c.in_ok-weeks.weeks.items (weeks-back g.S.Source c.args.question.early c.in_ok-ward.ward files.weeks.items
     c.deref_mut.result.now c.read_weeks.new.files files.weeks.len
     c.deref_mut.ensures.value c.deref_mut.ensures.len (same-length c.deref_mut.result.now c.read_weeks.new.files
     c.in_ok-weeks.ensures.same) _ c.in_ok-weeks.ensures.reads)
-    (went_on c.in_ok-given.given.items (subst (λ (n : ℕ). (read_given c.in_ok-ward.ward.scenario n (reader_if g.S.Source files.given
-    c.read_given.new.file)).ends (Ok c.in_ok-given.given.items)) count c.in_ok-given.ensures.reads)
+    (went_on given (subst (λ (n : ℕ). (read_given c.in_ok-ward.ward.scenario n (reader_if g.S.Source files.given
+    c.read_given.new.file)).ends (Ok given)) count c.in_ok-given.ensures.reads)
     (went_on c.in_ok-certificate.certificate (subst (λ (n : ℕ). (read_proof c.in_ok-ward.ward.scenario n (reader_if g.S.Source
     files.proof c.read_proof.new.file)).ends (Ok c.in_ok-certificate.certificate)) count c.in_ok-certificate.ensures.reads)
     (stopped_by _ _ c.from_residual-in_err-judged.ensures.1 (rosters-back g.S.Source weeks given files.rosters.items
     c.deref_mut-3.result.now c.judge_plan.new.files files.rosters.len
     c.deref_mut-3.ensures.value c.deref_mut-3.ensures.len c.in_err-judged.ensures.count _ (rw
-    (c.deref_mut-2.ensures.value, c.deref.ensures.value) at c.in_err-judged.ensures.reads))
+    c.deref_mut-2.ensures.value at c.in_err-judged.ensures.reads))
     (λ judged. (tt, λ answer. refl))))))
 
 pub returns-in_err-answer-clause-outcome : goal.returns-in_err-answer-clause-outcome
@@ -121,20 +122,20 @@ returns-in_err-answer-clause-outcome g c =
     let files = c.args.files.now in
     let weeks = c.in_ok-weeks.weeks.items in
     let count : c.len-count.result ≡ length weeks = c.len-count.ensures ∙ c.in_ok-weeks.weeks.ok.0 in
-    let given = c.in_ok-given.given.items in
+    let given = given_of c.in_ok-given.given in
     went_on c.in_ok-ward.ward c.in_ok-ward.ensures.reads
     (went_on c.in_ok-weeks.weeks.items (weeks-back g.S.Source c.args.question.early c.in_ok-ward.ward files.weeks.items
     c.deref_mut.result.now c.read_weeks.new.files files.weeks.len
     c.deref_mut.ensures.value c.deref_mut.ensures.len (same-length c.deref_mut.result.now c.read_weeks.new.files
     c.in_ok-weeks.ensures.same) _ c.in_ok-weeks.ensures.reads)
-    (went_on c.in_ok-given.given.items (subst (λ (n : ℕ). (read_given c.in_ok-ward.ward.scenario n (reader_if g.S.Source files.given
-    c.read_given.new.file)).ends (Ok c.in_ok-given.given.items)) count c.in_ok-given.ensures.reads)
+    (went_on given (subst (λ (n : ℕ). (read_given c.in_ok-ward.ward.scenario n (reader_if g.S.Source files.given
+    c.read_given.new.file)).ends (Ok given)) count c.in_ok-given.ensures.reads)
     (went_on c.in_ok-certificate.certificate (subst (λ (n : ℕ). (read_proof c.in_ok-ward.ward.scenario n (reader_if g.S.Source
     files.proof c.read_proof.new.file)).ends (Ok c.in_ok-certificate.certificate)) count c.in_ok-certificate.ensures.reads)
     (went_on c.in_ok-judged.judged (rosters-back g.S.Source weeks given files.rosters.items c.deref_mut-3.result.now
     c.judge_plan.new.files files.rosters.len
     c.deref_mut-3.ensures.value c.deref_mut-3.ensures.len c.in_ok-judged.ensures.count _ (rw
-    (c.deref_mut-2.ensures.value, c.deref.ensures.value) at c.in_ok-judged.ensures.reads))
+    c.deref_mut-2.ensures.value at c.in_ok-judged.ensures.reads))
     (stopped_by _ _ c.from_residual-in_err-answer.ensures.1 refl (λ answer. refl))))))
 
 pub returns-in_err-write_answer-clause-outcome : goal.returns-in_err-write_answer-clause-outcome
@@ -143,11 +144,11 @@ returns-in_err-write_answer-clause-outcome g c =
     let files = c.args.files.now in
     let weeks = c.in_ok-weeks.weeks.items in
     let count : c.len-count.result ≡ length weeks = c.len-count.ensures ∙ c.in_ok-weeks.weeks.ok.0 in
-    let given = c.in_ok-given.given.items in
-    let now : c.deref-2.result.now ≡ weeks =
-    slice-back weeks c.deref_mut-2.result.now c.judge_plan.new.weeks c.deref-2.result.now c.in_ok-weeks.weeks.len
+    let given = given_of c.in_ok-given.given in
+    let now : c.deref.result.now ≡ weeks =
+    slice-back weeks c.deref_mut-2.result.now c.judge_plan.new.weeks c.deref.result.now c.in_ok-weeks.weeks.len
     c.deref_mut-2.ensures.value
-    c.deref_mut-2.ensures.len c.in_ok-judged.ensures.same c.deref-2.ensures.value in
+    c.deref_mut-2.ensures.len c.in_ok-judged.ensures.same c.deref.ensures.value in
     let p = err_from_is_err_and c.from_residual-in_err-write_answer.result c.from_residual-in_err-write_answer.ensures.1 in
     rw (p.1, p.2)
     (went_on c.in_ok-ward.ward c.in_ok-ward.ensures.reads
@@ -155,15 +156,15 @@ returns-in_err-write_answer-clause-outcome g c =
     c.deref_mut.result.now c.read_weeks.new.files files.weeks.len
     c.deref_mut.ensures.value c.deref_mut.ensures.len (same-length c.deref_mut.result.now c.read_weeks.new.files
     c.in_ok-weeks.ensures.same) _ c.in_ok-weeks.ensures.reads)
-    (went_on c.in_ok-given.given.items (subst (λ (n : ℕ). (read_given c.in_ok-ward.ward.scenario n (reader_if g.S.Source files.given
-    c.read_given.new.file)).ends (Ok c.in_ok-given.given.items)) count c.in_ok-given.ensures.reads)
+    (went_on given (subst (λ (n : ℕ). (read_given c.in_ok-ward.ward.scenario n (reader_if g.S.Source files.given
+    c.read_given.new.file)).ends (Ok given)) count c.in_ok-given.ensures.reads)
     (went_on c.in_ok-certificate.certificate (subst (λ (n : ℕ). (read_proof c.in_ok-ward.ward.scenario n (reader_if g.S.Source
     files.proof c.read_proof.new.file)).ends (Ok c.in_ok-certificate.certificate)) count c.in_ok-certificate.ensures.reads)
     (went_on c.in_ok-judged.judged (rosters-back g.S.Source weeks given files.rosters.items c.deref_mut-3.result.now
     c.judge_plan.new.files files.rosters.len
     c.deref_mut-3.ensures.value c.deref_mut-3.ensures.len c.in_ok-judged.ensures.count _ (rw
-    (c.deref_mut-2.ensures.value, c.deref.ensures.value) at c.in_ok-judged.ensures.reads))
-    (went_on c.in_ok-answer.answer (rw (now, c.deref-3.ensures.value) at c.in_ok-answer.ensures) (
+    c.deref_mut-2.ensures.value at c.in_ok-judged.ensures.reads))
+    (went_on c.in_ok-answer.answer (rw (now, c.deref-2.ensures.value) at c.in_ok-answer.ensures) (
       _,
       refl,
       c.in_err-write_answer.ensures,
@@ -175,25 +176,25 @@ returns-clause-outcome g c =
     let files = c.args.files.now in
     let weeks = c.in_ok-weeks.weeks.items in
     let count : c.len-count.result ≡ length weeks = c.len-count.ensures ∙ c.in_ok-weeks.weeks.ok.0 in
-    let given = c.in_ok-given.given.items in
-    let now : c.deref-2.result.now ≡ weeks =
-    slice-back weeks c.deref_mut-2.result.now c.judge_plan.new.weeks c.deref-2.result.now c.in_ok-weeks.weeks.len
+    let given = given_of c.in_ok-given.given in
+    let now : c.deref.result.now ≡ weeks =
+    slice-back weeks c.deref_mut-2.result.now c.judge_plan.new.weeks c.deref.result.now c.in_ok-weeks.weeks.len
     c.deref_mut-2.ensures.value
-    c.deref_mut-2.ensures.len c.in_ok-judged.ensures.same c.deref-2.ensures.value in
+    c.deref_mut-2.ensures.len c.in_ok-judged.ensures.same c.deref.ensures.value in
     went_on c.in_ok-ward.ward c.in_ok-ward.ensures.reads
     (went_on c.in_ok-weeks.weeks.items (weeks-back g.S.Source c.args.question.early c.in_ok-ward.ward files.weeks.items
     c.deref_mut.result.now c.read_weeks.new.files files.weeks.len
     c.deref_mut.ensures.value c.deref_mut.ensures.len (same-length c.deref_mut.result.now c.read_weeks.new.files
     c.in_ok-weeks.ensures.same) _ c.in_ok-weeks.ensures.reads)
-    (went_on c.in_ok-given.given.items (subst (λ (n : ℕ). (read_given c.in_ok-ward.ward.scenario n (reader_if g.S.Source files.given
-    c.read_given.new.file)).ends (Ok c.in_ok-given.given.items)) count c.in_ok-given.ensures.reads)
+    (went_on given (subst (λ (n : ℕ). (read_given c.in_ok-ward.ward.scenario n (reader_if g.S.Source files.given
+    c.read_given.new.file)).ends (Ok given)) count c.in_ok-given.ensures.reads)
     (went_on c.in_ok-certificate.certificate (subst (λ (n : ℕ). (read_proof c.in_ok-ward.ward.scenario n (reader_if g.S.Source
     files.proof c.read_proof.new.file)).ends (Ok c.in_ok-certificate.certificate)) count c.in_ok-certificate.ensures.reads)
     (went_on c.in_ok-judged.judged (rosters-back g.S.Source weeks given files.rosters.items c.deref_mut-3.result.now
     c.judge_plan.new.files files.rosters.len
     c.deref_mut-3.ensures.value c.deref_mut-3.ensures.len c.in_ok-judged.ensures.count _ (rw
-    (c.deref_mut-2.ensures.value, c.deref.ensures.value) at c.in_ok-judged.ensures.reads))
-    (went_on c.in_ok-answer.answer (rw (now, c.deref-3.ensures.value) at c.in_ok-answer.ensures) c.in_ok-write_answer.ensures)))))
+    c.deref_mut-2.ensures.value at c.in_ok-judged.ensures.reads))
+    (went_on c.in_ok-answer.answer (rw (now, c.deref-2.ensures.value) at c.in_ok-answer.ensures) c.in_ok-write_answer.ensures)))))
 
 pub returns-in_err-ward-clause-same : goal.returns-in_err-ward-clause-same
 returns-in_err-ward-clause-same g c =
@@ -313,8 +314,8 @@ judge_plan-requires-clause-given g c =
     let count : c.len-count.result ≡ length c.in_ok-weeks.weeks.items = c.len-count.ensures ∙ c.in_ok-weeks.weeks.ok.0 in
     let some : 0 < length c.in_ok-weeks.weeks.items =
     omega (arith, c.in_ok-weeks.ensures.count, ap length c.deref_mut.ensures.value, c.requires.files.some) in
-    rw (c.deref_mut-2.ensures.value, c.deref.ensures.value) (given-for c.args.question.early c.in_ok-ward.ward c.in_ok-weeks.weeks.items
-    c.in_ok-given.given.items c.in_ok-weeks.ensures.weeks some
+    rw c.deref_mut-2.ensures.value (given-for c.args.question.early c.in_ok-ward.ward c.in_ok-weeks.weeks.items
+    c.in_ok-given.given.conditions.items c.in_ok-weeks.ensures.weeks some
     (rw count at c.in_ok-given.ensures.shape) c.in_ok-given.ensures.few)
 
 pub judge_plan-requires-clause-rosters : goal.judge_plan-requires-clause-rosters
@@ -325,9 +326,9 @@ judge_plan-requires-clause-rosters g c =
 
 pub answer_for-requires-clause-period : goal.answer_for-requires-clause-period
 answer_for-requires-clause-period g c =
-    let now : c.deref-2.result.now ≡ c.in_ok-weeks.weeks.items =
-    slice-back c.in_ok-weeks.weeks.items c.deref_mut-2.result.now c.judge_plan.new.weeks c.deref-2.result.now c.in_ok-weeks.weeks.len
-    c.deref_mut-2.ensures.value c.deref_mut-2.ensures.len c.in_ok-judged.ensures.same c.deref-2.ensures.value in
+    let now : c.deref.result.now ≡ c.in_ok-weeks.weeks.items =
+    slice-back c.in_ok-weeks.weeks.items c.deref_mut-2.result.now c.judge_plan.new.weeks c.deref.result.now c.in_ok-weeks.weeks.len
+    c.deref_mut-2.ensures.value c.deref_mut-2.ensures.len c.in_ok-judged.ensures.same c.deref.ensures.value in
     rw now (is-period c.args.question.early c.in_ok-ward.ward c.in_ok-weeks.weeks.items c.in_ok-weeks.ensures.weeks)
 
 pub answer_for-requires-clause-given : goal.answer_for-requires-clause-given
@@ -335,11 +336,11 @@ answer_for-requires-clause-given g c =
     let count : c.len-count.result ≡ length c.in_ok-weeks.weeks.items = c.len-count.ensures ∙ c.in_ok-weeks.weeks.ok.0 in
     let some : 0 < length c.in_ok-weeks.weeks.items =
     omega (arith, c.in_ok-weeks.ensures.count, ap length c.deref_mut.ensures.value, c.requires.files.some) in
-    let now : c.deref-2.result.now ≡ c.in_ok-weeks.weeks.items =
-    slice-back c.in_ok-weeks.weeks.items c.deref_mut-2.result.now c.judge_plan.new.weeks c.deref-2.result.now c.in_ok-weeks.weeks.len
-    c.deref_mut-2.ensures.value c.deref_mut-2.ensures.len c.in_ok-judged.ensures.same c.deref-2.ensures.value in
-    rw (now, c.deref-3.ensures.value) (given-for c.args.question.early c.in_ok-ward.ward c.in_ok-weeks.weeks.items
-    c.in_ok-given.given.items c.in_ok-weeks.ensures.weeks some
+    let now : c.deref.result.now ≡ c.in_ok-weeks.weeks.items =
+    slice-back c.in_ok-weeks.weeks.items c.deref_mut-2.result.now c.judge_plan.new.weeks c.deref.result.now c.in_ok-weeks.weeks.len
+    c.deref_mut-2.ensures.value c.deref_mut-2.ensures.len c.in_ok-judged.ensures.same c.deref.ensures.value in
+    rw (now, c.deref-2.ensures.value) (given-for c.args.question.early c.in_ok-ward.ward c.in_ok-weeks.weeks.items
+    c.in_ok-given.given.conditions.items c.in_ok-weeks.ensures.weeks some
     (rw count at c.in_ok-given.ensures.shape) c.in_ok-given.ensures.few)
 
 pub answer_for-requires-clause-certificate : goal.answer_for-requires-clause-certificate
@@ -347,9 +348,9 @@ answer_for-requires-clause-certificate g c =
     let count : c.len-count.result ≡ length c.in_ok-weeks.weeks.items = c.len-count.ensures ∙ c.in_ok-weeks.weeks.ok.0 in
     let some : 0 < length c.in_ok-weeks.weeks.items =
     omega (arith, c.in_ok-weeks.ensures.count, ap length c.deref_mut.ensures.value, c.requires.files.some) in
-    let now : c.deref-2.result.now ≡ c.in_ok-weeks.weeks.items =
-    slice-back c.in_ok-weeks.weeks.items c.deref_mut-2.result.now c.judge_plan.new.weeks c.deref-2.result.now c.in_ok-weeks.weeks.len
-    c.deref_mut-2.ensures.value c.deref_mut-2.ensures.len c.in_ok-judged.ensures.same c.deref-2.ensures.value in
+    let now : c.deref.result.now ≡ c.in_ok-weeks.weeks.items =
+    slice-back c.in_ok-weeks.weeks.items c.deref_mut-2.result.now c.judge_plan.new.weeks c.deref.result.now c.in_ok-weeks.weeks.len
+    c.deref_mut-2.ensures.value c.deref_mut-2.ensures.len c.in_ok-judged.ensures.same c.deref.ensures.value in
     rw now
     (for-weeks c.args.question.early c.in_ok-ward.ward c.in_ok-weeks.weeks.items c.in_ok-certificate.certificate
     c.in_ok-weeks.ensures.weeks some

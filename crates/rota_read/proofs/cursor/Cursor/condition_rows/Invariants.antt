@@ -1,10 +1,10 @@
-use Rattle.std.proofs.Common.{◌≡◌, ◌-◌, []}
-use Rattle.rota_read.specs.FactsLayout.{condition_row}
+use Rattle.std.proofs.Common.{◌≡◌, ◌-◌}
+use Rattle.rota_read.specs.FactsLayout.{condition_row, given_of, no_facts}
 use Rattle.rota_read.specs.Layout.{repeat}
 use Rattle.rota_read.specs.Reading.{read_layout}
 use Rattle.rota_read.proofs.cursor.Cursor.condition_rows.Given as goal
 
 abbrev pub invariant-loop : goal.invariant-loop
 invariant-loop l =
-    read_layout (repeat (l.count - l.counter) (condition_row l.scenario l.weeks) l.conditions.items) l.self ≡
-    read_layout (repeat l.count (condition_row l.scenario l.weeks) []) l.fn.self
+    read_layout (repeat (l.count - l.counter) (condition_row l.scenario l.weeks) (given_of l.given)) l.self ≡
+    read_layout (repeat l.count (condition_row l.scenario l.weeks) no_facts) l.fn.self
