@@ -1,68 +1,66 @@
 """A tree of cases that proves that no roster costs less than the best one: a case that prices do not close is split, the one with the least
-bound first. It also finds better rosters."""
+bound first. Several searches of cases work on it at once. It also finds better rosters."""
 
+import concurrent.futures
 import heapq
 import itertools
+import threading
 from dataclasses import dataclass, field
-from typing import Callable, FrozenSet, Iterable, List, Optional, Tuple
+from typing import Callable, FrozenSet, Iterable, List, Optional, Sequence, Tuple
 
 from ..judging.runs import NEVER
 from ..programs.clock import Clock, TimeIsOver
 from ..solvers.answers import SolverFault
-from ..solvers.linear_solvers import LinearSolver
 from ..week.facts import Claim, Even, Fact
 from .case_limits import CaseLimits
-from .case_pricing import CasePricing, PricedRow, leaf_of
-from .case_program import CaseProgram, CaseSolution
-from .case_splits import best_split, suggested
+from .case_pricing import CasePricing, leaf_of
+from .case_search import CaseTask, Examined, Proved
 from .certificate import MOST_LEAVES, Case, Certificate, Node, Split
-from .plan import POINT, STEP, Points, Thousandths
-from .pricing import NurseWeek, Prices
-from .row_generation import EXACT, SMOOTHING, WORTH
-from .row_graph import Check
-from .row_search import RowSearch
+from .plan import Points, Thousandths
+from .pricing import Prices
+from .row_search import Take
 
 # With more leaves than this all are kept.
 MOST_PRUNED = 30
-# After this number of rounds of new rows a case is split, even if its prices might become better.
-MOST_ROUNDS = 60
-# Gets the rows of a roster.
-Offer = Callable[[List[NurseWeek]], object]
+# A further search begins when the tree has this number of leaves for each of those before it.
+LEAVES_EACH = 6
+# The most seconds between two looks at the time.
+PAUSE = 0.2
+# Searches a case.
+Close = Callable[[Clock, Take, CaseTask], Examined]
 
 
 @dataclass
 class CaseNode:
-    """A case with the best prices and surcharge that are known for it, what they prove, and the value of its program in points. If it is
-    split, it has the fact and the two cases."""
+    """A case with what is proved of it. If it is split, it has the fact and the two cases."""
 
     case: Case
     limits: CaseLimits
-    prices: Prices
-    surcharge: int
-    bound: Thousandths
-    value: float = 0.0
+    proved: Proved
     fact: Optional[Fact] = None
     cases: "List[CaseNode]" = field(default_factory=list)
 
     @property
     def points(self) -> Points:
         """What no roster of the case costs less than, without its splits."""
-        return self.limits.in_steps(self.bound)
+        return self.limits.in_steps(self.proved.bound)
 
 
 class CaseTree:
-    """The cases of a plan. `offer` gets each roster that a solution is; `best` says what the best one costs, which is to be proved. `heard`
-    is called if the bound rises."""
+    """The cases of a plan, which begin with these prices. `take` gets each roster that a solution is; `best` says what the best one costs,
+    which is to be proved. `heard` is called if the bound rises."""
 
     def __init__(
-        self, pricing: CasePricing, program: CaseProgram, prices: Prices, best: Callable[[], Points], offer: Offer,
-        heard: Callable[[], None] = lambda: None,
+        self, pricing: CasePricing, prices: Prices, best: Callable[[], Points], take: Take, heard: Callable[[], None] = lambda: None,
     ) -> None:
-        self._pricing, self._program, self._best, self._offer, self._heard = pricing, program, best, offer, heard
-        limits = pricing.limits(())
-        self.root = CaseNode((), limits, prices, 0, Thousandths(0))
+        self._pricing, self._best, self._take, self._heard = pricing, best, take, heard
+        self.root = CaseNode((), pricing.limits(()), Proved(prices, 0, Thousandths(0)))
         self._number = itertools.count()
         self._open: List[Tuple[int, float, int, CaseNode]] = []
+        # How many cases are searched now, and a guard of all that the searches share.
+        self._busy, self._changed = 0, threading.Condition()
+        # How many searches have ended by a fault.
+        self._failed = 0
         self.leaves = 0
 
     @property
@@ -72,22 +70,15 @@ class CaseTree:
 
     # ---- the search
 
-    def run(self, clock: Clock) -> None:
+    def run(self, clock: Clock, searches: Sequence[Close]) -> None:
         """Splits cases until the target is proved, or the time is over. The bound rises on the way."""
         self._begin()
-        lowest = 0
-        while self._open and self._open[0][0] < self.target and self.leaves < MOST_LEAVES:
-            if self._open[0][0] > lowest:
-                lowest = self._open[0][0]
-                self._heard()
-            first = heapq.heappop(self._open)
-            try:
-                now = self._close(first[-1], clock)
-                if now:
-                    self._split(first[-1], now, clock)
-            except (SolverFault, TimeIsOver):
-                heapq.heappush(self._open, first)
-                raise
+        with concurrent.futures.ThreadPoolExecutor(len(searches)) as pool:
+            running = [pool.submit(self._work, close, clock, number) for number, close in enumerate(searches)]
+            faults = [found for found in (thread.exception() for thread in running) if found]
+        for fault in faults:
+            if not isinstance(fault, SolverFault) or len(faults) == len(searches):
+                raise fault
 
     @property
     def bound(self) -> Points:
@@ -98,81 +89,65 @@ class CaseTree:
         """The two cases of the root: the charges of shift runs are even, or odd."""
         if self.root.fact is not None:
             return
-        found = self._pricing.price(self.root.limits, self.root.prices, 0)
-        if found is None:
-            self.root.bound = Thousandths(NEVER)
-            return
-        self.root.bound = found.bound
-        self._program.add(found.rows)
-        self._put(self.root, Even(), (0.0, 0.0))
+        found = self._pricing.price(self.root.limits, self.root.proved.prices, 0)
+        self.root.proved = self.root.proved._replace(bound=found.bound if found else Thousandths(NEVER))
+        if found:
+            self._put(self.root, Even(), (0.0, 0.0))
 
     def _put(self, node: CaseNode, fact: Fact, values: Tuple[float, float]) -> None:
-        """Splits a node. Its cases begin with its prices."""
+        """Splits a node into cases of these values. They begin with its prices."""
         cases = []
         for holds, value in zip((True, False), values):
             case = (*node.case, Claim(fact, holds))
-            child = CaseNode(case, self._pricing.limits(case), node.prices, node.surcharge, node.bound, value)
+            child = CaseNode(case, self._pricing.limits(case), node.proved)
             cases.append(child)
             heapq.heappush(self._open, (child.points, value, -next(self._number), child))
         # Both at once: another thread may look at the bound.
         node.cases, node.fact = cases, fact
         self.leaves += 1
 
-    def _split(self, node: CaseNode, now: CaseSolution, clock: Clock) -> None:
-        facts = list(suggested(self._pricing, self._program, now, node.limits))
-        if not facts:
-            return
-        split = best_split(self._pricing, self._program, now, node.case, facts, self.target, clock)
-        self._put(node, split.fact, (now.value + split.rises[0], now.value + split.rises[1]))
-
-    # ---- a case
-
-    def _close(self, node: CaseNode, clock: Clock) -> Optional[CaseSolution]:
-        """Adds rows until the prices of a case prove the target, which is None, or they cannot; its solution then."""
-        self._program.take(node.limits)
-        share, turn = 0.0, 0
+    def _work(self, close: Close, clock: Clock, number: int) -> None:
+        """One search: of the case with the least bound that no other one searches."""
         while True:
-            now, turn = self._program.solve(clock, is_new_case=turn == 0), turn + 1
-            if now.is_real:
-                self._see(now)
-                if node.points >= node.limits.in_steps(Thousandths(round((now.value - EXACT) * POINT))):
-                    return None if node.points >= self.target else now
-            tried, surcharge = self._between(node, now, share)
-            found = self._pricing.price(node.limits, tried, surcharge)
-            if found is None:
-                node.bound = Thousandths(NEVER)
-                return None
-            if found.bound > node.bound or not node.bound:
-                node.bound, node.prices, node.surcharge = found.bound, tried, surcharge
-            if node.points >= self.target:
-                return None
-            new = self._program.add(self._better(now, found.rows))
-            if turn >= MOST_ROUNDS or not (new or share):
-                return now
-            share = SMOOTHING if new else 0.0
+            first = self._next(number, clock)
+            if first is None:
+                return
+            node = first[-1]
+            found: Optional[Examined] = None
+            try:
+                found = close(clock, self._take, CaseTask(node.case, node.proved, self.target))
+            finally:
+                with self._changed:
+                    self._busy -= 1
+                    if found is None:
+                        self._failed += 1
+                        heapq.heappush(self._open, first)
+                    else:
+                        self._keep(node, found)
+                    self._changed.notify_all()
 
-    def _between(self, node: CaseNode, now: CaseSolution, share: float) -> Tuple[Prices, int]:
-        """Prices between the best ones of a case and those of a solution."""
-        old, new = [*node.prices, node.surcharge], [*now.prices, now.surcharge]
-        *prices, surcharge = (round(share * one + (1 - share) * other) for one, other in zip(old, new))
-        return prices, surcharge
+    def _next(self, number: int, clock: Clock) -> Optional[Tuple[int, float, int, CaseNode]]:
+        """The next case to be searched; None if there will be none."""
+        with self._changed:
+            while self.leaves < MOST_LEAVES:
+                is_open = bool(self._open) and self._open[0][0] < self.target
+                if is_open and self.leaves >= LEAVES_EACH * (number - self._failed):
+                    self._busy += 1
+                    return heapq.heappop(self._open)
+                if not (self._busy or is_open):
+                    return None
+                clock.check()
+                self._changed.wait(PAUSE)
+            return None
 
-    def _better(self, now: CaseSolution, rows: Iterable[PricedRow]) -> List[PricedRow]:
-        """The rows that make a solution better."""
-        gains, table = self._pricing.crews.gains(now.prices), self._pricing.crews.of
-        found = []
-        for row in rows:
-            earned = sum(gains[crews[choice]] for crews, choice in zip(table[row.nurse], row.row))
-            if row.cost * POINT + now.surcharge * row.runs - earned - now.nurses[row.nurse] < -WORTH:
-                found.append(row)
-        return found
-
-    def _see(self, now: CaseSolution) -> None:
-        """Offers the roster that a solution is, if it is one and costs less than the best one."""
-        whole = (self._program.rows[number] for number, share in now.shares.items() if share > 1 - EXACT)
-        rows = {priced.nurse: priced.row for priced in whole}
-        if now.value < self.target - STEP / 2 and len(rows) == len(self._pricing.plan.nurses):
-            self._offer([rows[nurse] for nurse in range(len(rows))])
+    def _keep(self, node: CaseNode, found: Examined) -> None:
+        """Takes what was found of a case."""
+        before = self.bound
+        node.proved = found.proved
+        if found.split:
+            self._put(node, found.split.fact, (found.value + found.split.rises[0], found.value + found.split.rises[1]))
+        if self.bound > before:
+            self._heard()
 
     # ---- the certificate
 
@@ -190,7 +165,7 @@ class CaseTree:
     def _needed(self, node: CaseNode, dropped: FrozenSet[Fact], bound: Points, prunes: bool) -> Node:
         """The tree of a case without these facts. A split is not needed if one of its cases proves the bound without its fact, too."""
         if node.fact is None or self._proves(node, dropped, bound):
-            return leaf_of(self._without(node, dropped), node.prices, node.surcharge)
+            return leaf_of(self._without(node, dropped), node.proved.prices, node.proved.surcharge)
         for case in node.cases if prunes else ():
             more = dropped | {node.fact}
             if all(self._proves(leaf, more, bound) for leaf in self._leaves(case)):
@@ -206,19 +181,5 @@ class CaseTree:
         if not dropped:
             return node.points >= bound
         limits = self._without(node, dropped)
-        found = self._pricing.price(limits, node.prices, node.surcharge)
+        found = self._pricing.price(limits, node.proved.prices, node.proved.surcharge)
         return found is None or limits.in_steps(found.bound) >= bound
-
-
-def tree_of(search: RowSearch, solver: LinearSolver, check: Check, heard: Callable[[], None]) -> CaseTree:
-    """The tree that goes on from a search: with its prices, its known rows and its best roster."""
-    pricing = CasePricing(search.plan, search.pricing.crews, check)
-    program = CaseProgram(pricing, solver.program())
-    known = (pricing.counted(column.nurse, column.row) for column in list(search.program.columns))
-    program.add([row for row in known if row])
-
-    def best() -> Points:
-        assert search.penalty is not None
-        return search.penalty
-
-    return CaseTree(pricing, program, search.prices, best, lambda rows: search.keep(rows, "cases"), heard)

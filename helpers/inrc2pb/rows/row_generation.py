@@ -70,9 +70,9 @@ class RowGeneration:
             if cost is not None:
                 self._add(nurse_number, row, cost, self.prices, places[nurse_number])
 
-    def begin_at(self, whole: "RowGeneration") -> None:
-        """Begins with the prices for more nurses."""
-        known = dict(zip(whole.pricing.crews.places, whole.prices))
+    def begin_at(self, places: Sequence[Place], prices: Prices) -> None:
+        """Begins with the prices of these places."""
+        known = dict(zip(places, prices))
         self.prices = [known.get(place, 0) for place in self.pricing.crews.places]
 
     def add_row(self, nurse: int, row: NurseWeek) -> None:

@@ -5,7 +5,7 @@ from typing import Dict, Iterable, List, NamedTuple, Optional, Sequence, Tuple
 
 from ..programs.clock import Clock, TimeIsOver
 from ..solvers.answers import SolverFault
-from ..solvers.resident_program import DUAL, OPTIMAL, PRIMAL, STOPPED, Column, LinearProgram
+from ..solvers.resident_program import OPTIMAL, PRIMAL, STOPPED, Column, LinearProgram
 from .plan import POINT, Plan, Points
 from .pricing import MAX_PRICE, Crews, NurseWeek, Prices
 
@@ -137,13 +137,12 @@ class RowProgram:
 
     # ---- solutions
 
-    def solve(self, clock: Clock, dual: bool = False) -> Solved:
-        """Solves the linear program from the basis of its last solution; after changes of bounds by the `dual` method. Prices that are no
-        prices are cut."""
+    def solve(self, clock: Clock) -> Solved:
+        """Solves the linear program from the basis of its last solution. Prices that are no prices are cut."""
         left = self.most_iterations - self.iterations
         if left < 1:
             raise TimeIsOver
-        found = self._program.solve(clock, DUAL if dual else PRIMAL, int(left) if left < math.inf else 0)
+        found = self._program.solve(clock, PRIMAL, int(left) if left < math.inf else 0)
         self.iterations += found.iterations
         if found.status == STOPPED:
             raise TimeIsOver

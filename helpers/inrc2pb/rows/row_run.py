@@ -5,7 +5,8 @@ import contextlib
 import time
 from typing import Callable, List, Optional, Sequence, TypeVar
 
-from .case_tree import CaseTree, tree_of
+from .case_search import CaseSearch
+from .case_tree import CaseTree
 from .certificate import Certificate, Leaf
 from ..programs.clock import Clock, TimeIsOver
 from .first_rows import matched_rows
@@ -20,14 +21,16 @@ from .row_generation import NoRow, RowGeneration
 from .row_parts import RowParts
 from .row_search import GIVEN, Offer, RowSearch, WholeSearch
 from .skills import staffed
+from .workers import CaseWorker, workers
 
 # The shares of the time that is left: for new rows before a dive, for the dive, for one when no row is missing, for an integer program
 # over the known rows, and for one over all rows.
 ROWS_SHARE, DIVE_SHARE, LAST_DIVE_SHARE, KNOWN_SHARE, LISTED_SHARE = 0.5, 0.5, 0.8, 0.03, 0.5
 # The most rows of an integer program.
 MOST_LISTED = 6_000
-# Up to this gap, in thousandths, a tree of cases may end soon: for this number of seconds nothing else is done.
-TREE_GAP, TREE_SECONDS = 4 * STEP * POINT, 1.0
+# Up to this gap, in thousandths, a tree of cases may end soon: in a week nothing else is done for this number of seconds. In a period it is
+# worth its time up to this part of the bound.
+TREE_GAP, TREE_SECONDS, PERIOD_GAP = 4 * STEP * POINT, 1.0, 0.1
 # The share of the time that is left for a tree alone, if the gap is one step.
 LAST_SHARE = 0.5
 # The seconds that a tree has after a solver's claim of the best roster, or more if the search took longer.
@@ -158,7 +161,7 @@ class RowRun:
                 concurrent.futures.wait([tree], clock.left() * LAST_SHARE)
                 clock.check()
         if solver.chooses and not search.is_proved:
-            RowParts(search, _side_by_side(solver), self._seed).run(clock)
+            RowParts(search, _side_by_side(solver), self._seed, apart=processors() > 1).run(clock)
 
     def _choose_among_all(self, search: RowSearch, solver: LinearSolver, clock: Clock) -> bool:
         """Lets an integer program choose among the rows that a better roster can have. Returns whether the solver claims that there is
@@ -176,23 +179,41 @@ class RowRun:
         return False
 
     def _is_narrow(self, search: RowSearch) -> bool:
-        """Whether the gap is small enough for a tree of cases to close it soon."""
-        return self._splits and search.penalty is not None and search.gap() <= TREE_GAP
+        """Whether the gap is small enough for a tree of cases."""
+        if not self._splits or search.penalty is None or search.bound is None:
+            return False
+        return search.gap() <= (PERIOD_GAP * search.bound if self._dives_beside else TREE_GAP)
 
     def _close_cases(self, search: RowSearch, solver: LinearSolver, clock: Clock) -> None:
-        """Looks for cases that show that no roster costs less than the best one, and for better rosters: in a week as soon as the gap is
-        small. If that ends the search, it ends all solvers."""
+        """Looks for cases that show that no roster costs less than the best one, and for better rosters, as soon as the gap is small. If
+        that ends the search, it ends all solvers."""
         if not self._splits or search.program.names_places:
             return
         with contextlib.suppress(SolverFault, TimeIsOver):
-            while not (self._is_narrow(search) or len(self.plan.weeks) > 1):
+            while not self._is_narrow(search):
                 clock.check()
                 time.sleep(WAIT_SECONDS)
-            self._tree = tree_of(search, solver.beside(processors()), clock.check, self._heard)
-            self._tree.run(clock)
+            self._run_tree(search, solver, clock)
             if self._is_proved(search):
                 clock.stop()
                 solver.end_all()
+
+    def _run_tree(self, search: RowSearch, solver: LinearSolver, clock: Clock) -> None:
+        """The tree that goes on from a search. In a week other processes search cases, too."""
+        count, known = processors(), search.known()
+        own = CaseSearch.begin(known, search.pricing.crews, solver.beside(count), clock.check)
+        others = [] if self._dives_beside else workers(known, [solver.beside(count + number) for number in range(1, count)])
+
+        def best() -> Points:
+            assert search.penalty is not None
+            return search.penalty
+
+        self._tree = CaseTree(own.pricing, search.prices, best, search.keep, self._heard)
+        try:
+            self._tree.run(clock, [own.close, *(CaseWorker(worker).close for worker in others)])
+        finally:
+            for worker in others:
+                worker.end()
 
     def _is_proved(self, search: RowSearch) -> bool:
         """Whether the best roster costs no more than the bound."""

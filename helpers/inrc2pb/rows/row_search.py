@@ -7,13 +7,13 @@ chooses among all rows that a better roster can have.
 import math
 import random
 import threading
-from typing import Callable, Dict, List, Optional, Sequence, Tuple
+from typing import Callable, Dict, List, NamedTuple, Optional, Sequence
 
 from ..programs.clock import Clock, TimeIsOver
 from ..week.faults import Misuse
 from .first_rows import Descent
 from ..solvers.linear_solvers import LinearSolver
-from .plan import POINT, STEP, Points, Thousandths
+from .plan import POINT, STEP, Plan, Points, Thousandths
 from .pricing import NurseWeek, Priced, Prices, Pricing
 from .row_generation import EXACT, WORTH, RowGeneration
 from .row_program import Solved
@@ -34,6 +34,16 @@ GIVEN = "the given roster"
 
 # Takes rows of all nurses and the name of what found them, and returns their penalty, or None if they are no roster.
 Offer = Callable[[List[NurseWeek], str], Optional[Points]]
+# Takes rows and the name of what found them, and returns whether they are kept.
+Take = Callable[[List[NurseWeek], str], bool]
+
+
+class Known(NamedTuple):
+    """What is known of a plan: the best prices, and rows of each nurse, those that cost the least at these prices first."""
+
+    plan: Plan
+    prices: Prices
+    rows: List[List[NurseWeek]]
 
 
 class WrongBound(Misuse):
@@ -166,7 +176,7 @@ class RowSearch(RowGeneration):
     def _relaxed_beside(self, chosen: Dict[int, int], last: float, clock: Clock, rounds: int) -> Solved:
         """The linear program with these columns fixed. While its value is above the last one, the other nurses get new rows."""
         free = [nurse for nurse in range(len(self.plan.nurses)) if nurse not in chosen]
-        now = self.program.solve(clock, dual=True)
+        now = self.program.solve(clock)
         for _ in range(rounds if chosen else 0):
             if now.value <= last + EXACT:
                 break
@@ -208,12 +218,12 @@ class RowSearch(RowGeneration):
         columns = enumerate(self.program.columns)
         return [number for number, (nurse, row, cost, *_) in columns if self._reduced(nurse, row, cost) <= found[nurse].value + gap]
 
-    def cheapest_known(self, most: int) -> List[List[NurseWeek]]:
-        """So many of the known rows of each nurse, those of the best prices first."""
-        found: List[List[Tuple[int, NurseWeek]]] = [[] for _ in self.plan.nurses]
-        for nurse, row, cost, _ in self.program.columns:
-            found[nurse].append((self._reduced(nurse, row, cost), row))
-        return [[row for _, row in sorted(rows)[:most]] for rows in found]
+    def known(self) -> Known:
+        """What is known now."""
+        found: List[Dict[NurseWeek, int]] = [{} for _ in self.plan.nurses]
+        for nurse, row, cost, _ in list(self.program.columns):
+            found[nurse][row] = self._reduced(nurse, row, cost)
+        return Known(self.plan, self.prices, [sorted(rows, key=lambda row: (rows[row], row)) for rows in found])
 
     def choose(self, use: Sequence[int], clock: Clock, finder: str, nodes: int = 0) -> bool:
         """Lets the integer program choose among these columns, in at most so many nodes, if that is not 0. Returns whether the solver

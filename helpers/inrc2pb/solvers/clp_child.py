@@ -25,8 +25,6 @@ DUAL, PRIMAL = "dual", "primal"
 # Seconds between two looks whether the parent is alive.
 LOOK_SECONDS = 0.5
 _MOST_ITERATIONS = 2**31 - 1
-# The iterations after which it looks at the time.
-_PIECE = 1000
 # Clp's statuses of a basis for a new column and a new row.
 _AT_LOWER, _BASIC = b"\3", b"\1"
 _DOUBLE, _INT, _POINTER = ctypes.c_double, ctypes.c_int, ctypes.c_void_p
@@ -47,6 +45,7 @@ def load() -> Any:
         getattr(clp, name).argtypes = [_POINTER, _POINTER]
     for name in ("Clp_setLogLevel", "Clp_setMaximumIterations", "Clp_dual", "Clp_primal"):
         getattr(clp, name).argtypes = [_POINTER, _INT]
+    clp.Clp_setMaximumSeconds.argtypes = [_POINTER, _DOUBLE]
     clp.Clp_objectiveValue.restype, clp.Clp_objectiveValue.argtypes = _DOUBLE, [_POINTER]
     clp.Clp_status.argtypes = clp.Clp_numberIterations.argtypes = [_POINTER]
     return clp
@@ -122,16 +121,12 @@ class Program:
     def solve(self, how: str, iterations: int, seconds: float, whole: bool) -> List[bytes]:
         """Solves it, from the basis at which it is; the answer."""
         clp, model = self._clp, self._model
-        method, done, limit = clp.Clp_dual if how == DUAL else clp.Clp_primal, 0, time.monotonic() + seconds
-        while True:
-            # Clp's own limit of seconds does not count those in which it waits for a processor.
-            clp.Clp_setMaximumIterations(model, min(_PIECE, (iterations or _MOST_ITERATIONS) - done))
-            method(model, 0)
-            done += clp.Clp_numberIterations(model)
-            if clp.Clp_status(model) != STOPPED or done >= (iterations or _MOST_ITERATIONS) or time.monotonic() >= limit:
-                break
+        clp.Clp_setMaximumIterations(model, iterations or _MOST_ITERATIONS)
+        # These do not count while it waits for a processor: then the parent ends this process.
+        clp.Clp_setMaximumSeconds(model, seconds)
+        (clp.Clp_dual if how == DUAL else clp.Clp_primal)(model, 0)
         rows, columns = (self._rows, self._columns) if whole else (0, 0)
-        head = HEAD.pack(clp.Clp_status(model), done, clp.Clp_objectiveValue(model), rows, columns)
+        head = HEAD.pack(clp.Clp_status(model), clp.Clp_numberIterations(model), clp.Clp_objectiveValue(model), rows, columns)
         found = [(clp.Clp_dualRowSolution, rows), (clp.Clp_primalColumnSolution, columns), (clp.Clp_dualColumnSolution, columns)]
         return [head, *(ctypes.string_at(get(model), 8 * number) for get, number in found if number)]
 
@@ -154,7 +149,8 @@ class Child:
         return getattr(self._programs[number], name)(*words) or []
 
 
-def _exit_without_parent(parent: int) -> None:
+def exit_without_parent(parent: int) -> None:
+    """Waits until this process has another parent, and ends it then."""
     while os.getppid() == parent:
         time.sleep(LOOK_SECONDS)
     os._exit(1)
@@ -175,7 +171,7 @@ def serve(requests: BinaryIO, answers: BinaryIO, child: Child) -> None:
 
 def main() -> None:
     """Serves the parent. What Clp prints goes to standard error."""
-    threading.Thread(target=_exit_without_parent, args=(os.getppid(),), daemon=True).start()
+    threading.Thread(target=exit_without_parent, args=(os.getppid(),), daemon=True).start()
     answers = os.fdopen(os.dup(1), "wb")
     os.dup2(2, 1)
     try:

@@ -3,6 +3,7 @@
 import math
 import shutil
 import signal
+import subprocess
 from pathlib import Path
 from typing import Callable, Dict, Iterator, List, Optional, Sequence
 
@@ -30,6 +31,16 @@ class LinearSolver:
     def __init__(self, processes: Processes, folder: Path) -> None:
         self._processes, self._model, self._answer, self._basis = processes, folder / "rows.mps", folder / "rows.sol", folder / "rows.bas"
 
+    @property
+    def names(self) -> List[str]:
+        """The names of the solvers that may be used."""
+        return [self.name]
+
+    @property
+    def folder(self) -> Path:
+        """The folder of its files."""
+        return self._model.parent
+
     def relax(self, model: str, clock: Clock, goes_on: bool = False) -> Relaxed:
         """Solves a linear program. If it `goes_on`, it begins at the solution of the last one, by the names that both have. A wrong
         answer is a SolverFault if it shows."""
@@ -54,6 +65,14 @@ class LinearSolver:
     def end_all(self) -> None:
         """Ends what runs now, also in the solvers beside this one."""
         self._processes.end_running()
+
+    def open(self, words: Sequence[str]) -> "subprocess.Popen[bytes]":
+        """Starts a process in its folder, which `end_all` ends, too."""
+        return self._processes.open(words, self.folder)
+
+    def shut(self, process: "subprocess.Popen[bytes]") -> None:
+        """Ends a process of `open`."""
+        self._processes.close(process)
 
     def close(self) -> None:
         """Ends the process that it keeps, if there is one, and those of the solvers beside it."""
@@ -222,6 +241,11 @@ class LinearSolvers(LinearSolver):
         return self._others[0].name
 
     @property
+    def names(self) -> List[str]:
+        """The names of the solvers that may be used."""
+        return [other.name for other in self._others]
+
+    @property
     def chooses(self) -> bool:  # type: ignore[override]
         """Whether it solves integer programs well enough."""
         return self._others[0].chooses
@@ -252,7 +276,7 @@ class LinearSolvers(LinearSolver):
             folder = self._model.parent / str(number)
             folder.mkdir(exist_ok=True)
             resident = self._child is not None and self._child.works
-            self._beside[number] = LinearSolvers([other.name for other in self._others], self._processes, folder, self._warn, resident)
+            self._beside[number] = LinearSolvers(self.names, self._processes, folder, self._warn, resident)
         return self._beside[number]
 
     def warn(self, line: str) -> None:

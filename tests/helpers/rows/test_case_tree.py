@@ -5,6 +5,7 @@ import random
 import unittest
 from array import array
 from pathlib import Path
+from unittest import mock
 
 import certificate_bound as plain
 from test_certificates import period_of
@@ -14,14 +15,18 @@ from ward import HAS_CBC, HelperTest, files, program
 
 from inrc2pb.programs.clock import Clock, TimeIsOver
 from inrc2pb.programs.processes import Processes
+from inrc2pb.rows import case_tree
 from inrc2pb.rows.case_pricing import CasePricing
 from inrc2pb.rows.case_program import SOLUTION_STEPS, CaseProgram
+from inrc2pb.rows.case_search import CaseSearch, CaseTask
 from inrc2pb.rows.case_tree import CaseTree
 from inrc2pb.rows.plan import Plan
 from inrc2pb.rows.pricing import Crews
 from inrc2pb.rows.row_arrays import numpy
 from inrc2pb.rows.row_run import RowRun
+from inrc2pb.rows.row_search import Known
 from inrc2pb.rows.skills import staffed
+from inrc2pb.rows.workers import CaseWorker, Worker, workers
 from inrc2pb.solvers.answers import SolverFault
 from inrc2pb.solvers.linear_solvers import LinearSolvers
 from inrc2pb.solvers.resident_program import OPTIMAL, STOPPED, LinearProgram, Solution
@@ -72,15 +77,15 @@ class Trees(HelperTest):
         """A tree of a plan whose best roster has this penalty; the rosters that it finds are in `found`."""
         self.pricing, self.found, self.penalty = CasePricing(plan, Crews(plan), lambda: None), [], penalty
 
-        def offer(rows):
+        def take(rows, _finder):
             roster = staffed(plan, self.pricing.crews, rows)
             costs = [self.pricing.counted(nurse, row) for nurse, row in enumerate(rows)]
             if not roster.below and None not in costs:
                 self.found.append(sum(priced.cost for priced in costs) + 30 * roster.missing)
                 self.penalty = min(self.penalty, self.found[-1])
 
-        linear = CaseProgram(self.pricing, program or self.solver.program())
-        return CaseTree(self.pricing, linear, [0] * len(plan.demand), lambda: self.penalty, offer)
+        self.search = CaseSearch(self.pricing, CaseProgram(self.pricing, program or self.solver.program()))
+        return CaseTree(self.pricing, [0] * len(plan.demand), lambda: self.penalty, take)
 
     @unittest.skipUnless(HAS_CBC, "needs cbc")
     def test_the_best_roster_is_found_and_proved(self):
@@ -92,7 +97,7 @@ class Trees(HelperTest):
             if best is None:
                 continue
             self.penalty = best + 5 * (seed % 3)
-            tree.run(Clock(600.0))
+            tree.run(Clock(600.0), [self.search.close])
             self.assertLessEqual(tree.bound, best, seed)
             certificate = tree.certificate()
             self.assertEqual(plain.bound(period_of(plan), certificate.text("x")), tree.bound, seed)
@@ -104,7 +109,7 @@ class Trees(HelperTest):
     def test_a_week_that_prices_alone_do_not_prove(self):
         week = files.read_files(FILES.scenario, FILES.history, FILES.week)
         tree = self.tree(Plan.of(week.scenario, week.history, [week.data]), 140)
-        tree.run(Clock(600.0))
+        tree.run(Clock(600.0), [self.search.close])
         leaves = tree.certificate().leaves()
         self.assertEqual((tree.bound, self.penalty, self.pricing.bound_of(tree.certificate())), (135, 135, 135))
         # No case proves the bound for one that it is a part of, so each is needed.
@@ -121,7 +126,7 @@ class Trees(HelperTest):
             self.penalty = best
             with self.subTest(seed):
                 try:
-                    tree.run(Clock(1.0))
+                    tree.run(Clock(1.0), [self.search.close])
                 except (SolverFault, TimeIsOver):
                     pass
                 self.assertLessEqual(tree.bound, best)
@@ -135,10 +140,46 @@ class Trees(HelperTest):
         tree = self.tree(Plan.of(week.scenario, week.history, [week.data]), 435)
         for _ in range(2):
             with self.assertRaises(TimeIsOver):
-                tree.run(Clock(0.0))
+                tree.run(Clock(0.0), [self.search.close])
         self.assertLessEqual(tree.bound, 435)
-        tree.run(Clock(600.0))
+        tree.run(Clock(600.0), [self.search.close])
         self.assertEqual(tree.bound, 435)
+
+    @unittest.skipUnless(HAS_CBC, "needs cbc")
+    def test_several_searches_of_which_one_fails(self):
+        week, tried = files.read_files(FILES.scenario, FILES.history, FILES.week), []
+        tree = self.tree(Plan.of(week.scenario, week.history, [week.data]), 140)
+
+        def fails(clock, take, task):
+            tried.append(task.case)
+            raise SolverFault("no answer")
+
+        def slow(clock, take, task):
+            while not tried:
+                clock.check()
+            return self.search.close(clock, take, task)
+
+        with mock.patch.object(case_tree, "LEAVES_EACH", 0):
+            tree.run(Clock(600.0), [slow, fails])
+        self.assertEqual((tree.bound, self.penalty, self.pricing.bound_of(tree.certificate()), len(tried)), (135, 135, 135, 1))
+        with self.assertRaises(SolverFault):
+            self.tree(Plan.of(week.scenario, week.history, [week.data]), 140).run(Clock(600.0), [fails, fails])
+
+    @unittest.skipUnless(HAS_CBC, "needs cbc")
+    def test_a_process_that_searches_cases(self):
+        week = files.read_files(FILES.scenario, FILES.history, FILES.week)
+        plan = Plan.of(week.scenario, week.history, [week.data])
+        tree, rows = self.tree(plan, 140), [[] for _ in plan.nurses]
+        [worker] = workers(Known(plan, [0] * len(plan.demand), rows), [self.solver])
+        self.addCleanup(worker.end)
+        tree.run(Clock(600.0), [CaseWorker(worker).close])
+        self.assertEqual((tree.bound, self.penalty), (135, 135))
+        expected = tree.certificate().text("x")
+        tree = self.tree(plan, 140)
+        tree.run(Clock(600.0), [self.search.close])
+        self.assertEqual(tree.certificate().text("x"), expected)
+        with mock.patch.object(Worker, "_start", side_effect=OSError), self.assertRaises(SolverFault):
+            CaseWorker(Worker(self.solver, self.folder)).close(Clock(60.0), lambda rows, finder: True, CaseTask((), tree.root.proved, 135))
 
 
 class Stopped(LinearProgram):
@@ -188,8 +229,8 @@ class Runs(HelperTest):
         week = files.read_files(FILES.scenario, FILES.history, FILES.week)
         plan = Plan.of(week.scenario, week.history, [week.data])
         pricing, program = CasePricing(plan, Crews(plan), lambda: None), Stopped(self.solver())
-        tree = CaseTree(pricing, CaseProgram(pricing, program), [0] * len(plan.demand), lambda: 135, lambda rows: None)
-        tree.run(Clock(600.0))
+        tree = CaseTree(pricing, [0] * len(plan.demand), lambda: 135, lambda rows, finder: None)
+        tree.run(Clock(600.0), [CaseSearch(pricing, CaseProgram(pricing, program)).close])
         self.assertEqual(tree.bound, 135)
         self.assertTrue(all(0 < limit <= SOLUTION_STEPS for limit in program.asked))
 

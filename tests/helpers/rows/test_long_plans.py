@@ -18,6 +18,7 @@ from inrc2pb.judging.next_history import next_history
 from inrc2pb.rows.plan import POINT, WEEK_DAYS, Plan
 from inrc2pb.rows.pricing import Crews, Pricing
 from inrc2pb.programs.processes import Processes
+from inrc2pb.rows.part_search import Done
 from inrc2pb.rows.row_parts import RowParts
 from inrc2pb.rows.row_search import RowSearch
 from inrc2pb.judging.rules import costs, first_broken, nurse_costs
@@ -160,7 +161,7 @@ class Parts(HelperTest):
                 ended.append(solver._processes.run(words, 60, self.folder, hear=lambda data: ready.set()).status)
             ready.wait()
             search.bound, search.penalty = 0, 0
-            return True, 0
+            return Done(True, 0)
 
         ended, ready = [], threading.Event()
         with mock.patch.object(parts, "improve", improve):
@@ -182,7 +183,7 @@ class Parts(HelperTest):
             while not warnings:
                 clock.check()
             search.bound, search.penalty = 0, 0
-            return True, 0
+            return Done(True, 0)
 
         with mock.patch.object(parts, "improve", improve):
             parts.run(search.clock)
@@ -203,7 +204,7 @@ class Parts(HelperTest):
             search.begin(matched_rows(plan, search.pricing.crews, lambda: None), None)
             parts = RowParts(search, [solver])
             first = parts._sizes[7]
-            with mock.patch.object(RowParts, "improve", return_value=(ended, 1000)), self.assertRaises(TimeIsOver):
+            with mock.patch.object(RowParts, "improve", return_value=Done(ended, 1000)), self.assertRaises(TimeIsOver):
                 parts.run(Clock(1.0))
             self.assertEqual(parts._sizes[7] > first, grows)
 

@@ -12,7 +12,8 @@ from inrc2pb.programs.processes import Processes
 from inrc2pb.rows.first_rows import matched_rows
 from inrc2pb.rows.plan import POINT, Plan
 from inrc2pb.rows.pricing import Crews, Pricing
-from inrc2pb.rows.row_parts import Part, RowParts, _with
+from inrc2pb.rows.part_search import Dive, Done, Part, PartSearch
+from inrc2pb.rows.row_parts import RowParts
 from inrc2pb.rows.row_search import RowSearch
 from inrc2pb.solvers.linear_solvers import LinearSolvers
 
@@ -37,8 +38,8 @@ def search_of(weeks):
 class DaysOfParts(unittest.TestCase):
     def test_rows_change_on_the_days_of_a_part_only(self):
         rows = [b"\1\1\1", b"\2\2\2", b"\0\0\0"]
-        self.assertEqual(_with(rows, Part((0, 2), range(1, 2)), [b"\3\3\3", b"\4\4\4"]), [b"\1\3\1", b"\2\2\2", b"\0\4\0"])
-        self.assertEqual(_with(rows, Part((1,), range(3)), [b"\4\0\4"]), [b"\1\1\1", b"\4\0\4", b"\0\0\0"])
+        self.assertEqual(Part((0, 2), range(1, 2)).put(rows, [b"\3\3\3", b"\4\4\4"]), [b"\1\3\1", b"\2\2\2", b"\0\4\0"])
+        self.assertEqual(Part((1,), range(3)).put(rows, [b"\4\0\4"]), [b"\1\1\1", b"\4\0\4", b"\0\0\0"])
 
     def test_the_cheapest_rows_on_two_days(self):
         whole, chance = search_of(1), random.Random(3)
@@ -60,8 +61,8 @@ class DaysOfParts(unittest.TestCase):
             whole.add_row(3, row)
         costs = {row: whole.pricing.cost(3, row) for row in (EARLY, OFF, bytes([2] * 7), whole.rows[3])}
         whole.prices = [0] * len(whole.prices)
-        known = whole.cheapest_known(2)
-        self.assertEqual([costs[row] for row in known[3]], sorted(costs.values())[:2])
+        known = whole.known().rows
+        self.assertEqual([costs[row] for row in known[3]], sorted(costs.values()))
         self.assertEqual(known[4], [whole.rows[4]])
 
     def test_a_choice_that_must_change(self):
@@ -84,11 +85,11 @@ class DaysOfParts(unittest.TestCase):
         self.assertFalse(whole.swap([OFF] * 30))
 
     def test_the_demand_of_a_part(self):
-        parts = RowParts(search_of(2), [])
-        asked = parts._search.plan.demand
-        of_all = parts._pricing(Part(tuple(range(30)), range(3, 8)), parts._search.rows).plan
+        whole = search_of(2)
+        parts, asked = PartSearch(whole.pricing, whole.known(), None), whole.plan.demand
+        of_all = parts.pricing(Part(tuple(range(30)), range(3, 8)), whole.rows).plan
         self.assertEqual(of_all.demand, {place: asked[place] for place in asked if 3 <= place.day < 8})
-        of_one = parts._pricing(Part((4,), range(3, 8)), parts._search.rows).plan
+        of_one = parts.pricing(Part((4,), range(3, 8)), whole.rows).plan
         self.assertEqual(of_one.nurses, tuple(SCENARIO.nurses)[4:5])
         self.assertTrue(all(3 <= place.day < 8 and left.optimal <= asked[place].optimal for place, left in of_one.demand.items()))
 
@@ -96,35 +97,35 @@ class DaysOfParts(unittest.TestCase):
 class NextParts(unittest.TestCase):
     def test_days_of_all_nurses_come_once_until_there_is_a_better_roster(self):
         parts = RowParts(search_of(2), [])
-        # 0.35, 0.5 and 0.75 of 14 days, rounded up, and all of them.
-        self.assertEqual(list(parts._sizes), [5, 7, 11, 14])
+        # An eighth, a quarter, half and three quarters of 14 days, rounded up, and all of them.
+        self.assertEqual(list(parts._sizes), [2, 4, 7, 11, 14])
         parts._sizes = dict.fromkeys(parts._sizes, 30)
         seen = []
-        # There are 10, 8, 4 and 1 of these lengths.
-        for _ in range(23):
+        # There are 13, 11, 8, 4 and 1 of these lengths.
+        for _ in range(37):
             part = parts._next()
             self.assertEqual(part.nurses, tuple(range(30)))
             seen.append(part.days)
-            parts._learn(part._replace(changed=()), True, 1000, False)
-        self.assertEqual(len(set(seen)), 23)
-        self.assertEqual({len(days) for days in seen[:4]}, {5, 7, 11, 14})
+            parts._learn(part._replace(changed=()), Done(True, 1000), False)
+        self.assertEqual(len(set(seen)), 37)
+        self.assertEqual({len(days) for days in seen[:5]}, {2, 4, 7, 11, 14})
         # The only one of 14 days has had less work than the others, and is open again.
-        parts._learn(part, True, 1000, True)
+        parts._learn(part, Done(True, 1000, True), True)
         self.assertEqual(len(parts._next().days), 14)
 
     def test_lengths_share_the_work(self):
         parts = RowParts(search_of(1), [])
         for days, work in ((3, 2000), (4, 5000), (6, 1000), (7, 3000)):
-            parts._learn(Part((0, 1), range(days)), True, work, False)
+            parts._learn(Part((0, 1), range(days)), Done(True, work), False)
         self.assertEqual(len(parts._next().days), 6)
-        parts._learn(Part((0, 1), range(6)), False, 1500, False)
+        parts._learn(Part((0, 1), range(6)), Done(False, 1500), False)
         self.assertEqual(len(parts._next().days), 3)
 
     def test_sizes_follow_the_work(self):
         parts = RowParts(search_of(1), [])
         for ended, work, size in ((True, 1000, 23.0), (True, 5000, 20.0), (False, 10_000, 16.0)):
             parts._sizes[7] = 20.0
-            parts._learn(Part((0, 1), range(7)), ended, work, False)
+            parts._learn(Part((0, 1), range(7)), Done(ended, work), False)
             self.assertAlmostEqual(parts._sizes[7], size)
 
 
@@ -164,7 +165,7 @@ class Dives(HelperTest):
         search = self.generated()
         search.begin(matched_rows(search.plan, search.pricing.crews, lambda: None), None)
         before, parts = search.penalty, RowParts(search, [self.solver])
-        parts._dive(self.solver, search.clock, 0.12)
+        parts._dive(self.solver, search.clock, Dive(0.12, None, before))
         self.assertLess(search.penalty, before)
         self.assertGreater(parts._dived, 0)
         self.assertTrue(parts._dives)
@@ -183,7 +184,7 @@ class Dives(HelperTest):
             search.program.hold(next(iter(search.solved.shares)))
             for _ in range(2):
                 try:
-                    program.solve(search.clock, dual=True)
+                    program.solve(search.clock)
                 except TimeIsOver:
                     pass
         self.assertTrue(asked and all(0 < limit <= 3 for limit in asked), asked)

@@ -1,0 +1,180 @@
+"""Processes that search parts and cases of a plan beside this one: Python computes in one thread of a process at a time.
+
+Nothing depends on a right answer: rows are a roster only after they were checked. A process that ends or hangs costs time.
+"""
+
+import contextlib
+import functools
+import os
+import pickle
+import subprocess
+import sys
+import threading
+import time
+from multiprocessing.connection import Connection
+from pathlib import Path
+from typing import List, NamedTuple, Optional, Sequence, Type, TypeVar
+
+from ..programs.clock import Clock
+from ..programs.processes import Processes
+from ..solvers.answers import MAX_FAULTS, SolverFault
+from ..solvers.clp_child import exit_without_parent
+from ..solvers.linear_solvers import LinearSolver, LinearSolvers
+from .case_search import CaseSearch, CaseTask, Examined
+from .part_search import Dive, Done, Part, PartSearch
+from .pricing import Crews, NurseWeek, Pricing
+from .row_search import Known, Take
+
+# Seconds between two looks at the time, and those that a process has beyond the end of the time.
+PAUSE, GRACE = 0.2, 2.0
+# What a process does. Its words are the file of what is known, the names of solvers, and where its modules are.
+_START = f"import sys; sys.path[:] = sys.argv[3:]; from {__name__} import main; main(*sys.argv[1:3])"
+_Answer = TypeVar("_Answer")
+
+
+class _Rows(NamedTuple):
+    """Rows of a part's nurses, or of all, and the name of what found them."""
+
+    rows: List[NurseWeek]
+    finder: str
+
+
+class _Running(NamedTuple):
+    """A process, with the ends of its pipes in this one."""
+
+    process: "subprocess.Popen[bytes]"
+    tasks: Connection
+    answers: Connection
+
+
+class Worker:
+    """A process with what is known of a plan, and with solvers of its own. It starts with the first task."""
+
+    def __init__(self, solver: LinearSolver, known: Path) -> None:
+        self._solver, self._known = solver, known
+        self._running: Optional[_Running] = None
+        self._faults = 0
+
+    def do(self, kind: Type[_Answer], task: Sequence[object], clock: Clock, take: Take) -> Optional[_Answer]:
+        """Does a task; None after some faults in a row, or if the time is over. A fault of all solvers there is raised."""
+        while self._faults < MAX_FAULTS and clock.left() > 0:
+            found: object = None
+            with contextlib.suppress(OSError, EOFError, pickle.UnpicklingError):
+                found = self._answer(task, clock, take)
+            if isinstance(found, SolverFault):
+                raise found
+            if isinstance(found, kind):
+                self._faults = 0
+                return found
+            self.end()
+            self._faults += 1
+        return None
+
+    def _answer(self, task: Sequence[object], clock: Clock, take: Take) -> object:
+        """The last answer to a task; those before it are rows. None if it does not come in time."""
+        running = self._running = self._running or self._start()
+        running.tasks.send((*task, clock.left()))
+        late = time.monotonic() + clock.left() + GRACE
+        while not clock.stopped and time.monotonic() < late:
+            if running.answers.poll(PAUSE):
+                answer = running.answers.recv()
+                if not isinstance(answer, _Rows):
+                    return answer
+                take(*answer)
+        return None
+
+    def _start(self) -> _Running:
+        words = [sys.executable, *["-B"] * sys.dont_write_bytecode, "-I", "-S", "-c", _START]
+        process = self._solver.open([*words, str(self._known), " ".join(self._solver.names), *sys.path])
+        assert process.stdin and process.stdout
+        tasks, answers = os.dup(process.stdin.fileno()), os.dup(process.stdout.fileno())
+        return _Running(process, Connection(tasks, readable=False), Connection(answers, writable=False))
+
+    def end(self) -> None:
+        """Ends the process."""
+        if self._running:
+            self._running.tasks.close()
+            self._running.answers.close()
+            self._solver.shut(self._running.process)
+            self._running = None
+
+
+def workers(known: Known, solvers: Sequence[LinearSolver]) -> List[Worker]:
+    """A process for each of these solvers."""
+    if not solvers:
+        return []
+    file = solvers[0].folder / "known.pickle"
+    file.write_bytes(pickle.dumps(known))
+    return [Worker(solver, file) for solver in solvers]
+
+
+class PartWorker:
+    """Searches parts as a part search does, in a process of its own. After some faults in a row it does so in this one."""
+
+    def __init__(self, worker: Worker, own: PartSearch) -> None:
+        self._worker, self._own = worker, own
+
+    def improve(self, clock: Clock, take: Take, part: Part, rows: Sequence[NurseWeek]) -> Done:
+        """Looks for better rows of a neighborhood."""
+        return self._worker.do(Done, ("improve", part, rows), clock, take) or self._own.improve(clock, take, part, rows)
+
+    def dive(self, clock: Clock, take: Take, task: Dive) -> Done:
+        """Fixes rows of all nurses."""
+        return self._worker.do(Done, ("dive", task), clock, take) or self._own.dive(clock, take, task)
+
+
+class CaseWorker:
+    """Searches cases as a case search does, in a process of its own. After some faults in a row this is a SolverFault."""
+
+    def __init__(self, worker: Worker) -> None:
+        self._worker = worker
+
+    def close(self, clock: Clock, take: Take, task: CaseTask) -> Examined:
+        """Adds rows until the prices of a case prove its target, or they cannot."""
+        done = self._worker.do(Examined, ("close", task), clock, take)
+        if not done:
+            clock.check()
+            raise SolverFault("a process that searches cases fails")
+        return done
+
+
+class _Tasks:
+    """The tasks of a process."""
+
+    def __init__(self, known: Known, solver: LinearSolver) -> None:
+        self._known, self._solver = known, solver
+
+    @functools.cached_property
+    def _parts(self) -> PartSearch:
+        return PartSearch(Pricing(self._known.plan, Crews(self._known.plan), lambda: None), self._known, self._solver)
+
+    @functools.cached_property
+    def _cases(self) -> CaseSearch:
+        return CaseSearch.begin(self._known, Crews(self._known.plan), self._solver, lambda: None)
+
+    def do(self, name: str, clock: Clock, take: Take, words: Sequence[object]) -> object:
+        """Does the task of this name; its answer."""
+        search = self._cases if name == "close" else self._parts
+        try:
+            answer: object = getattr(search, name)(clock, take, *words)
+            return answer
+        except SolverFault as fault:
+            return fault
+
+
+def main(known: str, names: str) -> None:
+    """Does the tasks that come on standard input, with solvers of these names. What they print goes to standard error."""
+    threading.Thread(target=exit_without_parent, args=(os.getppid(),), daemon=True).start()
+    requests, answers = Connection(os.dup(0), writable=False), Connection(os.dup(1), readable=False)
+    os.dup2(2, 1)
+    solver = LinearSolvers(names.split(), Processes(), Path.cwd(), lambda line: None, resident=True)
+    tasks = _Tasks(pickle.loads(Path(known).read_bytes()), solver)
+
+    def take(rows: List[NurseWeek], finder: str) -> bool:
+        answers.send(_Rows(rows, finder))
+        return True
+
+    with contextlib.suppress(EOFError):
+        while True:
+            name, *words, seconds = requests.recv()
+            answers.send(tasks.do(name, Clock(seconds), take, words))

@@ -1,0 +1,115 @@
+"""Tests of processes that search parts: they find what this process finds, and cost only time if they end, hang or lie."""
+
+import os
+import signal
+import threading
+import time
+import unittest
+from unittest import mock
+
+from test_processes import is_alive
+from test_row_parts import LONG, search_of
+from ward import HAS_CBC, HelperTest
+
+from inrc2pb.programs.clock import Clock
+from inrc2pb.programs.processes import Processes
+from inrc2pb.rows import workers
+from inrc2pb.rows.part_search import Dive, Done, Part, PartSearch
+from inrc2pb.rows.workers import PartWorker
+from inrc2pb.solvers.linear_solvers import LinearSolvers
+
+PART = Part(tuple(range(0, 30, 3)), range(2, 6))
+
+
+@unittest.skipUnless(HAS_CBC, "needs cbc")
+class Workers(HelperTest):
+    def setUp(self):
+        super().setUp()
+        self.search, self.found, self.processes = search_of(1), [], Processes()
+        self.solver = LinearSolvers(["cbc"], self.processes, self.folder, self.fail, resident=True)
+        self.own = PartSearch(self.search.pricing, self.search.known(), self.solver)
+        [self.worker] = workers.workers(self.search.known(), [self.solver])
+        self.parts = PartWorker(self.worker, self.own)
+        self.addCleanup(self.solver.close)
+        self.addCleanup(self.worker.end)
+
+    def take(self, rows, finder):
+        self.found.append((rows, finder))
+        return True
+
+    def improve(self, searcher, seconds=LONG):
+        """What a search finds in the part, and how it ends."""
+        self.found = []
+        return searcher.improve(Clock(seconds), self.take, PART, self.search.rows), self.found
+
+    def instead(self, script):
+        """A process that does this in place of tasks."""
+        return mock.patch.object(workers, "_START", script)
+
+    def test_a_process_finds_the_same(self):
+        done, found = self.improve(self.own)
+        self.assertTrue(done.ended and done.work and found)
+        for _ in range(2):
+            self.assertEqual(self.improve(self.parts), (done, found))
+
+    def test_a_dive_is_the_same(self):
+        for task in (Dive(0.12, None, None), Dive(0.06, 5, None)):
+            self.found = []
+            done, own = self.own.dive(Clock(LONG), self.take, task), self.found
+            self.found = []
+            self.assertEqual((self.parts.dive(Clock(LONG), self.take, task), self.found), (done, own))
+            self.assertTrue(done.ended and own)
+
+    def test_processes_that_end(self):
+        expected = self.improve(self.own)
+        for script in ("import os; os.abort()", "print('no answer')", "import os; os.read(0, 9); os.write(1, b'\\0\\0\\0\\2no')"):
+            with self.subTest(script=script), self.instead(script):
+                [worker] = workers.workers(self.search.known(), [self.solver])
+                self.assertEqual(self.improve(PartWorker(worker, self.own)), expected)
+                self.assertEqual((worker._faults, worker._running), (3, None))
+
+    def test_a_process_that_is_killed_once(self):
+        expected = self.improve(self.parts)
+        os.killpg(self.worker._running.process.pid, signal.SIGKILL)
+        self.assertEqual(self.improve(self.parts), expected)
+        self.assertIsNotNone(self.worker._running)
+
+    def test_a_process_that_hangs(self):
+        with self.instead("import time; time.sleep(1000)"), mock.patch.object(workers, "GRACE", 0.1):
+            began = time.monotonic()
+            self.assertEqual(self.improve(self.parts, 0.5), (Done(False, 0), []))
+        self.assertLess(time.monotonic() - began, 30)
+        self.assertEqual(self.processes._running, {})
+
+    def test_a_search_that_is_stopped(self):
+        clock = Clock(LONG)
+
+        def stop():
+            clock.stop()
+            self.processes.stop()
+
+        with self.instead("import time; time.sleep(1000)"):
+            threading.Timer(0.3, stop).start()
+            self.assertFalse(self.parts.improve(clock, self.take, PART, self.search.rows).ended)
+        self.worker.end()
+        self.assertEqual(self.processes._running, {})
+
+    def test_a_process_ends_with_its_parent(self):
+        reading, writing = os.pipe()
+        parent = os.fork()
+        if not parent:
+            self.improve(self.parts)
+            os.write(writing, str(self.worker._running.process.pid).encode())
+            os.kill(os.getpid(), signal.SIGKILL)
+        os.waitpid(parent, 0)
+        number = int(os.read(reading, 20))
+        os.close(reading)
+        os.close(writing)
+        limit = time.monotonic() + 30
+        while is_alive(number) and time.monotonic() < limit:
+            time.sleep(0.05)
+        self.assertLess(time.monotonic(), limit)
+
+
+if __name__ == "__main__":
+    unittest.main()
