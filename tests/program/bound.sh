@@ -139,8 +139,8 @@ bounds_two_weeks() {
     refuses 'the rules before the facts' 6 'week 2: roster breaks H5' "${two[@]}" --fix 2=monday --given off --roster monday nobody
 }
 
-# More leaves than a byte counts, and the most leaves, bytes and nurses that files may have. In the case of 1000 nurses the last one is off, and
-# the price of a nurse on Monday is the cost of her shift; otherwise she works there, and costs 15.
+# More leaves than a byte counts, and the most leaves, bytes, nurses, facts, lists of prices and surcharges that files may have. In the case of
+# 1000 nurses the last one is off, and the price of a nurse on Monday is the cost of her shift; otherwise she works there, and costs 15.
 bounds_at_the_limits() {
     local closed=(--sce closed.txt --his history.txt --week wanted.txt) list=('PRICES = 1' 'ROWS = 1' 'Day Nurse 30000 0 0 0 0 0 0') nodes
     mapfile -t nodes < <(yes "SPLIT CHOICE 1 Ann Mon None LEAF 0 SURCHARGES = 0" | head -n 9998)
@@ -158,8 +158,14 @@ bounds_at_the_limits() {
     { head -n 3 "$room/history.txt"; seq -f 'N%.0f 0 0 None 0 0 0' 1000; } > "$room/thousand_history.txt"
     certificate last_off 1 'PRICES = 2' 'ROWS = 1' 'Day Nurse 15000 0 0 0 0 0 0' 'ROWS = 0' 'LEAVES = 2' 'SPLIT CHOICE 1 N1000 Mon None' \
         'LEAF 0 SURCHARGES = 0' 'LEAF 1 SURCHARGES = 0'
-    says 'a day off of the last of 1000 nurses' 'lower bound 15\n' \
-        --sce thousand.txt --his thousand_history.txt --week wanted.txt --proof last_off
+    says 'a day off of the last of 1000 nurses' 'lower bound 15\npenalty 30\n' \
+        --sce thousand.txt --his thousand_history.txt --week wanted.txt --proof last_off --roster nobody
+    mapfile -t nodes < <(yes 'NOT PLACE 1 Mon Day Nurse 0' | head -n 9999)
+    facts most_facts "${nodes[@]}"
+    mapfile -t nodes < <(yes 'ROWS = 0' | head -n 9998)
+    certificate most_prices 1 'PRICES = 9999' "${nodes[@]}" "${list[@]:1}" 'LEAVES = 1' 'LEAF 9998 SURCHARGES = 9999' "$(yes 0 | head -n 9999)"
+    says 'the most facts, prices and surcharges' 'lower bound 15\npenalty 15\noptimal\n' "${closed[@]}" --given most_facts --proof most_prices \
+        --roster monday
 }
 
 # says_within SECONDS WHAT LINES WORD..: as `says`, and in this time; it is much more than an idle machine needs.
@@ -170,8 +176,8 @@ says_within() {
 }
 
 # The bound of eight weeks of 120 nurses is the one that the helpers compute. A nurse is needed on each Monday of a year, and the sixth shift of
-# each of five nurses costs 20: 25 of 52 shifts are free. A tree of 100 cases of 30 nurses has the bound of its one list of prices, which
-# is the penalty of the best roster.
+# each of five nurses costs 20: 25 of 52 shifts are free, and 5 if one nurse works them all. A tree of 100 cases of 30 nurses has the bound of
+# its one list of prices, which is the penalty of the best roster.
 bounds_in_time() {
     local folder=$examples/last120 names node nodes
     sed 's/^WEEKS = .*/WEEKS = 8/' "$folder/ward.txt" > "$room/eight_weeks.txt"
@@ -185,7 +191,12 @@ bounds_in_time() {
     mapfile -t nodes < <(yes 'ROWS = 1 Day Nurse 20000 0 0 0 0 0 0' | head -n 52)
     certificate year_prices 52 'PRICES = 1' "${nodes[@]}" 'LEAVES = 1' 'LEAF 0 SURCHARGES = 0'
     mapfile -t nodes < <(yes needed.txt | head -n 52)
-    says_within 60 'a year of five nurses' 'lower bound 540\n' --sce year.txt --his year_history.txt --week "${nodes[@]}" --proof year_prices
+    mapfile -t names < <(yes first_works | head -n 52)
+    solution first_works 'N1 Mon Day Nurse'
+    says_within 60 'a year of five nurses' 'lower bound 540\npenalty 940\n' --sce year.txt --his year_history.txt --week "${nodes[@]}" \
+        --proof year_prices --roster "${names[@]}"
+    says_within 60 'a year without prices' 'lower bound 0\n' --sce year.txt --his year_history.txt --week "${nodes[@]}"
+    misused 'a week more than a scenario may have' 'there are more weeks than a scenario may have' "${week[@]}" --week "${nodes[@]}"
     mapfile -t names < <(awk '/^NURSES/ { inside = 1; next } inside && NF { print $1 }' "$examples/thirty/ward.txt")
     nodes=()
     for node in {Mon,Tue,Wed,Thu}; do nodes+=("${names[@]/%/ $node None LEAF 0 SURCHARGES = 0}"); done
