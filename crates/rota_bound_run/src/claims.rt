@@ -14,11 +14,11 @@ use std::alloc::{AllocError, Global};
 /// A claim about all plans of some weeks that meet the given facts.
 #[derive(Clone, Copy)]
 pub enum Claim {
-    /// Rosters that keep H1 to H5 have at least this penalty in sum.
+    /// Rosters that keep H1 to H5 and meet the given facts have at least this penalty in sum.
     AtLeast(u64),
-    /// No rosters keep H1 to H5.
+    /// No rosters keep H1 to H5 and meet the given facts.
     NoRoster,
-    /// The certificate does not prove that no rosters exist.
+    /// The certificate does not prove that no rosters do so.
     Unknown,
 }
 
