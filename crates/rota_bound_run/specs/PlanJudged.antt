@@ -21,7 +21,7 @@ for_some None step = record { ends = λ result. ⊥; untouched = ⊤ }
 abbrev pub judge_next : List InstanceTables → List RosterTables → Reader → PeriodStep (List RosterTables)
 judge_next weeks rosters reader = for_some (slice_get weeks (length rosters)) λ week. do
   roster ← for_week (length weeks) (length rosters) (judge_week week (history_before (map problem_of weeks) (map set_of rosters)) reader)
-  make (λ more. more ≡ rosters ++ roster ∷ [])
+  check (λ more. more ≡ rosters ++ roster ∷ []) (λ fault. ⊥)
 
 -- the rosters keep the hard rules of the weeks and meet the given facts, at this penalty
 pub record IsJudged (weeks : List InstanceTables) (given : Case) (judged : Judged) : Type 0 where
@@ -39,7 +39,7 @@ abbrev pub meet_given : List InstanceTables → Case → List RosterTables → P
 meet_given weeks given rosters =
     check (λ judged. (judged.rosters.items ≡ rosters) × IsJudged weeks given judged) (UnmetFact weeks given rosters)
 
--- the rosters are read and judged in the order of the weeks, if there is memory for the pasts
+-- if there is memory for the rosters and for the pasts, the rosters are read and judged in the order of the weeks
 abbrev pub judge_all : List InstanceTables → List Reader → PeriodStep (List RosterTables)
 judge_all weeks readers = do
   _ ← make {A = Unit {0}} (λ _. ⊤)
