@@ -3,8 +3,9 @@ use Rattle.std.specs.Prelude.{◌≡◌, ℕ, ◌+◌, ⊤, List, [], ◌∷◌,
 use Rattle.rota_core.specs.InstanceTables.{InstanceTables, problem_of}
 use Rattle.rota_core.specs.RosterTables.{RosterTables, set_of}
 use Rattle.rota_certificate.specs.CountedCharges.{IsFirstUnmetCondition, plan_from}
-use Rattle.rota_certificate.specs.Facts.{Case, IsIn}
-use Rattle.rota_certificate.specs.Plans.{KeepRules, plan_cost}
+use Rattle.rota_certificate.specs.Facts.{Case}
+use Rattle.rota_certificate.specs.Optimality.{KeepAndMeet}
+use Rattle.rota_certificate.specs.Plans.{plan_cost}
 use Rattle.rota_pb.specs.RunPorts.{Reader}
 use Rattle.rota_pb.specs.declared.period_fault.PeriodFault.{PeriodFault}
 use Rattle.rota_pb.specs.declared.period_fault.PeriodFault.TheVariants.{Unmet}
@@ -25,8 +26,7 @@ judge_next weeks rosters reader = for_some (slice_get weeks (length rosters)) λ
 
 -- the rosters keep the hard rules of the weeks and meet the given facts, at this penalty
 pub record IsJudged (weeks : List InstanceTables) (given : Case) (judged : Judged) : Type 0 where
-  pub keep : KeepRules (map problem_of weeks) (map set_of judged.rosters.items)
-  pub meet : IsIn (plan_from weeks judged.rosters.items) given
+  pub do_so : KeepAndMeet (map problem_of weeks) given (map set_of judged.rosters.items)
   pub penalty_is : judged.penalty ≡ plan_cost (plan_from weeks judged.rosters.items)
 
 -- the rosters do not meet a given fact: the first that they do not meet
