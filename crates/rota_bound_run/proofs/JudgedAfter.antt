@@ -1,8 +1,9 @@
 -- A roster that is judged after a history.
-use Rattle.std.proofs.Common.{◌≡◌, ℕ, suc, ◌<◌, sym, ◌∙◌, subst, arith, List, [], ◌∷◌, length, inl, inr, Result, Ok, Err, MatchResult, IfOk}
-use Rattle.std.specs.Prelude.{Bool, true, false, ◌⊎◌, slice_index_or}
+use Rattle.std.proofs.Common.{◌≡◌, ℕ, suc, ◌<◌, refl, sym, ◌∙◌, subst, arith, List, [], ◌∷◌, length, Ok, Err}
+use Rattle.std.specs.Prelude.{Bool, true, false, slice_index_or}
 use Rattle.std.specs.List.{AllByRecursion}
 use Rattle.rota_core.specs.Defaults.{no_past}
+use Rattle.rota_core.specs.HardRules.{KeepsHardRules}
 use Rattle.rota_core.specs.InstanceTables.{InstanceTables, problem_of}
 use Rattle.rota_core.specs.Pasts.{ArePasts, with_pasts}
 use Rattle.rota_core.specs.Problem.{Problem}
@@ -11,16 +12,15 @@ use Rattle.rota_core.specs.RosterTables.{RosterTables, set_of}
 use Rattle.rota_core.specs.WeekTables.{IsPast}
 use Rattle.rota_core.specs.declared.fault.FileName.TheVariants as names
 use Rattle.rota_core.specs.declared.values.Past.{Past}
-use Rattle.rota_certificate.specs.Plans.{History, after}
+use Rattle.rota_certificate.specs.Plans.{History, after, history_after}
 use Rattle.rota_pb.specs.Extending.{BreaksRule}
 use Rattle.rota_pb.specs.RunPorts.{Reader}
 use Rattle.rota_pb.specs.Steps.{went_on}
 use Rattle.rota_pb.specs.WeekFiles.{read_roster}
 use Rattle.rota_pb.specs.declared.fault.Fault.{Fault}
-use Rattle.rota_pb.specs.declared.fault.Fault.TheVariants.{Breaks, Memory}
-use Rattle.rota_bound_run.specs.JudgedWeeks.{ArePastsIn, IsJudgedWeek}
+use Rattle.rota_pb.specs.declared.fault.Fault.TheVariants.{Breaks}
+use Rattle.rota_bound_run.specs.JudgedWeeks.{ArePastsIn, IsJudgedWeek, IsPenalty}
 use Rattle.rota_bound_run.specs.Judging.{ArePastsOf, judge_week}
-use Rattle.rota_bound_run.specs.PeriodSteps.{EndsAs}
 use Rattle.rota_bound_run.specs.declared.judged_week.JudgedWeek.{JudgedWeek}
 use Rattle.rota_bound_run.proofs.OtherHistories.{Agree, broken-alike, keeps-alike, left-alike, penalty-alike}
 
@@ -66,51 +66,44 @@ module _ (week : Problem) (history : History) (shifts : ℕ) (pasts : List Past)
   agree : Agree week listed history
   agree n n_in = are.each n n_in
 
-  breaks-alike : (roster : Roster) (fault : Fault) → BreaksRule (after week listed) roster fault → BreaksRule (after week history) roster
-      fault
+  pub breaks-alike : (roster : Roster) (fault : Fault) → BreaksRule (after week listed) roster fault → BreaksRule (after week history)
+      roster fault
   breaks-alike roster (Breaks rule) breaks = broken-alike week roster listed history agree rule breaks
   breaks-alike roster _ breaks = absurd breaks
 
   -- the roster is judged in the same way
-  pub judged-alike : (roster : RosterTables) (judged : JudgedWeek) → IsJudgedWeek (after week listed) roster judged →
+  pub judged-alike : (judged : JudgedWeek) → IsPenalty (after week listed) (set_of judged.roster) judged.penalty →
+      ArePastsIn week.nurses (history_after (after week listed) (set_of judged.roster)) judged.pasts.items →
       IsJudgedWeek (after week history) judged.roster judged
-  judged-alike roster judged is =
-      subst (λ (one : RosterTables). IsJudgedWeek (after week history) one judged) (sym is.roster_is)
-      (record {
-        roster_is = is.roster_is;
-        keeps = keeps-alike week (set_of roster) listed history agree is.keeps;
-        penalty_is = is.penalty_is ∙ penalty-alike week (set_of roster) listed history agree;
-        small = is.small;
-        pasts = record {
-          count = is.pasts.count;
-          each = λ n n_in. is.pasts.each n n_in ∙ left-alike week (set_of roster) listed history agree n n_in;
+  judged-alike judged costs left =
+      let roster = set_of judged.roster in
+      record {
+        roster_is = refl;
+        costs = record {
+          keeps = keeps-alike week roster listed history agree costs.keeps;
+          is = costs.is ∙ penalty-alike week roster listed history agree;
+          small = costs.small;
         };
-      })
+        pasts = record { count = left.count; each = λ n n_in. left.each n n_in ∙ left-alike week roster listed history agree n n_in };
+      }
 
-  pub if-judged : (roster : RosterTables) (result : Result JudgedWeek Fault) →
-      MatchResult result (IsJudgedWeek (after week listed) roster)
-      (λ fault. (fault ≡ Memory) ⊎ BreaksRule (after week listed) (set_of roster) fault) →
-      IfOk result (λ judged. IsJudgedWeek (after week history) judged.roster judged)
-  if-judged roster (Ok judged) is = judged-alike roster judged is
-  if-judged roster (Err fault) is = tt
+module _ (tables : InstanceTables) (history : History) (shifts : ℕ) (pasts : List Past) (reader : Reader) (roster : RosterTables)
+    (same : shifts ≡ (problem_of tables).shifts) (are : ArePastsIn (problem_of tables).nurses history pasts) (each : Each shifts pasts)
+    (read : (read_roster names.Solution tables reader).ends (Ok roster)) where
+  -- the roster of the week is judged after the history
+  pub judges-week : KeepsHardRules (problem_of (with_pasts tables pasts)) (set_of roster) → (judge_week tables history reader).ends (Ok
+      roster)
+  judges-week keeps =
+      went_on tt (pasts-of (problem_of tables) history shifts pasts same are each)
+      (went_on roster read (
+        refl,
+        keeps-alike (problem_of tables) (set_of roster) (λ n. slice_index_or pasts n no_past) history are.each
+            keeps,
+      ))
 
-  also-stops : (roster : RosterTables) (fault : Fault) → (fault ≡ Memory) ⊎ BreaksRule (after week listed) (set_of roster) fault →
-      (fault ≡ Memory) ⊎ BreaksRule (after week history) (set_of roster) fault
-  also-stops roster fault (inl memory) = inl memory
-  also-stops roster fault (inr breaks) = inr (breaks-alike (set_of roster) fault breaks)
-
--- the week is judged after the history
-pub judges-week : (tables : InstanceTables) (history : History) (shifts : ℕ) (pasts : List Past) (reader : Reader) (roster : RosterTables)
-    (result : Result JudgedWeek Fault) → shifts ≡ (problem_of tables).shifts → ArePastsIn (problem_of tables).nurses history pasts → Each
-    shifts pasts →
-    (read_roster names.Solution tables reader).ends (Ok roster) →
-    MatchResult result (IsJudgedWeek (problem_of (with_pasts tables pasts)) roster)
-    (λ fault. (fault ≡ Memory) ⊎ BreaksRule (problem_of (with_pasts tables pasts)) (set_of roster) fault) →
-    EndsAs (λ judged. judged.roster) (judge_week tables history reader).ends result
-judges-week tables history shifts pasts reader roster (Ok judged) same are each read is =
-    went_on tt (pasts-of (problem_of tables) history shifts pasts same are each)
-    (went_on roster read
-    (is.roster_is, keeps-alike (problem_of tables) (set_of roster) (λ n. slice_index_or pasts n no_past) history are.each is.keeps))
-judges-week tables history shifts pasts reader roster (Err fault) same are each read is =
-    went_on tt (pasts-of (problem_of tables) history shifts pasts same are each)
-    (went_on roster read (also-stops (problem_of tables) history shifts pasts same are roster fault is))
+  -- it breaks a rule
+  pub refuses-week : (fault : Fault) → BreaksRule (problem_of (with_pasts tables pasts)) (set_of roster) fault →
+      (judge_week tables history reader).ends (Err fault)
+  refuses-week fault breaks =
+      went_on tt (pasts-of (problem_of tables) history shifts pasts same are each)
+      (went_on roster read (breaks-alike (problem_of tables) history shifts pasts same are (set_of roster) fault breaks))

@@ -14,13 +14,12 @@ use Rattle.rota_pb.specs.PeriodFaults.{fault_in_week}
 use Rattle.rota_pb.specs.RunPorts.{Reader, reader_of}
 use Rattle.rota_pb.specs.Steps.{Step}
 use Rattle.rota_pb.specs.declared.fault.Fault.{Fault}
-use Rattle.rota_pb.specs.declared.fault.Fault.TheVariants.{Memory}
 use Rattle.rota_pb.specs.declared.period_fault.PeriodFault.{PeriodFault}
 use Rattle.rota_pb.specs.declared.period_fault.PeriodFault.TheVariants.{Run}
 use Rattle.rota_bound_run.specs.Judging.{history_before, judge_week}
 use Rattle.rota_bound_run.specs.PeriodFiles.{SameWeeks, each_of, reader_if, week_readers}
 use Rattle.rota_bound_run.specs.PeriodRead.{read_given, read_next, read_proof, read_weeks}
-use Rattle.rota_bound_run.specs.PeriodSteps.{EndsInTurn, PeriodStep, ◌>>=◌, check, for_all, for_week, make, stopped, went_on}
+use Rattle.rota_bound_run.specs.PeriodSteps.{EndsInTurn, PeriodStep, ◌>>=◌, check, for_all, for_week, stopped, went_on}
 use Rattle.rota_bound_run.specs.PlanJudged.{for_some, judge_all, judge_next, judge_plan, meet_given}
 use Rattle.rota_bound_run.specs.declared.files.WeekFiles.{WeekFiles}
 use Rattle.rota_bound_run.specs.declared.judged.Judged.{Judged}
@@ -114,7 +113,7 @@ module _ {S : Type 0} (port : Ghosts S) (weeks : List InstanceTables) (rosters :
   abbrev step_of : InstanceTables → PeriodStep (List RosterTables)
   step_of one =
       for_week (length weeks) (length rosters) (judge_week one (next_history weeks rosters) (reader_of port old new)) >>= λ roster.
-      make (λ more. more ≡ rosters ++ roster ∷ [])
+      check (λ more. more ≡ rosters ++ roster ∷ []) (λ fault. ⊥)
 
   -- one more roster is judged
   pub judges-roster : (roster : RosterTables) (more : List RosterTables) →
@@ -122,12 +121,6 @@ module _ {S : Type 0} (port : Ghosts S) (weeks : List InstanceTables) (rosters :
       (judge_next weeks rosters (reader_of port old new)).ends (Ok more)
   judges-roster roster more ends is =
       subst (λ (one : Option InstanceTables). (for_some one step_of).ends (Ok more)) (sym here) (went_on roster ends is)
-
-  -- there is no memory for the roster
-  pub lacks-room : (roster : RosterTables) → (judge_week week (next_history weeks rosters) (reader_of port old new)).ends (Ok roster) →
-      (judge_next weeks rosters (reader_of port old new)).ends (Err (Run Memory))
-  lacks-room roster ends =
-      subst (λ (one : Option InstanceTables). (for_some one step_of).ends (Err (Run Memory))) (sym here) (went_on roster ends refl)
 
   -- the roster is refused
   pub stops-roster : (fault : Fault) → (judge_week week (next_history weeks rosters) (reader_of port old new)).ends (Err fault) →

@@ -1,5 +1,5 @@
 -- The rosters of a period, read and judged one after the other: each after the history that the rosters before it leave.
-use Rattle.std.specs.Prelude.{◌≡◌, ℕ, ◌<◌, ◌⊎◌, List, [], ◌∷◌}
+use Rattle.std.specs.Prelude.{◌≡◌, ℕ, ◌<◌, List, [], ◌∷◌}
 use Rattle.rota_core.specs.Defaults.{no_past}
 use Rattle.rota_core.specs.HardRules.{KeepsHardRules}
 use Rattle.rota_core.specs.InstanceTables.{InstanceTables, problem_of}
@@ -17,7 +17,7 @@ use Rattle.rota_pb.specs.Steps.{Step, ◌>>=◌, check}
 use Rattle.rota_pb.specs.StepsInTurn.{◌>>◌}
 use Rattle.rota_pb.specs.WeekFiles.{read_roster}
 use Rattle.rota_pb.specs.declared.fault.Fault.{Fault}
-use Rattle.rota_pb.specs.declared.fault.Fault.TheVariants.{File, Memory}
+use Rattle.rota_pb.specs.declared.fault.Fault.TheVariants.{File}
 
 -- ---- the history before a later week
 
@@ -43,11 +43,10 @@ pub record IsBeyond (week : Problem) (fault : Fault) : Type 0 where
 
 -- ---- the roster of a week
 
--- the roster keeps the hard rules of the week, or breaks one, unless memory runs out
+-- the roster keeps the hard rules of the week, or breaks one
 abbrev pub judge_roster : Problem → RosterTables → Step RosterTables
 judge_roster week roster =
-    check (λ judged. (judged ≡ roster) × KeepsHardRules week (set_of roster)) (λ fault. (fault ≡ Memory) ⊎ BreaksRule week
-    (set_of roster) fault)
+    check (λ judged. (judged ≡ roster) × KeepsHardRules week (set_of roster)) (BreaksRule week (set_of roster))
 
 -- the roster of the week is read, and judged after this history
 abbrev pub judge_week : InstanceTables → History → Reader → Step RosterTables

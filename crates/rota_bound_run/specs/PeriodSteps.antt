@@ -31,21 +31,20 @@ check Finds Stops = record { ends = λ result. MatchResult result Finds Stops; u
 abbrev pub make : {A : Type 0} → (A → Type 0) → PeriodStep A
 make Finds = check Finds (λ fault. fault ≡ Run Memory)
 
--- a step whose fault is named by `named`
-abbrev pub telling : {A : Type 0} → (Fault → PeriodFault) → Step A → PeriodStep A
-telling {A} named step = record {
-  ends = λ result. MatchResult result (λ found. step.ends (Ok found)) (λ told. (fault : Fault) × (told ≡ named fault) × step.ends
-      (Err fault));
+-- a step of `rota_pb`; `named` gives the fault of the whole run for the step's fault
+abbrev pub renamed : {A : Type 0} → (named : Fault → PeriodFault) → Step A → PeriodStep A
+renamed {A} named step = record {
+  ends = λ result. MatchResult result (λ found. step.ends (Ok found)) (λ fault. (one : Fault) × (fault ≡ named one) × step.ends (Err one));
   untouched = step.untouched;
 }
 
 -- a step for all weeks
 abbrev pub for_all : {A : Type 0} → Step A → PeriodStep A
-for_all step = telling Run step
+for_all step = renamed Run step
 
 -- a step for the week with this index, of this number of weeks
 abbrev pub for_week : {A : Type 0} → (weeks index : ℕ) → Step A → PeriodStep A
-for_week weeks index step = telling (fault_in_week weeks index) step
+for_week weeks index step = renamed (fault_in_week weeks index) step
 
 -- a step for each of these, in their order, from the value that was found before them
 unfoldable pub in_turn : {X : Type 0} {R : Type 1} → (X → R → PeriodStep X) → X → List R → PeriodStep X

@@ -3,8 +3,9 @@ use Rattle.std.specs.Prelude.{◌≡◌, ℕ, ⊤, List, [], ◌∷◌, ◌++◌
 use Rattle.rota_core.specs.InstanceTables.{InstanceTables, problem_of}
 use Rattle.rota_core.specs.RosterTables.{RosterTables, set_of}
 use Rattle.rota_certificate.specs.CountedCharges.{IsFirstUnmetCondition, plan_from}
-use Rattle.rota_certificate.specs.Facts.{Case, IsIn}
-use Rattle.rota_certificate.specs.Plans.{KeepRules, plan_cost}
+use Rattle.rota_certificate.specs.Facts.{Case}
+use Rattle.rota_certificate.specs.Optimality.{KeepAndMeet}
+use Rattle.rota_certificate.specs.Plans.{plan_cost}
 use Rattle.rota_read.specs.FactsLayout.{GivenTables}
 use Rattle.rota_pb.specs.RunPorts.{Reader}
 use Rattle.rota_pb.specs.declared.period_fault.PeriodFault.TheVariants.{Unmet}
@@ -21,12 +22,11 @@ for_some None step = record { ends = λ result. ⊥; untouched = ⊤ }
 abbrev pub judge_next : List InstanceTables → List RosterTables → Reader → PeriodStep (List RosterTables)
 judge_next weeks rosters reader = for_some (slice_get weeks (length rosters)) λ week. do
   roster ← for_week (length weeks) (length rosters) (judge_week week (history_before (map problem_of weeks) (map set_of rosters)) reader)
-  make (λ more. more ≡ rosters ++ roster ∷ [])
+  check (λ more. more ≡ rosters ++ roster ∷ []) (λ fault. ⊥)
 
 -- the rosters keep the hard rules of the weeks and meet the given facts, at this penalty
 pub record IsJudged (weeks : List InstanceTables) (given : Case) (judged : Judged) : Type 0 where
-  pub keep : KeepRules (map problem_of weeks) (map set_of judged.rosters.items)
-  pub meet : IsIn (plan_from weeks judged.rosters.items) given
+  pub do_so : KeepAndMeet (map problem_of weeks) given (map set_of judged.rosters.items)
   pub penalty_is : judged.penalty ≡ plan_cost (plan_from weeks judged.rosters.items)
 
 -- the rosters do not meet a given fact: the first that they do not meet begins on this line
@@ -41,7 +41,7 @@ meet_given weeks given rosters =
     check (λ judged. (judged.rosters.items ≡ rosters) × IsJudged weeks given.conditions judged)
     (λ fault. (line : ℕ) × (fault ≡ Unmet line) × IsUnmet weeks given rosters line)
 
--- the rosters are read and judged in the order of the weeks, if there is memory for the pasts
+-- if there is memory for the rosters and for the pasts, the rosters are read and judged in the order of the weeks
 abbrev pub judge_all : List InstanceTables → List Reader → PeriodStep (List RosterTables)
 judge_all weeks readers = do
   _ ← make {A = Unit {0}} (λ _. ⊤)

@@ -1,6 +1,6 @@
 //! The answer to the question about a period.
 ghost use Rattle.std.specs.Prelude.{◌≡◌, IfOk, IfSome, option_map};
-ghost use Rattle.rota_certificate.specs.PeriodBounds.{AreGivenFor, IsForWeeks, IsPeriod};
+ghost use Rattle.rota_certificate.specs.PeriodBounds.{AreEvidence};
 ghost use Rattle.rota_bound_run.specs.ExactAnswers.{IsAnswer, is_at_bound};
 ghost use Rattle.rota_bound_run.specs.PlanJudged.{IsJudged};
 
@@ -48,9 +48,7 @@ pub(crate) fn answer_for(
     minimums: bool,
     judged: &Option<Judged>,
 ) -> Result<Answer, AllocError>
-    requires period { IsPeriod weeks.now }
-    requires given { AreGivenFor weeks.now given.now }
-    requires certificate { IsForWeeks weeks.now certificate.now }
+    requires evidence { AreEvidence weeks.now given.now certificate.now }
     requires judged { IfSome judged.now (IsJudged weeks.now given.now) }
     ensures { IfOk result (IsAnswer minimums weeks.now given.now certificate.now judged.now) }
 {

@@ -1,7 +1,7 @@
 //! The claim that a certificate proves about all plans of some weeks.
 ghost use Rattle.std.specs.Prelude.{◌≡◌, IfOk, if◌then◌else◌, map};
 ghost use Rattle.rota_core.specs.InstanceTables.{problem_of};
-ghost use Rattle.rota_certificate.specs.PeriodBounds.{AreGivenFor, IsForWeeks, IsPeriod};
+ghost use Rattle.rota_certificate.specs.PeriodBounds.{AreEvidence};
 ghost use Rattle.rota_certificate.specs.Optimality.{AreOptimalAt};
 ghost use Rattle.rota_bound_run.specs.Claims.{Holds};
 ghost use Rattle.rota_bound_run.specs.ExactAnswers.{claim_of};
@@ -14,11 +14,11 @@ use std::alloc::{AllocError, Global};
 /// A claim about all plans of some weeks that meet the given facts.
 #[derive(Clone, Copy)]
 pub enum Claim {
-    /// Rosters that keep H1 to H5 have at least this penalty in sum.
+    /// Rosters that keep H1 to H5 and meet the given facts have at least this penalty in sum.
     AtLeast(u64),
-    /// No rosters keep H1 to H5.
+    /// No rosters keep H1 to H5 and meet the given facts.
     NoRoster,
-    /// The certificate does not prove that no rosters exist.
+    /// The certificate does not prove that no rosters do so.
     Unknown,
 }
 
@@ -40,9 +40,7 @@ pub(crate) fn claim_of(
     certificate: &Certificate,
     minimums: bool,
 ) -> Result<Claim, AllocError>
-    requires period { IsPeriod weeks.now }
-    requires given { AreGivenFor weeks.now given.now }
-    requires certificate { IsForWeeks weeks.now certificate.now }
+    requires { AreEvidence weeks.now given.now certificate.now }
     ensures claim { IfOk result (λ claim. claim ≡ claim_of minimums (map problem_of weeks.now) given.now certificate.now) }
     ensures holds { IfOk result (Holds (map problem_of weeks.now) given.now) }
     ensures optimal { (points : _) → IfOk result (λ claim. claim ≡ AtLeast points → AreOptimalAt (map problem_of weeks.now) given.now points) }

@@ -42,16 +42,17 @@ fn judge_all<S: Source>(
     ensures same { weeks.new ≡ weeks.old }
     ensures count { length files.new ≡ length files.old }
 {
+    let count = weeks.len();
+    let rosters = Vec::with_capacity(alloc, count)?;
     let mut judged = Judged {
-        rosters: Vec::new(alloc),
+        rosters,
         penalty: 0,
     };
-    let count = weeks.len();
     let mut pasts = pasts_before(alloc, &weeks[0])?;
     for index in 0..count {
         match judge_week(alloc, &mut weeks[index], pasts, &mut files[index]) {
             Ok(week) => {
-                judged.rosters.push(week.roster)?;
+                judged.rosters.push_reserved(week.roster);
                 judged.penalty += week.penalty;
                 pasts = week.pasts;
             }

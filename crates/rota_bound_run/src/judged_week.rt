@@ -1,12 +1,11 @@
 //! The roster of a week, read and judged after a history.
-ghost use Rattle.std.specs.Prelude.{◌≡◌, ◌⊎◌, IfOk, MatchResult, length};
+ghost use Rattle.std.specs.Prelude.{◌≡◌, IfOk, MatchResult, length};
 ghost use Rattle.rota_core.specs.InstanceTables.{problem_of};
 ghost use Rattle.rota_core.specs.RosterTables.{HasShapeOf, set_of};
 ghost use Rattle.rota_pb.specs.Extending.{BreaksRule};
 ghost use Rattle.rota_pb.specs.RunPorts.{reader_of};
-ghost use Rattle.rota_pb.specs.declared.fault.Fault.TheVariants.{Memory};
 ghost use Rattle.rota_certificate.specs.Plans.{History, after};
-ghost use Rattle.rota_bound_run.specs.JudgedWeeks.{ArePastsIn, IsJudgedWeek};
+ghost use Rattle.rota_bound_run.specs.JudgedWeeks.{ArePastsIn, IsJudgedWeek, IsPenalty};
 ghost use Rattle.rota_bound_run.specs.Judging.{judge_week};
 ghost use Rattle.rota_bound_run.specs.PeriodSteps.{EndsAs};
 
@@ -25,24 +24,18 @@ pub struct JudgedWeek {
     pub pasts: Vec<Past>,
 }
 
-// Judges the roster: `Breaks` with the first hard rule that it breaks.
-fn judge(alloc: Global, week: &Instance, roster: Roster) -> Result<JudgedWeek, Fault>
-    requires shape { HasShapeOf (problem_of week.now) roster }
-    ensures { MatchResult result (IsJudgedWeek (problem_of week.now) roster)
-        (λ fault. (fault ≡ Memory) ⊎ BreaksRule (problem_of week.now) (set_of roster) fault) }
+// The penalty of the roster: `Breaks` with the first hard rule that it breaks.
+fn penalty_of(week: &Instance, roster: &Roster) -> Result<u64, Fault>
+    requires shape { HasShapeOf (problem_of week.now) roster.now }
+    ensures { let set = set_of roster.now in MatchResult result (IsPenalty (problem_of week.now) set) (BreaksRule (problem_of week.now) set) }
 {
     instances_are_within_limits();
     penalty_is_small();
-    let verdict = verdict_of(week, Judge::of_roster(week, &roster));
+    let verdict = verdict_of(week, Judge::of_roster(week, roster));
     if let Some((_, rule)) = verdict.unmet {
         return Err(Fault::Breaks(rule));
     }
-    let pasts = pasts_after(alloc, week, &roster)?;
-    Ok(JudgedWeek {
-        roster,
-        penalty: verdict.objective,
-        pasts,
-    })
+    Ok(verdict.objective)
 }
 
 /// Reads the roster of the week, and judges it after a history with these pasts of the nurses. The week is as before.
@@ -72,7 +65,13 @@ pub(crate) fn judge_week<S: Source>(
     }
     let roster = read_roster(alloc, week, file)?;
     let first = week.replace_pasts(pasts);
-    let judged = judge(alloc, week, roster);
-    let _ = week.replace_pasts(first);
-    judged
+    let judged = penalty_of(week, &roster);
+    let pasts = week.replace_pasts(first);
+    let penalty = judged?;
+    let pasts = pasts_after(week, &roster, pasts);
+    Ok(JudgedWeek {
+        roster,
+        penalty,
+        pasts,
+    })
 }

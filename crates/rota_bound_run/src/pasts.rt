@@ -3,6 +3,7 @@ ghost use Rattle.std.specs.Prelude.{◌≡◌, ◌<◌, ℕ, IfOk, true, length,
 ghost use Rattle.rota_core.specs.Defaults.{no_past};
 ghost use Rattle.rota_core.specs.HardRules.{KeepsHardRules};
 ghost use Rattle.rota_core.specs.InstanceTables.{problem_of};
+ghost use Rattle.rota_core.specs.Pasts.{ArePasts, with_pasts};
 ghost use Rattle.rota_core.specs.RosterTables.{HasShapeOf, set_of};
 ghost use Rattle.rota_core.specs.WeekTables.{IsPast};
 ghost use Rattle.rota_certificate.specs.Plans.{history_after};
@@ -52,19 +53,19 @@ pub(crate) fn pasts_before(alloc: Global, week: &Instance) -> Result<Vec<Past>, 
     Ok(pasts)
 }
 
-/// The pasts of the nurses after the week with this roster.
-pub(crate) fn pasts_after(
-    alloc: Global,
-    week: &Instance,
-    roster: &Roster,
-) -> Result<Vec<Past>, AllocError>
+/// The pasts of the nurses after the week with this roster, if these are the pasts before it.
+pub(crate) fn pasts_after(week: &Instance, roster: &Roster, pasts: Vec<Past>) -> Vec<Past>
     requires shape { HasShapeOf (problem_of week.now) roster.now }
-    requires keeps { KeepsHardRules (problem_of week.now) (set_of roster.now) }
-    ensures { IfOk result (λ pasts. ArePastsIn (problem_of week.now).nurses (history_after (problem_of week.now) (set_of roster.now)) pasts.items) }
+    requires pasts { ArePasts (problem_of week.now).numbers pasts.items }
+    requires keeps { KeepsHardRules (problem_of (with_pasts week.now pasts.items)) (set_of roster.now) }
+    ensures { let before = problem_of (with_pasts week.now pasts.items) in
+        ArePastsIn before.nurses (history_after before (set_of roster.now)) result.items }
 {
-    let mut pasts = Vec::new(alloc);
+    let mut pasts = pasts;
     for nurse in 0..week.nurses() {
-        pasts.push(past_after_week(week, roster, nurse, week.past(nurse)))?;
+        let index = usize::from(nurse);
+        let past = past_after_week(week, roster, nurse, pasts[index]);
+        pasts[index] = past;
     }
-    Ok(pasts)
+    pasts
 }

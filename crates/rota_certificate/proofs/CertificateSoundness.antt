@@ -1,7 +1,7 @@
 -- The bound of a certificate is at most the cost of each plan that meets the given conditions.
 use Rattle.std.proofs.Common.{◌≡◌, ℕ, zero, suc, ◌*◌, ◌<◌, ◌≤◌, sym, refl, subst, arith, List, [], ◌∷◌, length, map, reverse, slice_index_or}
 use Rattle.std.specs.List.{AllByRecursion}
-use Rattle.rota_core.specs.Certificates.{AreConditionsFor, IsCertificateFor, IsFactFor, IsLeafFor, IsNodeFor}
+use Rattle.rota_core.specs.Certificates.{IsFactFor, IsLeafFor, IsNodeFor}
 use Rattle.rota_core.specs.PriceTables.{PriceTables, prices_of}
 use Rattle.rota_core.specs.Prices.{ArePrices}
 use Rattle.rota_core.specs.Problem.{Problem}
@@ -13,10 +13,12 @@ use Rattle.rota_core.specs.declared.certificate.Fact.{Fact}
 use Rattle.rota_core.specs.declared.certificate.Leaf.{Leaf}
 use Rattle.rota_core.specs.declared.certificate.Node.{Node}
 use Rattle.rota_core.specs.declared.certificate.Node.TheVariants as nodes
-use Rattle.rota_certificate.specs.CertificateBounds.{HaveTables, CasePath, bound_at, case_of, lower_bound, minimums_bound, prices_of_leaf, rounded_up, thousandths}
+use Rattle.rota_certificate.specs.CertificateBounds.{CasePath, bound_at, case_of, lower_bound, minimums_bound, prices_of_leaf, rounded_up, thousandths}
 use Rattle.rota_certificate.specs.Facts.{Case, IsIn, Meets, charges_of_all, nurses_of}
 use Rattle.rota_certificate.specs.LeafBounds.{leaf_bound}
-use Rattle.rota_certificate.specs.Plans.{ArePeriod, KeepRules, Plan, plan_cost, plan_of}
+use Rattle.rota_certificate.specs.Optimality.{KeepAndMeet}
+use Rattle.rota_certificate.specs.PeriodBounds.{AreEvidenceFor, HaveNoPlan, NoneCostLess}
+use Rattle.rota_certificate.specs.Plans.{Plan, plan_cost, plan_of}
 use Rattle.rota_certificate.proofs.LeafSoundness.{leaf-within, nurses-are}
 use Rattle.rota_certificate.proofs.LeafWeeks.{have-nurses, plan-keeps}
 use Rattle.rota_certificate.proofs.ListSteps.{all-append, all-reverse}
@@ -39,10 +41,9 @@ tables-at (first ∷ lists) (suc i) within = tables-at lists i within.1
 
 -- ---- the bound
 
-module _ (first : Problem) (later : List Problem) (given : Case) (certificate : Certificate) (rosters : List Roster)
-    (is_for : IsCertificateFor first (length (first ∷ later)) certificate) (tables : HaveTables certificate)
-    (given_for : AreConditionsFor first.numbers (length (first ∷ later)) given) (period : ArePeriod (first ∷ later))
-    (keep : KeepRules (first ∷ later) rosters) (meet : IsIn (plan_of (first ∷ later) rosters) given) where
+module _ (first : Problem) (later : List Problem) (given : Case) (certificate : Certificate)
+    (evidence : AreEvidenceFor first later given certificate) (rosters : List Roster)
+    (do_so : KeepAndMeet (first ∷ later) given rosters) where
   abbrev problems : List Problem
   problems = first ∷ later
 
@@ -65,41 +66,51 @@ module _ (first : Problem) (later : List Problem) (given : Case) (certificate : 
   nodes-pass (node ∷ list) all = (node-passes node all.0, nodes-pass list all.1)
 
   nurses_are : nurses_of plan ≡ first.nurses
-  nurses_are = nurses-are first later rosters keep.count
+  nurses_are = nurses-are first later rosters do_so.keep.count
 
   have : HaveNurses (nurses_of plan) plan
   have =
-      subst (λ (n : ℕ). HaveNurses n plan) (sym nurses_are) (have-nurses first.numbers plan (plan-keeps first later rosters period keep))
+      subst (λ (n : ℕ). HaveNurses n plan) (sym nurses_are) (have-nurses first.numbers plan (plan-keeps first later rosters evidence.period do_so.keep))
 
   -- the bound of a leaf in thousandths of a point, or without the soft rules
   leaf-sound : (unit : ℕ) (surcharges : List ℕ) (path : CasePath) (leaf : Leaf) → AllFacts plan IsForPlan path → IsIn plan path →
       leaf_bound unit problems (case_of path given) (prices_of_leaf certificate leaf) surcharges ≤ unit * plan_cost plan
   leaf-sound unit surcharges path leaf facts is_in =
-      leaf-within first later rosters period keep unit (length problems) (case_of path given) (prices_of_leaf certificate leaf)
-      (tables-at (map (λ list. list.items) certificate.prices.items) leaf.prices tables)
-      (all-append (λ (one : Condition). IsForPlan one.fact) (reverse path) given (all-reverse (λ (one : Condition). IsForPlan one.fact) path facts) given_for)
-      (all-append (Meets plan) (reverse path) given (all-reverse (Meets plan) path is_in) meet) surcharges
+      leaf-within first later rosters evidence.period do_so.keep unit (length problems) (case_of path given) (prices_of_leaf certificate leaf)
+      (tables-at (map (λ list. list.items) certificate.prices.items) leaf.prices evidence.tables)
+      (all-append (λ (one : Condition). IsForPlan one.fact) (reverse path) given (all-reverse (λ (one : Condition). IsForPlan one.fact) path facts) evidence.given_for)
+      (all-append (Meets plan) (reverse path) given (all-reverse (Meets plan) path is_in) do_so.meet) surcharges
 
   leaf-rounded : (path : CasePath) (leaf : Leaf) → AllFacts plan IsForPlan path → IsLeafOf leaf → IsIn plan path →
       rounded_up (case_of path given) (bound_at thousandths problems given certificate path leaf) ≤ plan_cost plan
   leaf-rounded path leaf facts is_leaf is_in =
       let tenths = plan-tenths (nurses_of plan) plan have in
       rounded-within plan (case_of path given) (charges_of_all ShiftRuns plan) tenths.0 (bound_at thousandths problems given certificate path leaf)
-      (plan_cost plan) (all-append (Meets plan) (reverse path) given (all-reverse (Meets plan) path is_in) meet) refl tenths.1
+      (plan_cost plan) (all-append (Meets plan) (reverse path) given (all-reverse (Meets plan) path is_in) do_so.meet) refl tenths.1
       (leaf-sound thousandths leaf.surcharges.items path leaf facts is_in)
 
-  -- no plan that meets the conditions costs less than the bound
-  pub lower_bound-sound : lower_bound problems given certificate ≤ plan_cost plan
-  lower_bound-sound =
+  -- the plan costs no less than the bound
+  costs-bound : lower_bound problems given certificate ≤ plan_cost plan
+  costs-bound =
       tree-sound plan IsForPlan (plan_cost plan)
       (λ path leaf. rounded_up (case_of path given) (bound_at thousandths problems given certificate path leaf)) IsLeafOf leaf-rounded
-      [] certificate.nodes.items tt (nodes-pass certificate.nodes.items is_for.nodes) (root-covered plan IsForPlan)
+      [] certificate.nodes.items tt (nodes-pass certificate.nodes.items evidence.is_for.nodes) (root-covered plan IsForPlan)
 
-  -- no plan meets the conditions if the bound without the soft rules is above 0
-  pub minimums-prove : 0 < minimums_bound problems given certificate → ⊥
-  minimums-prove above =
+  -- there is no such plan if the bound without the soft rules is above 0
+  costs-minimums : 0 < minimums_bound problems given certificate → ⊥
+  costs-minimums above =
       let below = tree-sound plan IsForPlan 0
       (λ path leaf. leaf_bound 0 problems (case_of path given) (prices_of_leaf certificate leaf) []) IsLeafOf
       (λ path leaf facts is_leaf is_in. omega (arith, leaf-sound 0 [] path leaf facts is_in))
-      [] certificate.nodes.items tt (nodes-pass certificate.nodes.items is_for.nodes) (root-covered plan IsForPlan) in
+      [] certificate.nodes.items tt (nodes-pass certificate.nodes.items evidence.is_for.nodes) (root-covered plan IsForPlan) in
       absurd (omega (arith, above, below))
+
+module _ (first : Problem) (later : List Problem) (given : Case) (certificate : Certificate)
+    (evidence : AreEvidenceFor first later given certificate) where
+  -- no plan that meets the conditions costs less than the bound
+  pub lower_bound-sound : NoneCostLess (first ∷ later) given (lower_bound (first ∷ later) given certificate)
+  lower_bound-sound = λ rosters do_so. costs-bound first later given certificate evidence rosters do_so
+
+  -- no plan meets the conditions if the bound without the soft rules is above 0
+  pub minimums-prove : 0 < minimums_bound (first ∷ later) given certificate → HaveNoPlan (first ∷ later) given
+  minimums-prove above = λ rosters do_so. costs-minimums first later given certificate evidence rosters do_so above

@@ -9,6 +9,7 @@ use Rattle.rota_core.specs.Prices.{Prices}
 use Rattle.rota_core.specs.Problem.{Problem}
 use Rattle.rota_core.specs.Sizes.{Numbers}
 use Rattle.rota_core.specs.declared.certificate.Certificate.{Certificate}
+use Rattle.rota_certificate.specs.CaseLimits.{IsLimitedCase}
 use Rattle.rota_certificate.specs.CertificateBounds.{lists_of}
 use Rattle.rota_certificate.specs.Facts.{Case}
 use Rattle.rota_certificate.specs.PeriodBounds.{IsForWeeks, IsPeriod}
@@ -93,8 +94,8 @@ pub list-at : {X : Type 0} (f : X → List PriceTables) (xs : List X) (i : ℕ) 
 list-at f xs i x inside is = ap f is ∙ sym (get_or-map f xs i x [] inside)
 
 module _ (leaf : LentLeaf) (weeks : List InstanceTables) (list : List PriceTables) (lent : AreLent leaf.weeks.now weeks list) where
-  pub lent-leaf : IsPeriod weeks → AreForWeeks weeks list → IsLeaf leaf
-  lent-leaf period shapes =
+  pub lent-leaf : IsPeriod weeks → AreForWeeks weeks list → IsLimitedCase leaf.case.now → IsLeaf leaf
+  lent-leaf period shapes case =
       let mine : AreForWeeks (instances leaf.weeks.now) (tables leaf.weeks.now) =
       subst (λ (ts : List PriceTables). AreForWeeks (instances leaf.weeks.now) ts) (sym lent.tables)
       (subst (λ (ws : List InstanceTables). AreForWeeks ws list) (sym lent.instances) shapes) in
@@ -102,6 +103,7 @@ module _ (leaf : LentLeaf) (weeks : List InstanceTables) (list : List PriceTable
         some = some-weeks leaf.weeks.now (tables leaf.weeks.now) mine;
         count = omega (arith, length-map leaf.weeks.now (λ one. one.instance.now), ap length lent.instances, period.count);
         fit = all-fit leaf.weeks.now mine (subst (λ (ws : List InstanceTables). ArePeriod (map problem_of ws)) (sym lent.instances) period.period);
+        case = case;
       }
 
   pub lent-problems : map week_lent leaf.weeks.now ≡ map problem_of weeks

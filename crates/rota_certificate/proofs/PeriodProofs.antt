@@ -5,6 +5,7 @@ use Rattle.std.proofs.lemmas.List.{length-map}
 use Rattle.rota_core.specs.Certificates.{AreConditionsFor, IsCertificateFor, IsFactFor, IsLeafFor, IsNodeFor}
 use Rattle.rota_core.specs.InstanceTables.{InstanceTables, problem_of}
 use Rattle.rota_core.specs.Limits.{max_number}
+use Rattle.rota_core.specs.Problem.{Problem}
 use Rattle.rota_core.specs.Sizes.{Numbers}
 use Rattle.rota_core.specs.declared.certificate.Certificate.{Certificate}
 use Rattle.rota_core.specs.declared.certificate.Condition.{Condition}
@@ -15,7 +16,7 @@ use Rattle.rota_core.specs.declared.certificate.Node.TheVariants as nodes
 use Rattle.rota_certificate.specs.CaseLimits.{IsLimited}
 use Rattle.rota_certificate.specs.CertificateBounds.{HaveTables, lower_bound, minimums_bound}
 use Rattle.rota_certificate.specs.Facts.{Case}
-use Rattle.rota_certificate.specs.PeriodBounds.{AreGivenFor, AreOptimalAt, HaveNoPlan, IsForWeeks, IsPeriod, NoneCostLess}
+use Rattle.rota_certificate.specs.PeriodBounds.{AreEvidence, AreEvidenceFor, AreOptimalAt, HaveNoPlan, IsForWeeks, NoneCostLess}
 use Rattle.rota_certificate.specs.Plans.{plan_cost, plan_of}
 use Rattle.rota_certificate.proofs.CertificateSoundness.{lower_bound-sound, minimums-prove}
 use Rattle.rota_certificate.proofs.LeafStages.{all-map}
@@ -60,33 +61,35 @@ node-count (first ∷ later) certificate is_for = is_for.count
 -- ---- soundness
 
 module _ (given : Case) (certificate : Certificate) (tables : HaveTables certificate) where
-  pub none-cost_less : (weeks : List InstanceTables) → IsPeriod weeks → AreGivenFor weeks given → IsForWeeks weeks certificate →
+  for-problems : (first : InstanceTables) (later : List InstanceTables) → AreEvidence (first ∷ later) given certificate →
+      AreEvidenceFor (problem_of first) (map problem_of later) given certificate
+  for-problems first later evidence =
+      let count = sym (length-map (first ∷ later) problem_of) in
+      record {
+        period = evidence.period.period;
+        given_for = subst (λ (n : ℕ). AreConditionsFor (problem_of first).numbers n given) count evidence.given_for.each;
+        is_for = subst (λ (n : ℕ). IsCertificateFor (problem_of first) n certificate) count evidence.is_for;
+        tables = tables;
+      }
+
+  pub none-cost_less : (weeks : List InstanceTables) → AreEvidence weeks given certificate →
       NoneCostLess (map problem_of weeks) given (lower_bound (map problem_of weeks) given certificate)
-  none-cost_less [] period are_given is_for = absurd is_for
-  none-cost_less (first ∷ later) period are_given is_for =
-      let count = sym (length-map (first ∷ later) problem_of) in
-      λ rosters keep meet.
-      lower_bound-sound (problem_of first) (map problem_of later) given certificate rosters
-      (subst (λ (n : ℕ). IsCertificateFor (problem_of first) n certificate) count is_for) tables
-      (subst (λ (n : ℕ). AreConditionsFor (problem_of first).numbers n given) count are_given.each) period.period keep meet
+  none-cost_less [] evidence = absurd evidence.is_for
+  none-cost_less (first ∷ later) evidence =
+      lower_bound-sound (problem_of first) (map problem_of later) given certificate (for-problems first later evidence)
 
-  pub have-no-plan : (weeks : List InstanceTables) → IsPeriod weeks → AreGivenFor weeks given → IsForWeeks weeks certificate →
+  pub have-no-plan : (weeks : List InstanceTables) → AreEvidence weeks given certificate →
       0 < minimums_bound (map problem_of weeks) given certificate → HaveNoPlan (map problem_of weeks) given
-  have-no-plan [] period are_given is_for above = absurd is_for
-  have-no-plan (first ∷ later) period are_given is_for above =
-      let count = sym (length-map (first ∷ later) problem_of) in
-      λ rosters keep meet.
-      minimums-prove (problem_of first) (map problem_of later) given certificate rosters
-      (subst (λ (n : ℕ). IsCertificateFor (problem_of first) n certificate) count is_for) tables
-      (subst (λ (n : ℕ). AreConditionsFor (problem_of first).numbers n given) count are_given.each) period.period keep meet above
+  have-no-plan [] evidence above = absurd evidence.is_for
+  have-no-plan (first ∷ later) evidence above =
+      minimums-prove (problem_of first) (map problem_of later) given certificate (for-problems first later evidence) above
 
-pub are-optimal : (weeks : List InstanceTables) (given : Case) (points : ℕ) → NoneCostLess (map problem_of weeks) given points →
-    AreOptimalAt (map problem_of weeks) given points
+-- rosters that cost as much as a bound are optimal
+pub are-optimal : (weeks : List Problem) (given : Case) (points : ℕ) → NoneCostLess weeks given points → AreOptimalAt weeks given points
 are-optimal weeks given points none =
-    λ rosters keep meet same.
+    λ rosters do_so same.
     record {
-      keep = keep;
-      meet = meet;
-      least = λ others keep_too meet_too.
-          subst (λ (cost : ℕ). cost ≤ plan_cost (plan_of (map problem_of weeks) others)) (sym same) (none others keep_too meet_too);
+      do_so = do_so;
+      least = λ others do_too.
+          subst (λ (cost : ℕ). cost ≤ plan_cost (plan_of weeks others)) (sym same) (none others do_too);
     }

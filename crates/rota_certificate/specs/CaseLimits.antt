@@ -1,9 +1,10 @@
 -- The numbers of a case's facts and surcharges are within the limits of files.
-use Rattle.std.specs.Prelude.{ℕ, ◌*◌, ◌≤◌, ⊤, List, length}
+use Rattle.std.specs.Prelude.{ℕ, ◌+◌, ◌*◌, ◌≤◌, ⊤, List, length}
 use Rattle.std.specs.List.{AllByRecursion}
 use Rattle.rota_core.specs.Limits.{max_number, max_price}
 use Rattle.rota_core.specs.declared.certificate.Fact.{Fact}
 use Rattle.rota_core.specs.declared.certificate.Fact.TheVariants.{Charges, Choice, EvenShiftRuns, Nurses}
+use Rattle.rota_core.specs.declared.values.Demand.{Demand}
 use Rattle.rota_certificate.specs.Facts.{Case}
 use Rattle.rota_certificate.specs.declared.surcharges.Surcharged.{Surcharged}
 
@@ -29,3 +30,12 @@ pub record AreLimitedCharges (charges : List Surcharged) : Type 0 where
   pub few : length charges ≤ most_conditions
   pub each : AllByRecursion (λ one. IsLimited one.condition.fact) charges
   pub small : AllByRecursion (λ one. one.surcharge ≤ max_price) charges
+
+-- the minimum of the demand is at most this number, and its optimal number is a number of a file
+pub record IsLimitedDemand (most : ℕ) (demand : Demand) : Type 0 where
+  pub minimum : demand.minimum ≤ most
+  pub optimal : demand.optimal ≤ max_number
+
+-- the maximum of a minimum in a case: "more than k nurses" asks for k + 1
+abbrev pub most_nurses : ℕ
+most_nurses = max_number + 1

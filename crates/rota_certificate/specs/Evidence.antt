@@ -11,17 +11,15 @@ use Rattle.rota_certificate.specs.CaseLimits.{IsLimited}
 use Rattle.rota_certificate.specs.CertificateBounds.{CasePath, case_of, prices_of_leaf, rounded_up, thousandths}
 use Rattle.rota_certificate.specs.Facts.{Case}
 use Rattle.rota_certificate.specs.LeafBounds.{leaf_bound}
-use Rattle.rota_certificate.specs.PeriodBounds.{AreGivenFor, IsForWeeks, IsPeriod}
+use Rattle.rota_certificate.specs.PeriodBounds.{AreEvidence}
 use Rattle.rota_certificate.specs.declared.stages.LentWeek.{LentWeek}
 use Rattle.rota_certificate.specs.declared.tree.Evidence.{Evidence}
 use Rattle.rota_certificate.specs.declared.tree.Rules.{Rules}
 use Rattle.rota_certificate.specs.declared.tree.Rules.TheVariants as rules
 
 -- the weeks make a period, and the given conditions and the certificate are for them
-pub record IsEvidence (evidence : Evidence) : Type 0 where
-  pub period : IsPeriod evidence.weeks.now
-  pub given : AreGivenFor evidence.weeks.now evidence.given.now
-  pub certificate : IsForWeeks evidence.weeks.now evidence.certificate.now
+abbrev pub IsEvidence : Evidence → Type 0
+IsEvidence evidence = AreEvidence evidence.weeks.now evidence.given.now evidence.certificate.now
 
 -- the path has at most this number of conditions, and their numbers are within the limits of files
 pub record IsShortPath (most : ℕ) (path : List Condition) : Type 0 where

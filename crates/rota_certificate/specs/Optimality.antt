@@ -5,24 +5,26 @@ use Rattle.rota_core.specs.Roster.{Roster}
 use Rattle.rota_certificate.specs.Facts.{Case, IsIn}
 use Rattle.rota_certificate.specs.Plans.{KeepRules, plan_cost, plan_of}
 
--- these rosters keep the hard rules of the weeks and meet the given conditions, and no others that do so cost less
-pub record AreOptimal (weeks : List Problem) (given : Case) (rosters : List Roster) : Type 0 where
+-- these rosters keep the hard rules of the weeks and meet the given conditions
+pub record KeepAndMeet (weeks : List Problem) (given : Case) (rosters : List Roster) : Type 0 where
   pub keep : KeepRules weeks rosters
   pub meet : IsIn (plan_of weeks rosters) given
-  pub least : (others : List Roster) → KeepRules weeks others → IsIn (plan_of weeks others) given →
+
+-- these rosters do so, and no others that do so cost less
+pub record AreOptimal (weeks : List Problem) (given : Case) (rosters : List Roster) : Type 0 where
+  pub do_so : KeepAndMeet weeks given rosters
+  pub least : (others : List Roster) → KeepAndMeet weeks given others →
       plan_cost (plan_of weeks rosters) ≤ plan_cost (plan_of weeks others)
 
 -- no rosters that keep the hard rules of the weeks and meet the given conditions cost less than this number of points
 abbrev pub NoneCostLess : List Problem → (given : Case) → (points : ℕ) → Type 0
-NoneCostLess weeks given points =
-    (rosters : List Roster) → KeepRules weeks rosters → IsIn (plan_of weeks rosters) given → points ≤ plan_cost (plan_of weeks rosters)
+NoneCostLess weeks given points = (rosters : List Roster) → KeepAndMeet weeks given rosters → points ≤ plan_cost (plan_of weeks rosters)
 
 -- rosters that keep the hard rules of the weeks, meet the given conditions, and cost this number of points, are optimal
 abbrev pub AreOptimalAt : List Problem → (given : Case) → (points : ℕ) → Type 0
 AreOptimalAt weeks given points =
-    (rosters : List Roster) → KeepRules weeks rosters → IsIn (plan_of weeks rosters) given → plan_cost (plan_of weeks rosters) ≡ points →
-    AreOptimal weeks given rosters
+    (rosters : List Roster) → KeepAndMeet weeks given rosters → plan_cost (plan_of weeks rosters) ≡ points → AreOptimal weeks given rosters
 
 -- no rosters keep the hard rules of the weeks and meet the given conditions
 abbrev pub HaveNoPlan : List Problem → (given : Case) → Type 0
-HaveNoPlan weeks given = (rosters : List Roster) → KeepRules weeks rosters → IsIn (plan_of weeks rosters) given → ⊥
+HaveNoPlan weeks given = (rosters : List Roster) → KeepAndMeet weeks given rosters → ⊥

@@ -3,7 +3,9 @@ use Rattle.std.specs.Prelude.{◌≤◌, List, [], ◌∷◌, length, map}
 use Rattle.rota_core.specs.Certificates.{AreConditionsFor, IsCertificateFor}
 use Rattle.rota_core.specs.InstanceTables.{InstanceTables, problem_of}
 use Rattle.rota_core.specs.Limits.{max_number, max_weeks}
+use Rattle.rota_core.specs.Problem.{Problem}
 use Rattle.rota_core.specs.declared.certificate.Certificate.{Certificate}
+use Rattle.rota_certificate.specs.CertificateBounds.{HaveTables}
 use Rattle.rota_certificate.specs.CountedCharges.{numbers_in}
 use Rattle.rota_certificate.specs.Facts.{Case}
 pub use Rattle.rota_certificate.specs.Optimality.{AreOptimalAt, HaveNoPlan, NoneCostLess}
@@ -23,3 +25,16 @@ pub record AreGivenFor (weeks : List InstanceTables) (given : Case) : Type 0 whe
 abbrev pub IsForWeeks : List InstanceTables → Certificate → Type 0
 IsForWeeks [] certificate = ⊥
 IsForWeeks (first ∷ later) certificate = IsCertificateFor (problem_of first) (length (first ∷ later)) certificate
+
+-- the weeks make a period, and the given conditions and the certificate are for them
+pub record AreEvidence (weeks : List InstanceTables) (given : Case) (certificate : Certificate) : Type 0 where
+  pub period : IsPeriod weeks
+  pub given_for : AreGivenFor weeks given
+  pub is_for : IsForWeeks weeks certificate
+
+-- the same of weeks without their tables, for a certificate with prices up to the maximum
+pub record AreEvidenceFor (first : Problem) (later : List Problem) (given : Case) (certificate : Certificate) : Type 0 where
+  pub period : ArePeriod (first ∷ later)
+  pub given_for : AreConditionsFor first.numbers (length (first ∷ later)) given
+  pub is_for : IsCertificateFor first (length (first ∷ later)) certificate
+  pub tables : HaveTables certificate

@@ -8,6 +8,7 @@ use Rattle.rota_core.specs.Prices.{Prices}
 use Rattle.rota_core.specs.Problem.{Problem}
 use Rattle.rota_core.specs.Sizes.{DAYS}
 use Rattle.rota_core.specs.declared.values.Past.{Past}
+use Rattle.rota_certificate.specs.CaseLimits.{IsLimitedCase}
 use Rattle.rota_certificate.specs.CertificateBounds.{thousandths}
 use Rattle.rota_certificate.specs.DayCharges.{day_cost}
 use Rattle.rota_certificate.specs.LeafBounds.{leaf_weeks, may_choose}
@@ -41,11 +42,12 @@ abbrev pub AreFit : List LentWeek → Type 0
 AreFit [] = ⊤
 AreFit (first ∷ later) = AllByRecursion (Fits (week_lent first)) (first ∷ later)
 
--- the leaf has at least one week and at most `max_weeks`, and all fit the first
+-- the leaf has at least one week and at most `max_weeks`, all fit the first, and the numbers of its case are within their limits
 pub record IsLeaf (leaf : LentLeaf) : Type 0 where
   pub some : 0 < length leaf.weeks.now
   pub count : length leaf.weeks.now ≤ max_weeks
   pub fit : AreFit leaf.weeks.now
+  pub case : IsLimitedCase leaf.case.now
 
 -- ---- a week of the search
 

@@ -3,7 +3,7 @@
 ghost use Rattle.std.specs.Prelude.{◌≡◌, ◌≤◌, ◌<◌, length, slice_index_or};
 ghost use Rattle.rota_core.specs.Limits.{max_number};
 ghost use Rattle.rota_certificate.specs.PlaceCases.{case_demand, is_at, lowered_by, lowered_optimal, raised_by, raised_minimum};
-ghost use Rattle.rota_certificate.specs.CaseLimits.{IsLimited, IsLimitedCase};
+ghost use Rattle.rota_certificate.specs.CaseLimits.{IsLimited, IsLimitedCase, IsLimitedDemand, most_nurses};
 
 use rota_core::{Condition, Demand, Fact, NurseLimit};
 
@@ -33,9 +33,9 @@ fn is_at(limit: NurseLimit, place: Place) -> bool
 // The minimum, or more if the condition asks for more than some number of nurses at the place.
 fn raised_by(condition: Condition, place: Place, minimum: u16) -> u16
     requires limited { IsLimited condition.fact }
-    requires small { minimum ≤ 10000 }
+    requires small { minimum ≤ most_nurses }
     ensures minimum { result ≡ raised_by condition.fact condition.holds place.week place.day place.shift place.skill minimum }
-    ensures small { result ≤ 10000 }
+    ensures small { result ≤ most_nurses }
 {
     match (condition.fact, condition.holds) {
         (Fact::Nurses(limit), false) if is_at(limit, place) => minimum.max(limit.most + 1),
@@ -66,11 +66,9 @@ pub fn condition_at(case: &[Condition], index: usize) -> Condition
 /// The demand of the place in the case.
 pub fn case_demand(case: &[Condition], place: Place, demand: Demand) -> Demand
     requires limited { IsLimitedCase case.now }
-    requires minimum_in { demand.minimum ≤ max_number }
-    requires optimal_in { demand.optimal ≤ max_number }
+    requires demand { IsLimitedDemand max_number demand }
     ensures demand { result ≡ case_demand case.now place.week place.day place.shift place.skill demand }
-    ensures minimum_in { result.minimum ≤ 10000 }
-    ensures optimal_in { result.optimal ≤ max_number }
+    ensures within { IsLimitedDemand most_nurses result }
 {
     let mut minimum = demand.minimum;
     let mut optimal = demand.optimal;

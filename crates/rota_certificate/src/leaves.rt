@@ -4,7 +4,7 @@ ghost use Rattle.std.specs.Prelude.{◌≡◌, ◌≤◌, ◌*◌, IfOk, IfSome,
 ghost use Rattle.std.specs.List.{AllByRecursion};
 ghost use Rattle.rota_core.specs.Limits.{max_price};
 ghost use Rattle.rota_core.specs.SumsBelow.{sum_below};
-ghost use Rattle.rota_certificate.specs.CaseLimits.{AreLimitedCharges, IsLimitedCase};
+ghost use Rattle.rota_certificate.specs.CaseLimits.{AreLimitedCharges};
 ghost use Rattle.rota_certificate.specs.CertificateBounds.{thousandths};
 ghost use Rattle.rota_certificate.specs.KnownCosts.{HasEntries};
 ghost use Rattle.rota_certificate.specs.LeafBounds.{added_prices, bound_of_leaf, leaf_bound, most_bound, nurse_count};
@@ -74,7 +74,6 @@ fn added_prices(leaf: &LentLeaf<'_>) -> u64
 fn bound_of_leaf(unit: u64, leaf: &LentLeaf<'_>, charges: &[Surcharged], known: &mut Known) -> u64
     requires unit_in { unit ≤ thousandths }
     requires leaf { IsLeaf leaf.now }
-    requires case { IsLimitedCase leaf.now.case.now }
     requires limited { AreLimitedCharges charges.now }
     requires entries { HasEntries known.old }
     ensures entries { HasEntries known.new }
@@ -107,7 +106,6 @@ pub fn leaf_bound(
 ) -> Result<u64, AllocError>
     requires unit_in { unit ≤ thousandths }
     requires leaf { IsLeaf leaf.now }
-    requires case { IsLimitedCase leaf.now.case.now }
     requires surcharges { AllByRecursion (λ surcharge. surcharge ≤ max_price) surcharges.now }
     requires entries { HasEntries known.old }
     ensures entries { HasEntries known.new }

@@ -7,7 +7,7 @@ ghost use Rattle.rota_core.specs.PriceTables.{IsForWeek, prices_of};
 ghost use Rattle.rota_core.specs.Prices.{max_price};
 ghost use Rattle.rota_core.specs.SumsBelow.{sum_below};
 ghost use Rattle.rota_items.specs.rules.OptimalCoverage.Cost.{optimum_weight};
-ghost use Rattle.rota_certificate.specs.CaseLimits.{IsLimitedCase};
+ghost use Rattle.rota_certificate.specs.CaseLimits.{IsLimitedCase, IsLimitedDemand, most_nurses};
 ghost use Rattle.rota_certificate.specs.CertificateBounds.{thousandths};
 ghost use Rattle.rota_certificate.specs.LeafBounds.{leaf_place_bounds};
 ghost use Rattle.rota_certificate.specs.PlaceBounds.{place_bound, place_cost};
@@ -23,7 +23,7 @@ use rota_items::OPTIMUM_WEIGHT;
 // The price of this number of nurses.
 fn price_of(price: u32, nurses: u16) -> u64
     requires price_in { price ≤ max_price }
-    requires nurses_in { nurses ≤ 10000 }
+    requires nurses_in { nurses ≤ most_nurses }
     ensures product { result ≡ price * nurses }
     ensures small { result ≤ 10000000000000 }
 {
@@ -43,7 +43,7 @@ fn missing_cost(unit: u64, missing: u16) -> u64
 fn place_cost(unit: u64, demand: Demand, price: u32, nurses: u16) -> u64
     requires unit_in { unit ≤ thousandths }
     requires price_in { price ≤ max_price }
-    requires nurses_in { nurses ≤ 10000 }
+    requires nurses_in { nurses ≤ most_nurses }
     ensures cost { result ≡ place_cost unit demand price nurses }
     ensures small { result ≤ 20000000000000 }
 {
@@ -55,8 +55,7 @@ fn place_cost(unit: u64, demand: Demand, price: u32, nurses: u16) -> u64
 fn place_bound(unit: u64, demand: Demand, price: u32) -> u64
     requires unit_in { unit ≤ thousandths }
     requires price_in { price ≤ max_price }
-    requires minimum_in { demand.minimum ≤ 10000 }
-    requires optimal_in { demand.optimal ≤ max_number }
+    requires demand { IsLimitedDemand most_nurses demand }
     ensures bound { result ≡ place_bound unit demand price }
     ensures small { result ≤ 20000000000000 }
 {
@@ -73,8 +72,7 @@ fn case_place_bound(unit: u64, case: &[Condition], place: Place, demand: Demand,
     requires unit_in { unit ≤ thousandths }
     requires limited { IsLimitedCase case.now }
     requires price_in { price ≤ max_price }
-    requires minimum_in { demand.minimum ≤ max_number }
-    requires optimal_in { demand.optimal ≤ max_number }
+    requires demand { IsLimitedDemand max_number demand }
     ensures bound { result ≡ case_place_bound unit case.now place.week place.day place.shift place.skill demand price }
     ensures small { result ≤ 30000000000000 }
 {
@@ -89,8 +87,7 @@ fn demand_at(instance: &Instance, day: u8, shift: u8, skill: u8) -> Demand
     requires shift_in { shift < (problem_of instance.now).shifts }
     requires skill_in { skill < (problem_of instance.now).skills }
     ensures demand { result ≡ (problem_of instance.now).demand day shift skill }
-    ensures minimum { result.minimum ≤ max_number }
-    ensures optimal { result.optimal ≤ max_number }
+    ensures within { IsLimitedDemand max_number result }
 {
     // The call shows that the week is within the limits.
     let _nurses = instance.nurses();
@@ -165,7 +162,6 @@ fn bounds_of_week(unit: u64, case: &[Condition], one: &LentWeek<'_>, week: usize
 /// The bounds of all places of the leaf.
 pub fn leaf_place_bounds(unit: u64, leaf: &LentLeaf<'_>) -> u64
     requires unit_in { unit ≤ thousandths }
-    requires limited { IsLimitedCase leaf.now.case.now }
     requires leaf { IsLeaf leaf.now }
     ensures bounds { result ≡ leaf_place_bounds unit leaf.now.case.now 0 (weeks_of leaf.now) }
     ensures small { result ≤ max_weeks * (7 * (16 * (16 * 30000000000000))) }

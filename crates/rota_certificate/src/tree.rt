@@ -7,11 +7,10 @@ ghost use Rattle.rota_core.specs.InstanceTables.{problem_of};
 ghost use Rattle.rota_core.specs.Limits.{max_number, max_price};
 ghost use Rattle.rota_core.specs.PriceTables.{prices_of};
 ghost use Rattle.rota_core.specs.Prices.{ArePrices};
-ghost use Rattle.rota_certificate.specs.CaseLimits.{IsLimitedCase};
 ghost use Rattle.rota_certificate.specs.CertificateBounds.{HaveTables, least_bound, lower_bound, minimums_bound, rounded_up, says_even, says_odd};
 ghost use Rattle.rota_certificate.specs.KnownCosts.{HasEntries};
 ghost use Rattle.rota_certificate.specs.LeafBounds.{most_bound};
-ghost use Rattle.rota_certificate.specs.PeriodBounds.{AreGivenFor, AreOptimalAt, HaveNoPlan, IsForWeeks, IsPeriod, NoneCostLess};
+ghost use Rattle.rota_certificate.specs.PeriodBounds.{AreEvidence, AreOptimalAt, HaveNoPlan, NoneCostLess};
 ghost use Rattle.rota_certificate.specs.Evidence.{AreLent, IsShortPath, IsEvidence, bound_asked, bound_by};
 ghost use Rattle.rota_certificate.specs.Stages.{IsLeaf, prices_lent, week_lent};
 
@@ -139,7 +138,6 @@ fn bound_by(
     known: &mut Known,
 ) -> Result<u64, AllocError>
     requires leaf { IsLeaf leaf.now }
-    requires case { IsLimitedCase leaf.now.case.now }
     requires surcharges { AllByRecursion (λ surcharge. surcharge ≤ max_price) surcharges.now }
     requires entries { HasEntries known.old }
     ensures entries { HasEntries known.new }
@@ -216,9 +214,7 @@ pub fn lower_bound(
     given: &[Condition],
     certificate: &Certificate,
 ) -> Result<u64, AllocError>
-    requires period { IsPeriod weeks.now }
-    requires given { AreGivenFor weeks.now given.now }
-    requires certificate { IsForWeeks weeks.now certificate.now }
+    requires { AreEvidence weeks.now given.now certificate.now }
     ensures bound { IfOk result (λ points. points ≡ lower_bound (map problem_of weeks.now) given.now certificate.now) }
     ensures sound { IfOk result (NoneCostLess (map problem_of weeks.now) given.now) }
     ensures optimal { IfOk result (AreOptimalAt (map problem_of weeks.now) given.now) }
@@ -243,9 +239,7 @@ pub fn no_plan_exists(
     given: &[Condition],
     certificate: &Certificate,
 ) -> Result<bool, AllocError>
-    requires period { IsPeriod weeks.now }
-    requires given { AreGivenFor weeks.now given.now }
-    requires certificate { IsForWeeks weeks.now certificate.now }
+    requires { AreEvidence weeks.now given.now certificate.now }
     ensures answer { IfOk result (λ is. is ≡ nat_lt 0 (minimums_bound (map problem_of weeks.now) given.now certificate.now)) }
     ensures sound { IfOk result (λ is. is ≡ true → HaveNoPlan (map problem_of weeks.now) given.now) }
 {

@@ -1,4 +1,5 @@
-use Rattle.std.proofs.Common.{◌≡◌, []}
+use Rattle.std.proofs.Common.{◌≡◌, [], length}
+use Rattle.std.specs.Prelude.{vec_capacity, vec_len}
 use Rattle.rota_pb.specs.RunPorts.{reader_of}
 use Rattle.rota_bound_run.specs.PlanJudged.{judge_next}
 use Rattle.rota_bound_run.proofs.InTurn.{Reads}
@@ -13,4 +14,6 @@ invariant-loop-index g l =
       reads : Reads (judge_next w.weeks) (reader_of g.S.Source) [] w.files l.index l.files l.judged.rosters.items;
       judged : AreJudged w.weeks l.index l.judged.rosters.items l.judged.penalty l.pasts.items;
       same : l.weeks ≡ w.weeks;
+      count : vec_len l.judged.rosters ≡ l.index;
+      room : vec_capacity l.judged.rosters ≡ length w.weeks;
     }

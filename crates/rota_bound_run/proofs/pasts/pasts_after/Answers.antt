@@ -1,19 +1,20 @@
-use Rattle.std.proofs.Common.{arith, sym}
-use Rattle.rota_core.specs.InstanceTables.{problem_of}
-use Rattle.rota_certificate.proofs.Tables.{history-near}
-use Rattle.rota_bound_run.proofs.PastLists.{near-later, no-pasts, one-past-more}
+use Rattle.std.proofs.Common.{◌≡◌, ◌<◌, sym, ◌∙◌, arith, length}
+use Rattle.std.specs.Prelude.{slice_index_or}
+use Rattle.std.proofs.lemmas.List.{get_or_default}
+use Rattle.rota_core.specs.Defaults.{no_past}
+use Rattle.rota_bound_run.proofs.PastLists.{one-more-after}
 use Rattle.rota_bound_run.proofs.pasts.pasts_after.Goals as goal
-
-pub loop-nurse-init : goal.loop-nurse-init
-loop-nurse-init c = no-pasts _ _ c.new-pasts.ensures.items
-
-pub past_after_week-requires-clause-near : goal.past_after_week-requires-clause-near
-past_after_week-requires-clause-near c =
-    rw c.past.ensures.past (near-later _ 0 _ _ (omega arith) (history-near c.args.week.now c.nurses-nurse-end.ensures.limits
-    c.loop-nurse.nurse))
 
 pub loop-nurse-preserved : goal.loop-nurse-preserved
 loop-nurse-preserved c =
-    one-past-more _ c.loop-nurse.pasts.items _ c.loop-nurse.nurse c.past_after_week.result c.loop-nurse.invariant
-    c.in_ok-push.ensures.items
-    (c.past_after_week.ensures.past (problem_of c.args.week.now).past (sym c.past.ensures.past) c.requires.keeps)
+    let before = c.args.pasts.items in
+    let now = c.loop-nurse.pasts.items in
+    let i = c.loop-nurse.nurse in
+    let inv = c.loop-nurse.invariant in
+    let inside : i < length before = omega (arith, c.loop-nurse-test.true, c.nurses-nurse-end.ensures.count, c.requires.pasts.count) in
+    let here : c.index.result.now ≡ slice_index_or before i no_past =
+    (rw c.from-index.ensures at c.index.ensures) ∙ get_or_default now i c.index.result.now no_past (omega (arith, inside, inv.count)) ∙
+    inv.others i (omega arith) in
+    rw c.from-index.ensures
+    (one-more-after _ before now i c.past_after_week-past.result inv inside
+    (c.past_after_week-past.ensures.past (λ n. slice_index_or before n no_past) (sym here) c.requires.keeps))

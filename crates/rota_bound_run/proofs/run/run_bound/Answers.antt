@@ -324,34 +324,21 @@ judge_plan-requires-clause-rosters g c =
     c.in_ok-weeks.ensures.count ∙ ap length c.deref_mut.ensures.value in
     rw (c.deref_mut-2.ensures.value, c.deref_mut-3.ensures.value, count) c.requires.files.rosters
 
-pub answer_for-requires-clause-period : goal.answer_for-requires-clause-period
-answer_for-requires-clause-period g c =
-    let now : c.deref.result.now ≡ c.in_ok-weeks.weeks.items =
-    slice-back c.in_ok-weeks.weeks.items c.deref_mut-2.result.now c.judge_plan.new.weeks c.deref.result.now c.in_ok-weeks.weeks.len
-    c.deref_mut-2.ensures.value c.deref_mut-2.ensures.len c.in_ok-judged.ensures.same c.deref.ensures.value in
-    rw now (is-period c.args.question.early c.in_ok-ward.ward c.in_ok-weeks.weeks.items c.in_ok-weeks.ensures.weeks)
-
-pub answer_for-requires-clause-given : goal.answer_for-requires-clause-given
-answer_for-requires-clause-given g c =
-    let count : c.len-count.result ≡ length c.in_ok-weeks.weeks.items = c.len-count.ensures ∙ c.in_ok-weeks.weeks.ok.0 in
-    let some : 0 < length c.in_ok-weeks.weeks.items =
+pub answer_for-requires-clause-evidence : goal.answer_for-requires-clause-evidence
+answer_for-requires-clause-evidence g c =
+    let early = c.args.question.early in
+    let ward = c.in_ok-ward.ward in
+    let weeks = c.in_ok-weeks.weeks.items in
+    let are = c.in_ok-weeks.ensures.weeks in
+    let count : c.len-count.result ≡ length weeks = c.len-count.ensures ∙ c.in_ok-weeks.weeks.ok.0 in
+    let some : 0 < length weeks =
     omega (arith, c.in_ok-weeks.ensures.count, ap length c.deref_mut.ensures.value, c.requires.files.some) in
-    let now : c.deref.result.now ≡ c.in_ok-weeks.weeks.items =
-    slice-back c.in_ok-weeks.weeks.items c.deref_mut-2.result.now c.judge_plan.new.weeks c.deref.result.now c.in_ok-weeks.weeks.len
+    let now : c.deref.result.now ≡ weeks =
+    slice-back weeks c.deref_mut-2.result.now c.judge_plan.new.weeks c.deref.result.now c.in_ok-weeks.weeks.len
     c.deref_mut-2.ensures.value c.deref_mut-2.ensures.len c.in_ok-judged.ensures.same c.deref.ensures.value in
-    rw (now, c.deref-2.ensures.value) (given-for c.args.question.early c.in_ok-ward.ward c.in_ok-weeks.weeks.items
-    c.in_ok-given.given.conditions.items c.in_ok-weeks.ensures.weeks some
-    (rw count at c.in_ok-given.ensures.shape) c.in_ok-given.ensures.few)
-
-pub answer_for-requires-clause-certificate : goal.answer_for-requires-clause-certificate
-answer_for-requires-clause-certificate g c =
-    let count : c.len-count.result ≡ length c.in_ok-weeks.weeks.items = c.len-count.ensures ∙ c.in_ok-weeks.weeks.ok.0 in
-    let some : 0 < length c.in_ok-weeks.weeks.items =
-    omega (arith, c.in_ok-weeks.ensures.count, ap length c.deref_mut.ensures.value, c.requires.files.some) in
-    let now : c.deref.result.now ≡ c.in_ok-weeks.weeks.items =
-    slice-back c.in_ok-weeks.weeks.items c.deref_mut-2.result.now c.judge_plan.new.weeks c.deref.result.now c.in_ok-weeks.weeks.len
-    c.deref_mut-2.ensures.value c.deref_mut-2.ensures.len c.in_ok-judged.ensures.same c.deref.ensures.value in
-    rw now
-    (for-weeks c.args.question.early c.in_ok-ward.ward c.in_ok-weeks.weeks.items c.in_ok-certificate.certificate
-    c.in_ok-weeks.ensures.weeks some
-    (rw count at c.in_ok-certificate.ensures.shape))
+    rw (now, c.deref-2.ensures.value)
+    (record {
+      period = is-period early ward weeks are;
+      given_for = given-for early ward weeks c.in_ok-given.given.conditions.items are some (rw count at c.in_ok-given.ensures.shape) c.in_ok-given.ensures.few;
+      is_for = for-weeks early ward weeks c.in_ok-certificate.certificate are some (rw count at c.in_ok-certificate.ensures.shape);
+    })

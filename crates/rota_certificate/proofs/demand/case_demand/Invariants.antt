@@ -1,5 +1,6 @@
 use Rattle.std.proofs.Common.{◌≡◌, ◌≤◌, drop}
 use Rattle.rota_core.specs.Limits.{max_number}
+use Rattle.rota_certificate.specs.CaseLimits.{most_nurses}
 use Rattle.rota_certificate.specs.PlaceCases.{lowered_optimal, raised_minimum}
 use Rattle.rota_certificate.proofs.demand.case_demand.Given as goal
 
@@ -12,6 +13,6 @@ invariant-loop-index l =
           raised_minimum l.case p.week p.day p.shift p.skill l.fn.demand.minimum;
       optimal : lowered_optimal (drop l.index l.case) p.week p.day p.shift p.skill l.optimal ≡
           lowered_optimal l.case p.week p.day p.shift p.skill l.fn.demand.optimal;
-      minimum_in : l.minimum ≤ 10000;
+      minimum_in : l.minimum ≤ most_nurses;
       optimal_in : l.optimal ≤ max_number;
     }

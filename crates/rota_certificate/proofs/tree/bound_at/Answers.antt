@@ -25,13 +25,10 @@ bound_by-requires-clause-leaf c =
     lent-leaf _ weeks list
     (subst (λ (lent : List LentWeek). AreLent lent weeks list) (sym c.deref-2.ensures.value) c.in_ok-weeks.ensures)
     c.requires.evidence.period
-    (subst (AreForWeeks weeks) (sym is_list) (leaf-tables weeks certificate i c.requires.evidence.certificate c.requires.leaf.number))
-
-pub bound_by-requires-clause-case : goal.bound_by-requires-clause-case
-bound_by-requires-clause-case c =
-    subst IsLimitedCase (sym (c.deref-3.ensures.value ∙ c.in_ok-case.ensures))
-    (case-limited c.args.path.now c.args.evidence.now.given.now c.requires.path c.requires.evidence.given.few
-    (given-limited _ _ c.args.evidence.now.given.now c.requires.evidence.given.each))
+    (subst (AreForWeeks weeks) (sym is_list) (leaf-tables weeks certificate i c.requires.evidence.is_for c.requires.leaf.number))
+    (subst IsLimitedCase (sym (c.deref-3.ensures.value ∙ c.in_ok-case.ensures))
+    (case-limited c.args.path.now c.args.evidence.now.given.now c.requires.path c.requires.evidence.given_for.few
+    (given-limited _ _ c.args.evidence.now.given.now c.requires.evidence.given_for.each)))
 
 pub returns-clause-bound : goal.returns-clause-bound
 returns-clause-bound c =

@@ -44,7 +44,7 @@ loop-node-preserved c =
       | in-Split+in_ok-push-in-Split w ↦
           let fact = w.in-Split.fact in
           let limited = subst (PassesNode IsLimited (IsLeafFor (length certificate.prices.items))) w.in-Split.is
-          (node-at evidence.weeks.now certificate i node c.requires.certificate inside is) in
+          (node-at evidence.weeks.now certificate i node c.requires.is_for inside is) in
           let pushed = w.in_ok-push-in-Split.ensures.items ∙ ap (λ (one : Condition). items ++ (one ∷ [])) w.with.ensures in
           record {
             searched = rw (w.path-is, w.least-is)

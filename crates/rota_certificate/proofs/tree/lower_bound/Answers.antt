@@ -9,7 +9,7 @@ pub returns-clause-sound : goal.returns-clause-sound
 returns-clause-sound c =
     let weeks = c.args.weeks.now in
     let given = c.args.given.now in
-    let sound = none-cost_less given c.args.certificate.now c.check_lists.ensures weeks c.requires.period c.requires.given c.requires.certificate in
+    let sound = none-cost_less given c.args.certificate.now c.check_lists.ensures weeks c.requires in
     IfOk-weaker c.least_bound.result _ (NoneCostLess (map problem_of weeks) given)
     (λ points is. subst (NoneCostLess (map problem_of weeks) given) (sym is) sound) c.least_bound.ensures
 
@@ -18,4 +18,4 @@ returns-clause-optimal c =
     let weeks = c.args.weeks.now in
     let given = c.args.given.now in
     IfOk-weaker c.least_bound.result (NoneCostLess (map problem_of weeks) given) (AreOptimalAt (map problem_of weeks) given)
-    (λ points none. are-optimal weeks given points none) (returns-clause-sound c)
+    (λ points none. are-optimal (map problem_of weeks) given points none) (returns-clause-sound c)

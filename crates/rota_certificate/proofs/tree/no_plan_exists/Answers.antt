@@ -6,5 +6,4 @@ use Rattle.rota_certificate.proofs.tree.no_plan_exists.Goals as goal
 pub returns-clause-sound : goal.returns-clause-sound
 returns-clause-sound c =
     λ above.
-    have-no-plan c.args.given.now c.args.certificate.now c.check_lists.ensures c.args.weeks.now c.requires.period c.requires.given
-    c.requires.certificate (omega (arith, ltb-true 0 c.in_ok-least.least above, c.in_ok-least.ensures))
+    have-no-plan c.args.given.now c.args.certificate.now c.check_lists.ensures c.args.weeks.now c.requires (omega (arith, ltb-true 0 c.in_ok-least.least above, c.in_ok-least.ensures))
