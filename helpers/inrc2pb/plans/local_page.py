@@ -1,7 +1,7 @@
 """The local page of a ward: its forms, what the last verb has said, the roster, and the charges and swaps of one cell."""
 
 from dataclasses import replace
-from typing import Collection, List, NamedTuple, Optional, Sequence, Tuple
+from typing import Collection, List, Mapping, NamedTuple, Optional, Sequence, Tuple
 from urllib.parse import quote, urlencode
 
 from ..judging.absences import readable
@@ -21,7 +21,7 @@ from .swaps import Swaps
 from .ward_plan import WardPlan
 
 REFRESH_SECONDS = 2
-WORKED_PAGE, _WORKED_TEXT, _ROSTER = "worked", "Weeks that are over", "roster"
+_ROSTER = "roster"
 _GUIDE = (
     "The spreadsheet is {}: change it, save it, and plan again. "
     "A button that writes asks first, and Undo takes back what the last one wrote. "
@@ -51,14 +51,14 @@ class Place(NamedTuple):
 
 class Shown(NamedTuple):
     """What a page shows beside the plan: what was said, the cell that was clicked, the form that asks whether to write, the fields of the
-    last form, the path of the spreadsheet, whether there is a page of the weeks that are over, and the name of the ward."""
+    last form, the path of the spreadsheet, the pages of weeks that are over with their texts, and the name of the ward."""
 
     said: Said
     place: Optional[Place] = None
     asks: Fields = {}
     kept: Fields = {}
     spreadsheet: str = ""
-    has_worked: bool = False
+    worked: Mapping[str, str] = {}
     name: str = "Ward"
 
 
@@ -81,8 +81,8 @@ def page_markup(plan: Optional[WardPlan], shown: Shown, address: str) -> str:
             parts += [form_markup(form, plan, address, kept)] * (plan.is_planned or not form.needs_plan)
     elif plan is None and not said.runs:
         parts += _without_plan(shown, address)
-    if plan and (plan.is_planned and plan.weeks or plan.open_week):
-        parts.append(_roster(plan, address))
+    if plan and (plan.is_planned and plan.weeks or shown.worked):
+        parts.append(_roster(plan, shown, address))
     refresh = [element("meta", http_equiv="refresh", content=str(REFRESH_SECONDS))] * said.runs
     style = element("style", Markup(page_style() + STYLE))
     return page_of(name, [*refresh, style], parts)
@@ -94,7 +94,7 @@ def _without_plan(shown: Shown, address: str) -> List[Markup]:
     return [
         element("p", f"Correct that in {shown.spreadsheet}, save it, and ", again, "."),
         element("form", element("button", "Undo", name="verb", value="undo"), method="post", action=address),
-        element("p", *_linked([(_WORKED_TEXT, WORKED_PAGE)] * shown.has_worked, address), class_="links"),
+        element("p", *_linked(_worked(shown), address), class_="links"),
     ]
 
 
@@ -123,8 +123,13 @@ def _content(plan: WardPlan, address: str) -> Content:
     return replace(roster_content(plan), link=link)
 
 
-def _roster(plan: WardPlan, address: str) -> Markup:
-    links = [(_WORKED_TEXT, WORKED_PAGE)] * bool(plan.open_week)
+def _worked(shown: Shown) -> List[Tuple[str, str]]:
+    """The links to the pages of weeks that are over."""
+    return [(text, name) for name, text in shown.worked.items()]
+
+
+def _roster(plan: WardPlan, shown: Shown, address: str) -> Markup:
+    links = _worked(shown)
     if not (plan.is_planned and plan.weeks):
         return element("section", element("p", *_linked(links, address), class_="links"))
     content = _content(plan, address)

@@ -2,7 +2,7 @@
 
 from dataclasses import replace
 from pathlib import Path
-from typing import List, Optional, Sequence
+from typing import Dict, List, Optional, Sequence
 
 from ..judging.absences import readable
 from ..judging.demand import ABOVE_LIMITS, UNKEPT
@@ -35,6 +35,10 @@ class Verbs:
     def current(self) -> WardPlan:
         """The plan that holds, with what the spreadsheet says now."""
         return self._store.current()
+
+    def worked_pages(self, plan: Optional[WardPlan]) -> Dict[str, str]:
+        """The pages of weeks that are over, with this plan, if there is one, and their texts."""
+        return self._store.worked_pages(plan)
 
     def plan(self, words: Sequence[str], seconds: Optional[float], free: bool) -> List[str]:
         """Plans the weeks that are not over, or what is left of them from a day on."""

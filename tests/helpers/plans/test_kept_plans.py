@@ -210,7 +210,7 @@ class Weeks(KeptTest):
 
     def test_the_weeks_as_they_were_worked(self):
         self.does("over", "Finn", "Fri", "off")
-        page = ElementTree.parse(self.ward / "worked.html")
+        page = ElementTree.parse(self.ward / "worked-2026-11-30.html")
         finn = next(row for row in page.iter("tr") if "".join(row[0].itertext()) == "Finn")
         self.assertEqual(["".join(cell.itertext()) for cell in finn[1:8]], ["Late Nurse"] * 2 + [""] * 3 + ["Late Nurse"] * 2)
 

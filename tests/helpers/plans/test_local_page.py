@@ -156,10 +156,11 @@ class Page(FolderTest):
         self.assertIn(f"The spreadsheet is {self.ward}", page)
         self.write_plan()
         self.assertNotIn("Weeks that are over", self.asks()[1])
-        self.assertEqual(self.asks(path=f"{self.site.path}worked")[0], 404)
+        worked = f"{self.site.path}worked-{DATES[0]}.html"
+        self.assertEqual(self.asks(path=worked)[0], 404)
         for _ in range(2):
-            self.assertIn(f'href="{self.site.path}worked"', self.sends(verb="over"))
-            self.assertIn("weeks 0" if _ else "week 0", self.asks(path=f"{self.site.path}worked")[1])
+            self.assertIn(f'href="{worked}">Weeks that are over, from 30 Nov 2026 on</a>', self.sends(verb="over"))
+            self.assertIn("weeks 0" if _ else "week 0", self.asks(path=worked)[1])
         # The period is over: the page says what to write into the spreadsheet, and undo goes back.
         page = self.asks()[1]
         self.assertIn("write the days of the next one from 2026-12-14 on", page)
