@@ -91,8 +91,9 @@ def page_markup(plan: Optional[WardPlan], shown: Shown, address: str) -> str:
 def _without_plan(shown: Shown, address: str) -> List[Markup]:
     """What there is if the spreadsheet has a fault, or not yet the days of the next period."""
     again = element("a", "load this page again", href=address)
+    begin = "Correct that in" if shown.said.is_fault else "Write the days of the next period into the sheet plan of"
     return [
-        element("p", f"Correct that in {shown.spreadsheet}, save it, and ", again, "."),
+        element("p", f"{begin} {shown.spreadsheet}, save it, and ", again, "."),
         element("form", element("button", "Undo", name="verb", value="undo"), method="post", action=address),
         element("p", *_linked(_worked(shown), address), class_="links"),
     ]

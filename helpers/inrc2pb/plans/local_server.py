@@ -17,6 +17,7 @@ from .local_forms import SURE, Fields, verb_of, writes
 from .local_jobs import Jobs, Said, fault_lines
 from .local_page import Place, Shown, calendars_markup, page_markup
 from .pages import CALENDARS, roster_content
+from .plan_days import PERIOD_IS_OVER, PeriodOver
 from .ward_plan import WardPlan
 
 # The most bytes of a form and of its address, its most fields, and the seconds that a browser has for a request.
@@ -56,6 +57,10 @@ class Site:
         try:
             plan = self.jobs.verbs().current()
             self.name = readable(plan.scenario.name)
+        except PeriodOver as fault:
+            # A period that has just ended is no fault.
+            is_told = said.runs or any(PERIOD_IS_OVER in line for line in said.lines)
+            return None, said if is_told else Said([str(fault)])
         except Exception as fault:
             return None, said if said.runs else Said(fault_lines(fault), True)
         if self.fault and not said.runs:

@@ -19,6 +19,7 @@ from .plan_days import WEEK_DAYS, PlanDays
 from .record import Record, read_record
 from .ward_folder import WardFolder
 from .ward_plan import Sheet, WardPlan, continued, first_plan, read_stored, roster_name
+from .week_rows import anew_lines
 from .wording import Wording
 from .written_absences import WrittenAbsence
 
@@ -74,6 +75,11 @@ class PlanStore:
         now = datetime.datetime.now()
         self.folder.add(verb.split(" ", 1)[0], plan.texts(Record(verb, now, plan.days, plan.open_week, plan.published)), now)
         return self.pages(plan, old)
+
+    def anew(self, plan: WardPlan) -> List[str]:
+        """Warnings of rows of the needs with a week, at the begin of a period that follows another one."""
+        last = self.folder.last()
+        return list(anew_lines(plan.sheet.week_rows, plan.days)) if last and _ends_period(last) else []
 
     def periods_before(self) -> int:
         """The number of periods that were over before the last verb."""

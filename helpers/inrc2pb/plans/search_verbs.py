@@ -33,7 +33,7 @@ def plan(store: PlanStore, words: Sequence[str], seconds: Optional[float], free:
     wording = wording_of(old, words, "plan, or plan 2026-12-09 to leave all days before it as they are")
     first = old.first if wording.is_over else wording.open_day()
     wording.end()
-    for warning in old.sheet.warnings:
+    for warning in (*old.sheet.warnings, *store.anew(old)):
         store.means.say(f"warning: {readable(warning)}")
     few = old.published and old.is_planned and not free
     asked = Asked(first, few, seconds or WEEK_SECONDS * len(old.weeks))

@@ -64,7 +64,7 @@ class Verbs:
         """The warnings of the spreadsheet, and the ward in sentences. That no plan can meet a minimum is in the status."""
         plan = self.current()
         self._store.status = _status_of(plan.sheet.warnings)
-        lines = [f"warning: {line}" for line in (*map(readable, plan.sheet.warnings), *beside_lines(plan))]
+        lines = [f"warning: {line}" for line in (*map(readable, plan.sheet.warnings), *self._store.anew(plan), *beside_lines(plan))]
         limits = limit_sentences(plan.scenario, plan.data[plan.open_week]) if plan.weeks else ()
         lines += [*scenario_sentences(plan.scenario), *limits, "", *history_sentences(plan.histories[plan.open_week], plan.sheet.credit)]
         for number in plan.weeks:

@@ -163,7 +163,10 @@ class Page(FolderTest):
             self.assertIn("weeks 0" if _ else "week 0", self.asks(path=worked)[1])
         # The period is over: the page says what to write into the spreadsheet, and undo goes back.
         page = self.asks()[1]
-        self.assertIn("write the days of the next one from 2026-12-14 on", page)
+        self.assertRegex(page, '<pre role="status">[^<]*\nweek 1 is over, and with it the period is over\n'
+                         "write the days of the next one, from 2026-12-14 on, into the sheet plan")  # fmt: skip
+        self.assertIn("Write the days of the next period into the sheet plan of ", page)
+        self.assertNotIn("Correct that", page)
         self.assertIn(f'<a href="{self.site.path}">load this page again</a>', page)
         self.assertIn("<h2>Undo?</h2>", self.asks("POST", form="verb=undo")[1])
         self.assertIn("holds again", self.sends(verb="undo"))

@@ -6,7 +6,7 @@ from dataclasses import replace
 
 from test_kept_plans import KeptTest
 from test_plans import MONDAY
-from ward import ROSTER, files
+from ward import ROSTER, files, run
 
 from inrc2pb.commands.plan import read_sheet
 from inrc2pb.plans.pages import worked_pages
@@ -59,6 +59,18 @@ class NextPeriod(KeptTest):
         self.plan_next()
         self.does("over")
         self.assertEqual(self.worked(), ["worked-1.html", "worked-0.html"])
+
+    def test_weeks_of_the_needs_count_anew(self):
+        # The last row of the needs is of a bank holiday in week 1.
+        self.rows["needs"].append(["1", "Day", "Nurse", *[""] * 4, "1", "", ""])
+        self.write()
+        row = f"sheet needs, row {len(self.rows['needs'])}: weeks count anew, and this is week 1, now Mon 21 Dec to Sun 27 Dec: "
+        self.assertNotIn("count anew", run("plan", self.ward, "check")[1])
+        self.assertIn(row, self.end_period())
+        self.write_next(MONDAY + datetime.timedelta(days=14))
+        self.assertIn(f"warning: {row}", run("plan", self.ward, "check")[1])
+        self.plan_next()
+        self.assertNotIn("count anew", run("plan", self.ward, "check")[1])
 
 
 

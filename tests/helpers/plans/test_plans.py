@@ -351,7 +351,7 @@ class Verbs(FolderTest):
         status, _, said = run("plan", self.ward, "ill", "Chen", "2026-12-01")
         line = "Tue 1 Dec is in a week that is over: the plan goes on from Mon 7 Dec"
         self.assertEqual((status, said), (1, f"inrc2pb-plan: {line}\n"))
-        self.assertIn("the period is over\n", self.does("over"))
+        self.assertIn("week 1 is over, and with it the period is over\n", self.does("over"))
         status, _, said = run("plan", self.ward, "plan")
         self.assertEqual((status, said.split(":")[1]), (1, " a period is over"))
         later = [str(MONDAY + datetime.timedelta(days=14 + day)) for day in range(7)]
