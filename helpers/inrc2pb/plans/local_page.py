@@ -165,12 +165,13 @@ def _cell(plan: WardPlan, place: Place, address: str) -> Markup:
     names = day_names(plan.days.monday, day // WEEK_DAYS)
     charged = [charge for charge in week.charges or () if charge.nurse == nurse]
     items = [element("li", readable(f"{charge.cost} ({charge.rule}) {in_words(charge, False, names)}")) for charge in charged]
+    nothing = "nothing is charged in this week" if week.charges is not None else "this week has no cost, since it breaks a hard rule"
     swaps = Swaps(plan)
     cell = swaps.works(nurse, day)
     has = readable(f"{cell.shift} {cell.skill}") if cell else "off"
     parts = [
         element("h2", f"{readable(nurse)}, {plan.days.text(day)}: {has}"),
-        element("ul", *(items or [element("li", "nothing is charged in this week")])),
+        element("ul", *(items or [element("li", nothing)])),
     ]
     if cell:
         offers = swaps.offers(nurse, day)[:MOST_OFFERS]

@@ -214,6 +214,15 @@ class Weeks(KeptTest):
         finn = next(row for row in page.iter("tr") if "".join(row[0].itertext()) == "Finn")
         self.assertEqual(["".join(cell.itertext()) for cell in finn[1:8]], ["Late Nurse"] * 2 + [""] * 3 + ["Late Nurse"] * 2)
 
+        # Late Nurse has nobody on Friday, so the week has no cost.
+        text = "".join(page.getroot().itertext())
+        self.assertIn("Week 0 has no cost, since it breaks rule H2.", text)
+        self.assertNotIn("Nothing is charged", text)
+        self.does("over")
+        text = (self.ward / "worked-2026-11-30.html").read_text()
+        self.assertIn("<p>Week 0 has no cost, since it breaks rule H2: the sums on this page are without it.</p>", text)
+        self.assertNotIn("Week 1 has no cost", text)
+
     def test_a_correction_with_its_skill(self):
         self.does("over", "Amara", "Thu", "Day/Nurse")
         self.assertIn(Cell("Amara", 3, "Day", "Nurse"), files.read_solution(self.last() / "roster-0.txt").cells)
