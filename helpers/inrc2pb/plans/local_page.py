@@ -168,7 +168,7 @@ def _cell(plan: WardPlan, place: Place, address: str) -> Markup:
     nothing = "nothing is charged in this week" if week.charges is not None else "this week has no cost, since it breaks a hard rule"
     swaps = Swaps(plan)
     cell = swaps.works(nurse, day)
-    has = readable(f"{cell.shift} {cell.skill}") if cell else "off"
+    has = readable(f"{cell.shift} {cell.skill}") if cell else plan.away.get((nurse, day), "off")
     parts = [
         element("h2", f"{readable(nurse)}, {plan.days.text(day)}: {has}"),
         element("ul", *(items or [element("li", nothing)])),

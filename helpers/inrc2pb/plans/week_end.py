@@ -69,7 +69,7 @@ def _next_week(store: PlanStore, worked: WardPlan) -> List[str]:
     lines = [f"week {number} is over: the plan goes on from {new.days.text(new.first)}"]
     broken = [line for number in new.weeks for line in _broken_in(new, number)]
     if broken:
-        lines += [*broken, f"after these corrections the plan does not fit any more: plan again, from {new.days.head(new.first)} on"]
+        lines += [*broken, f"after these corrections the plan does not fit any more: plan again, from {new.days.text(new.first)} on"]
     return [*lines, *store.save(f"over {number}", new)]
 
 

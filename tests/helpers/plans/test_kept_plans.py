@@ -51,13 +51,13 @@ class Words(KeptTest):
     def test_a_change_of_skill_is_told_and_the_nurse_is_called(self):
         old, new = [Cell("Amara", 0, "Day", "Nurse")], [Cell("Amara", 0, "Day", "Charge")]
         changes = shift_changes(old, new)
-        self.assertEqual(change_lines(changes, BARE), ["Amara, Mon of week 0: Day Charge, before Day Nurse"])
+        self.assertEqual(change_lines(changes, BARE), ["Amara, Mon of week 0: Day Charge instead of Day Nurse"])
         self.assertEqual(call_lines(changes), ["1 nurse to call: Amara"])
 
     def test_who_is_away_on_a_changed_day_is_not_called(self):
         old, new = [Cell("Amara", 0, "Day", "Nurse")], [Cell("Bruno", 0, "Day", "Nurse")]
         changes, away = shift_changes(old, new), {("Amara", 0): "ill"}
-        says = ["Amara, Mon of week 0: ill, before Day Nurse", "Bruno, Mon of week 0: Day Nurse, before off"]
+        says = ["Amara, Mon of week 0: ill instead of Day Nurse", "Bruno, Mon of week 0: Day Nurse instead of off"]
         self.assertEqual((change_lines(changes, BARE, away), call_lines(changes, away)), (says, ["1 nurse to call: Bruno"]))
 
     def test_lost_wishes(self):
@@ -168,7 +168,7 @@ class Words(KeptTest):
 class Weeks(KeptTest):
     def test_a_week_after_which_the_plan_breaks_a_rule(self):
         printed = self.does("over", "Bruno", "Sun", "Night,", "Finn", "Fri", "off,")
-        cure = "after these corrections the plan does not fit any more: plan again, from 2026-12-07 on"
+        cure = "after these corrections the plan does not fit any more: plan again, from Mon 7 Dec on"
         self.assertIn("week 1 breaks H3: Bruno may not work Day on Mon after Night on the Sunday before\n", printed)
         self.assertIn(f"{cure}\n", printed)
         self.assertIn("week 0 breaks H2: Fri Late Nurse has 0 nurses and needs at least 1\n", printed)
@@ -184,7 +184,7 @@ class Weeks(KeptTest):
         printed = self.does("over", "Grace", "Sat", "Day", "Grace", "Sun", "Day")
         self.assertIn("week 0 exceeds a limit that holds: Grace has 7 days of work in a row", printed)
         self.assertIn("week 1 exceeds a limit that holds: Grace has 12 days of work in a row, to Fri 11 Dec, of at most 5", printed)
-        self.assertIn("plan again, from 2026-12-07 on", printed)
+        self.assertIn("plan again, from Mon 7 Dec on", printed)
 
     def test_the_page_for_the_wall(self):
         # On Friday of week 1 one nurse fewer is best, as on a bank holiday; the other cells are as in all weeks.

@@ -127,6 +127,12 @@ class Page(FolderTest):
         self.assertIn('<option value="Grace" selected="">', page)
         self.assertIn('<option value="2026-12-04" selected="">', page)
 
+    def test_a_day_of_leave_that_is_clicked(self):
+        self.rows["plan"][3][1] = "leave"
+        self.write()
+        self.write_plan()
+        self.assertIn("<h2>Chen, Mon 30 Nov: leave</h2>", self.asks(path=f"{self.site.path}?nurse=Chen&day=0")[1])
+
     def test_a_look_for_a_swap_has_a_button_that_writes_it(self):
         self.write_plan()
         self.asks("POST", form="verb=swap&nurse=Grace&first=2026-11-30&other=Chen&other+day=")
