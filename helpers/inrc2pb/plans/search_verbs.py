@@ -12,6 +12,7 @@ from ..week.hints import plural
 from .agreed_days import AgreedDay, broken_line
 from .days_beside import beside_lines
 from .few_changes import CALL_POINTS, POINTS
+from .leave_words import leave_lines
 from .needless_changes import without_needless_changes
 from .plan_days import WEEK_DAYS
 from .plan_search import MOST, NONE, Asked, Found, search_plan, why_no_plan
@@ -135,7 +136,7 @@ def _result(store: PlanStore, old: WardPlan, found: Found, few_changes: bool) ->
         # Nobody has seen the older plan.
         lines.append(f"{plural(len(changes), 'shift')} {'differs' if len(changes) == 1 else 'differ'} from the last plan")
     lines += [_broken(old, new, one) for one in old.agreed if one not in new.agreed]
-    lines += [*beside_lines(new), *wish_lines(before, new), *cost_lines(new)]
+    lines += [*beside_lines(new), *leave_lines(new), *wish_lines(before, new), *cost_lines(new)]
     lines += [f"a change was counted as {POINTS} points more, and a nurse to call as {CALL_POINTS}; they are not in this sum"] * few_changes
     lines += [_SHARE.sub("", found.bound)] * (is_kept and not few_changes)
     lines += ["stopped: this is the best plan until then"] * found.stopped

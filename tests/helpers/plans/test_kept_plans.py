@@ -16,6 +16,7 @@ from inrc2pb.plans import pages, ward_folder
 from inrc2pb.plans.agreed_days import AgreedDay, agreed_text, read_agreed
 from inrc2pb.plans.days_beside import beside_lines
 from inrc2pb.plans.few_changes import with_few_changes
+from inrc2pb.plans.leave_words import leave_lines
 from inrc2pb.plans.needless_changes import without_needless_changes
 from inrc2pb.plans.plan_days import PlanDays
 from inrc2pb.plans.plan_store import not_kept_lines
@@ -130,6 +131,17 @@ class Words(KeptTest):
         # The page has the line, but not the one for the wall.
         self.assertIn(f"<p>{says}</p>", page_text(pages.roster_content(plan)))
         self.assertNotIn(says, page_text(replace(pages.roster_content(plan), only_table=True)))
+
+    def test_days_away_that_count_as_days_off_are_told(self):
+        # Grace is off on both weekends. Her contract has at most four days off in a row; she has leave on the three days after the first one.
+        self.rows["contracts"][1][6] = "4"
+        self.rows["plan"][7][8:11] = ["leave"] * 3
+        self.write()
+        plan = replace(self.plan, sheet=read_sheet(self.ward, None, ()))
+        plan = plan.with_cells(cell for cell in plan.cells() if cell.nurse != "Grace" or cell.day not in (7, 8, 9))
+        says = "Mon 7 Dec to Wed 9 Dec: 5 days off in a row (2 before Mon 7 Dec), at most 4: her days away (leave) count as days off"
+        self.assertEqual(list(leave_lines(plan)), [f"30 points: Grace, {says}"])
+        self.assertEqual(list(leave_lines(self.plan)), [])
 
     def test_a_nurse_who_leaves_may_have_the_shifts_until_then(self):
         # Grace has five shifts from Monday to Friday. Her limit is that of the part of the plan before she leaves, rounded up.
