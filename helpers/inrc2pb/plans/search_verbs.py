@@ -92,6 +92,9 @@ def _search(store: PlanStore, verb: str, old: WardPlan, asked: Asked) -> List[st
     """Searches, writes the plan, and says what it costs and what changes."""
     days = old.days.span([asked.first, old.days.total - 1])
     store.means.say(f"{days}, at most {asked.seconds:g} s{f'; {store.means.end}' if store.means.end else ''}")
+    if asked.few_changes and old.is_planned:
+        counted = f"{POINTS} points for each shift that changes, and {CALL_POINTS} for each nurse to call"
+        store.means.say(f"the penalties of the search count also {counted}; the points of the plan are without them")
     # A second Ctrl-C does not end it before the plan is written.
     with interrupts():
         try:

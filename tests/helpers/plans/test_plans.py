@@ -197,7 +197,10 @@ class Verbs(FolderTest):
     def test_a_plan_an_illness_and_the_way_back(self):
         self.begin()
         before, old = self.cells(), self.texts()
-        printed = self.does("ill", "Gra", "Wed", "Fri")
+        status, printed, said = run("plan", self.ward, "ill", "Gra", "Wed", "Fri", "--time", "10")
+        self.assertEqual(status, 0, said)
+        counted = "20 points for each shift that changes, and 20 for each nurse to call; the points of the plan are without them\n"
+        self.assertIn(f"the penalties of the search count also {counted}", said)
         now = self.cells()
         self.assertFalse({("Grace", day) for day in (2, 3, 4)} & set(now))
         self.assertEqual([item for item in before.items() if item[0][1] < 2], [item for item in now.items() if item[0][1] < 2])
