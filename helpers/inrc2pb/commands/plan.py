@@ -14,6 +14,7 @@ from ..plans.plan_store import Means
 from ..plans.verbs import Verbs
 from ..plans.ward_folder import WardFolder
 from ..plans.ward_plan import Sheet
+from ..plans.week_rows import week_rows
 from ..programs.interrupts import interrupts
 from ..programs.program import find_program
 from ..programs.progress import Progress
@@ -80,7 +81,7 @@ def read_sheet(path: Path, name: Optional[str], written: Sequence[WrittenAbsence
     days = read_days(book)
     files = ward_files(book, name or ward_name(path), days, days.weeks, COUNTED)
     credit = {nurse: shifts for nurse, (_, shifts) in files.credit.items()}
-    return Sheet(files.texts, files.warnings, PlanDays(days.monday, days.weeks), credit, shift_times(book), files.holidays)
+    return Sheet(files.texts, files.warnings, PlanDays(days.monday, days.weeks), credit, shift_times(book), files.holidays, week_rows(book))
 
 
 def _check(given: argparse.Namespace) -> None:

@@ -1,7 +1,7 @@
 """The local page of a ward: its forms, what the last verb has said, the roster, and the charges and swaps of one cell."""
 
 from dataclasses import replace
-from typing import Collection, List, NamedTuple, Optional, Sequence, Tuple
+from typing import Collection, List, Mapping, NamedTuple, Optional, Sequence, Tuple
 from urllib.parse import quote, urlencode
 
 from ..judging.absences import readable
@@ -21,7 +21,7 @@ from .swaps import Swaps
 from .ward_plan import WardPlan
 
 REFRESH_SECONDS = 2
-WORKED_PAGE, _WORKED_TEXT, _ROSTER = "worked", "Weeks that are over", "roster"
+_ROSTER = "roster"
 _GUIDE = (
     "The spreadsheet is {}: change it, save it, and plan again. "
     "A button that writes asks first, and Undo takes back what the last one wrote. "
@@ -51,14 +51,14 @@ class Place(NamedTuple):
 
 class Shown(NamedTuple):
     """What a page shows beside the plan: what was said, the cell that was clicked, the form that asks whether to write, the fields of the
-    last form, the path of the spreadsheet, whether there is a page of the weeks that are over, and the name of the ward."""
+    last form, the path of the spreadsheet, the pages of weeks that are over with their texts, and the name of the ward."""
 
     said: Said
     place: Optional[Place] = None
     asks: Fields = {}
     kept: Fields = {}
     spreadsheet: str = ""
-    has_worked: bool = False
+    worked: Mapping[str, str] = {}
     name: str = "Ward"
 
 
@@ -81,8 +81,8 @@ def page_markup(plan: Optional[WardPlan], shown: Shown, address: str) -> str:
             parts += [form_markup(form, plan, address, kept)] * (plan.is_planned or not form.needs_plan)
     elif plan is None and not said.runs:
         parts += _without_plan(shown, address)
-    if plan and (plan.is_planned and plan.weeks or plan.open_week):
-        parts.append(_roster(plan, address))
+    if plan and (plan.is_planned and plan.weeks or shown.worked):
+        parts.append(_roster(plan, shown, address))
     refresh = [element("meta", http_equiv="refresh", content=str(REFRESH_SECONDS))] * said.runs
     style = element("style", Markup(page_style() + STYLE))
     return page_of(name, [*refresh, style], parts)
@@ -91,10 +91,11 @@ def page_markup(plan: Optional[WardPlan], shown: Shown, address: str) -> str:
 def _without_plan(shown: Shown, address: str) -> List[Markup]:
     """What there is if the spreadsheet has a fault, or not yet the days of the next period."""
     again = element("a", "load this page again", href=address)
+    begin = "Correct that in" if shown.said.is_fault else "Write the days of the next period into the sheet plan of"
     return [
-        element("p", f"Correct that in {shown.spreadsheet}, save it, and ", again, "."),
+        element("p", f"{begin} {shown.spreadsheet}, save it, and ", again, "."),
         element("form", element("button", "Undo", name="verb", value="undo"), method="post", action=address),
-        element("p", *_linked([(_WORKED_TEXT, WORKED_PAGE)] * shown.has_worked, address), class_="links"),
+        element("p", *_linked(_worked(shown), address), class_="links"),
     ]
 
 
@@ -123,8 +124,13 @@ def _content(plan: WardPlan, address: str) -> Content:
     return replace(roster_content(plan), link=link)
 
 
-def _roster(plan: WardPlan, address: str) -> Markup:
-    links = [(_WORKED_TEXT, WORKED_PAGE)] * bool(plan.open_week)
+def _worked(shown: Shown) -> List[Tuple[str, str]]:
+    """The links to the pages of weeks that are over."""
+    return [(text, name) for name, text in shown.worked.items()]
+
+
+def _roster(plan: WardPlan, shown: Shown, address: str) -> Markup:
+    links = _worked(shown)
     if not (plan.is_planned and plan.weeks):
         return element("section", element("p", *_linked(links, address), class_="links"))
     content = _content(plan, address)
@@ -159,12 +165,13 @@ def _cell(plan: WardPlan, place: Place, address: str) -> Markup:
     names = day_names(plan.days.monday, day // WEEK_DAYS)
     charged = [charge for charge in week.charges or () if charge.nurse == nurse]
     items = [element("li", readable(f"{charge.cost} ({charge.rule}) {in_words(charge, False, names)}")) for charge in charged]
+    nothing = "nothing is charged in this week" if week.charges is not None else "this week has no cost, since it breaks a hard rule"
     swaps = Swaps(plan)
     cell = swaps.works(nurse, day)
-    has = readable(f"{cell.shift} {cell.skill}") if cell else "off"
+    has = readable(f"{cell.shift} {cell.skill}") if cell else plan.away.get((nurse, day), "off")
     parts = [
         element("h2", f"{readable(nurse)}, {plan.days.text(day)}: {has}"),
-        element("ul", *(items or [element("li", "nothing is charged in this week")])),
+        element("ul", *(items or [element("li", nothing)])),
     ]
     if cell:
         offers = swaps.offers(nurse, day)[:MOST_OFFERS]

@@ -15,8 +15,9 @@ from ..shown.page import page_text
 from ..week.faults import Misuse
 from .local_forms import SURE, Fields, verb_of, writes
 from .local_jobs import Jobs, Said, fault_lines
-from .local_page import WORKED_PAGE, Place, Shown, calendars_markup, page_markup
-from .pages import CALENDARS, WORKED, roster_content
+from .local_page import Place, Shown, calendars_markup, page_markup
+from .pages import CALENDARS, roster_content
+from .plan_days import PERIOD_IS_OVER, PeriodOver
 from .ward_plan import WardPlan
 
 # The most bytes of a form and of its address, its most fields, and the seconds that a browser has for a request.
@@ -56,6 +57,10 @@ class Site:
         try:
             plan = self.jobs.verbs().current()
             self.name = readable(plan.scenario.name)
+        except PeriodOver as fault:
+            # A period that has just ended is no fault.
+            is_told = said.runs or any(PERIOD_IS_OVER in line for line in said.lines)
+            return None, said if is_told else Said([str(fault)])
         except Exception as fault:
             return None, said if said.runs else Said(fault_lines(fault), True)
         if self.fault and not said.runs:
@@ -99,10 +104,9 @@ class _Handler(BaseHTTPRequestHandler):
         if not path and running.runs:
             return self._answer(page_markup(None, Shown(running, name=self.site.name), self.site.base))
         plan, said = self.site.plan()
-        worked = self.site.jobs.folder.top / WORKED
-        has_worked = worked.is_file() and (plan is None or plan.open_week > 0)
-        if path == WORKED_PAGE and has_worked:
-            self._answer(worked.read_bytes().decode("utf-8", errors="replace"))
+        worked = self.site.jobs.verbs().worked_pages(plan)
+        if path in worked:
+            self._answer((self.site.jobs.folder.top / path).read_bytes().decode("utf-8", errors="replace"))
         elif path and plan and plan.is_planned and plan.weeks:
             self._page(path, plan)
         elif path:
@@ -110,7 +114,7 @@ class _Handler(BaseHTTPRequestHandler):
         else:
             kept = self.site.fields(said)
             place = _place(plan, query) or _looked(plan, kept, said)
-            shown = Shown(said, place, kept=kept, spreadsheet=self.site.spreadsheet, has_worked=has_worked, name=self.site.name)
+            shown = Shown(said, place, kept=kept, spreadsheet=self.site.spreadsheet, worked=worked, name=self.site.name)
             self._answer(page_markup(plan, shown, self.site.base))
 
     def _page(self, path: str, plan: WardPlan) -> None:

@@ -1,19 +1,22 @@
 """The pages and calendars of a ward's folder."""
 
 import datetime
+import re
 from dataclasses import replace
 from pathlib import Path
-from typing import Collection, List, Mapping, Optional
+from typing import Collection, Dict, List, Mapping, Optional
 
 from ..shown.calendars import issue_now, write_calendars
 from ..shown.page import page_text
 from ..shown.page_tables import Content
-from ..week.dates import DAY
+from ..week.dates import DAY, date_text
 from ..week.writing import write_text
 from .days_beside import beside_lines
+from .plan_days import PlanDays
 from .ward_plan import WardPlan
 
-ROSTER, WALL, WORKED, CALENDARS = "roster.html", "wall.html", "worked.html", "calendars"
+ROSTER, WALL, CALENDARS = "roster.html", "wall.html", "calendars"
+_WORKED = re.compile(r"worked(?:-([0-9]+(?:-[0-9]+-[0-9]+)?))?\.html")
 
 
 def write_roster_page(top: Path, plan: WardPlan, old: Optional[WardPlan] = None) -> Path:
@@ -22,11 +25,35 @@ def write_roster_page(top: Path, plan: WardPlan, old: Optional[WardPlan] = None)
     return top / ROSTER
 
 
-def write_worked_page(top: Path, plan: WardPlan) -> Path:
-    """Writes the page of the weeks that are over, as they were worked."""
+def worked_name(days: PlanDays, periods: int) -> str:
+    """The name of the page of the weeks that are over: it has the first Monday of the period, or the number of older periods."""
+    return f"worked-{periods if days.monday is None else days.monday}.html"
+
+
+def worked_pages(top: Path) -> Dict[str, str]:
+    """The names of the pages of weeks that are over, of all periods, the last one first, and their texts."""
+    names = sorted((file.name for file in top.iterdir() if file.is_file()), key=lambda name: (len(name), name), reverse=True)
+    found = [match for match in map(_WORKED.fullmatch, names) if match]
+    return {match[0]: f"Weeks that are over{_period_text(match[1])}" for match in found}
+
+
+def _period_text(period: Optional[str]) -> str:
+    """The period of such a page in words, by the part of its name."""
+    if not period:
+        return ""
+    try:
+        monday = datetime.date.fromisoformat(period)
+        return f", from {date_text(monday)} {monday.year} on"
+    except ValueError:
+        return f", period {period}"
+
+
+def write_worked_page(top: Path, plan: WardPlan, periods: int) -> Path:
+    """Writes the page of the weeks that are over, as they were worked, after this number of older periods."""
     content = Content(plan.view(range(plan.open_week)), None, plan.days.monday, plan.sheet.times, as_of=datetime.datetime.now())
-    write_text(top / WORKED, page_text(content))
-    return top / WORKED
+    path = top / worked_name(plan.days, periods)
+    write_text(path, page_text(content))
+    return path
 
 
 def write_all(top: Path, plan: WardPlan, before: Mapping[str, Collection[int]]) -> List[Path]:

@@ -13,8 +13,16 @@ _WEEKDAY = re.compile("(mon|tue|wed|thu|fri|sat|sun)[a-z]* ?([0-9]{1,2})?", re.I
 _DATE = re.compile(r"([0-9]{4})-([0-9]{1,2})-([0-9]{1,2})|([0-9]{1,2})\.([0-9]{1,2})\.?([0-9]{4})?")
 
 
+# The words of lines on the end of a period.
+PERIOD_IS_OVER = "period is over"
+
+
 class OtherPlan(Misuse):
     """A day that the plan does not have."""
+
+
+class PeriodOver(Misuse):
+    """The days of the spreadsheet are those of a period that is over."""
 
 
 def is_day(word: str) -> bool:

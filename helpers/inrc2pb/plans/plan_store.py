@@ -11,7 +11,7 @@ from ..judging.absences import absences_of, in_words, joined, readable, working_
 from ..judging.limits import exceeded, limits_in_words, limits_way_out
 from ..programs.program import READ_OR_WRITE
 from ..programs.progress import Progress
-from ..week.faults import Misuse, fault_line
+from ..week.faults import FileFault, Misuse, fault_line
 from ..week.files import read_solution
 from ..week.hints import plural
 from . import pages
@@ -19,6 +19,7 @@ from .plan_days import WEEK_DAYS, PlanDays
 from .record import Record, read_record
 from .ward_folder import WardFolder
 from .ward_plan import Sheet, WardPlan, continued, first_plan, read_stored, roster_name
+from .week_rows import anew_lines
 from .wording import Wording
 from .written_absences import WrittenAbsence
 
@@ -75,11 +76,25 @@ class PlanStore:
         self.folder.add(verb.split(" ", 1)[0], plan.texts(Record(verb, now, plan.days, plan.open_week, plan.published)), now)
         return self.pages(plan, old)
 
+    def anew(self, plan: WardPlan) -> List[str]:
+        """Warnings of rows of the needs with a week, at the begin of a period that follows another one."""
+        last = self.folder.last()
+        return list(anew_lines(plan.sheet.week_rows, plan.days)) if last and _ends_period(last) else []
+
+    def periods_before(self) -> int:
+        """The number of periods that were over before the last verb."""
+        return sum(map(_ends_period, self.folder.all_plans()[:-1]))
+
+    def worked_pages(self, plan: Optional[WardPlan]) -> Dict[str, str]:
+        """The pages of weeks that are over, and their texts. That of the plan is an undone one if no week of it is over."""
+        undone = pages.worked_name(plan.days, self.periods_before()) if plan and not plan.open_week else None
+        return {name: text for name, text in pages.worked_pages(self.folder.top).items() if name != undone}
+
     def pages(self, plan: WardPlan, old: Optional[WardPlan] = None) -> List[str]:
         """Writes the pages of a plan. Returns the lines that name them."""
         top = self.folder.top
         try:
-            written = [pages.write_worked_page(top, plan)] if plan.open_week else []
+            written = [pages.write_worked_page(top, plan, self.periods_before())] if plan.open_week else []
             if plan.is_planned and plan.weeks:
                 written.append(pages.write_roster_page(top, plan, old))
             if plan.published and plan.is_planned and plan.weeks:
@@ -89,6 +104,14 @@ class PlanStore:
             self.status = READ_OR_WRITE
             return [f"the plan holds, but its pages are not written: {fault_line(fault)}"]
         return [f"written: {', '.join(map(str, written))}"] * bool(written)
+
+
+def _ends_period(folder: Path) -> bool:
+    """Whether the verb of a plan's folder has ended a period; a folder that is damaged has not."""
+    try:
+        return not read_record(folder).days.weeks
+    except (FileFault, OSError):
+        return False
 
 
 def published_days(folders: Iterable[Path], days: PlanDays) -> Dict[str, Set[int]]:

@@ -12,6 +12,7 @@ from ..week.hints import plural
 from .agreed_days import AgreedDay, broken_line
 from .days_beside import beside_lines
 from .few_changes import CALL_POINTS, POINTS
+from .leave_words import leave_lines
 from .needless_changes import without_needless_changes
 from .plan_days import WEEK_DAYS
 from .plan_search import MOST, NONE, Asked, Found, search_plan, why_no_plan
@@ -33,7 +34,7 @@ def plan(store: PlanStore, words: Sequence[str], seconds: Optional[float], free:
     wording = wording_of(old, words, "plan, or plan 2026-12-09 to leave all days before it as they are")
     first = old.first if wording.is_over else wording.open_day()
     wording.end()
-    for warning in old.sheet.warnings:
+    for warning in (*old.sheet.warnings, *store.anew(old)):
         store.means.say(f"warning: {readable(warning)}")
     few = old.published and old.is_planned and not free
     asked = Asked(first, few, seconds or WEEK_SECONDS * len(old.weeks))
@@ -91,6 +92,9 @@ def _search(store: PlanStore, verb: str, old: WardPlan, asked: Asked) -> List[st
     """Searches, writes the plan, and says what it costs and what changes."""
     days = old.days.span([asked.first, old.days.total - 1])
     store.means.say(f"{days}, at most {asked.seconds:g} s{f'; {store.means.end}' if store.means.end else ''}")
+    if asked.few_changes and old.is_planned:
+        counted = f"{POINTS} points for each shift that changes, and {CALL_POINTS} for each nurse to call"
+        store.means.say(f"the penalties of the search count also {counted}; the points of the plan are without them")
     # A second Ctrl-C does not end it before the plan is written.
     with interrupts():
         try:
@@ -135,7 +139,7 @@ def _result(store: PlanStore, old: WardPlan, found: Found, few_changes: bool) ->
         # Nobody has seen the older plan.
         lines.append(f"{plural(len(changes), 'shift')} {'differs' if len(changes) == 1 else 'differ'} from the last plan")
     lines += [_broken(old, new, one) for one in old.agreed if one not in new.agreed]
-    lines += [*beside_lines(new), *wish_lines(before, new), *cost_lines(new)]
+    lines += [*beside_lines(new), *leave_lines(new), *wish_lines(before, new), *cost_lines(new)]
     lines += [f"a change was counted as {POINTS} points more, and a nurse to call as {CALL_POINTS}; they are not in this sum"] * few_changes
     lines += [_SHARE.sub("", found.bound)] * (is_kept and not few_changes)
     lines += ["stopped: this is the best plan until then"] * found.stopped

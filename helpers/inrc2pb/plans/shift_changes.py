@@ -34,7 +34,7 @@ def change_lines(changes: List[ShiftChange], days: PlanDays, away: Away = {}) ->
 
     def line(one: ShiftChange) -> str:
         now = cell_text(one.now) if one.now else away.get((one.nurse, one.day), OFF)
-        return f"{readable(one.nurse)}, {days.text(one.day)}: {now}, before {cell_text(one.before)}"
+        return f"{readable(one.nurse)}, {days.text(one.day)}: {now} instead of {cell_text(one.before)}"
 
     return [line(one) for one in changes]
 

@@ -2,7 +2,7 @@
 
 from dataclasses import replace
 from pathlib import Path
-from typing import List, Optional, Sequence
+from typing import Dict, List, Optional, Sequence
 
 from ..judging.absences import readable
 from ..judging.demand import ABOVE_LIMITS, UNKEPT
@@ -36,6 +36,10 @@ class Verbs:
         """The plan that holds, with what the spreadsheet says now."""
         return self._store.current()
 
+    def worked_pages(self, plan: Optional[WardPlan]) -> Dict[str, str]:
+        """The pages of weeks that are over, with this plan, if there is one, and their texts."""
+        return self._store.worked_pages(plan)
+
     def plan(self, words: Sequence[str], seconds: Optional[float], free: bool) -> List[str]:
         """Plans the weeks that are not over, or what is left of them from a day on."""
         return search_verbs.plan(self._store, words, seconds, free)
@@ -60,7 +64,7 @@ class Verbs:
         """The warnings of the spreadsheet, and the ward in sentences. That no plan can meet a minimum is in the status."""
         plan = self.current()
         self._store.status = _status_of(plan.sheet.warnings)
-        lines = [f"warning: {line}" for line in (*map(readable, plan.sheet.warnings), *beside_lines(plan))]
+        lines = [f"warning: {line}" for line in (*map(readable, plan.sheet.warnings), *self._store.anew(plan), *beside_lines(plan))]
         limits = limit_sentences(plan.scenario, plan.data[plan.open_week]) if plan.weeks else ()
         lines += [*scenario_sentences(plan.scenario), *limits, "", *history_sentences(plan.histories[plan.open_week], plan.sheet.credit)]
         for number in plan.weeks:

@@ -25,7 +25,7 @@ from .agreed_days import NAME as AGREED
 from .agreed_days import AgreedDay, agreed_text, read_agreed
 from .free_days import days_away_of
 from .leavers import leaving_days, with_shifts_until_leaving
-from .plan_days import WEEK_DAYS, PlanDays
+from .plan_days import PERIOD_IS_OVER, WEEK_DAYS, PeriodOver, PlanDays
 from .record import Record, read_record
 from .written_absences import WrittenAbsence, read_written, written_text
 from .written_absences import NAME as ABSENCES
@@ -39,7 +39,8 @@ Cells = Tuple[Cell, ...]
 
 class Sheet(NamedTuple):
     """A spreadsheet as the texts of a ward's files by their names, warnings, the shifts as which days away count in its history, the times
-    of shift types, and the days for which the needs have numbers of their own, as for a bank holiday."""
+    of shift types, the days for which the needs have numbers of their own, as for a bank holiday, and the week of each row of the needs that
+    has one."""
 
     texts: Dict[str, str]
     warnings: Sequence[str]
@@ -47,6 +48,7 @@ class Sheet(NamedTuple):
     credit: Dict[str, int]
     times: Mapping[str, Times] = {}
     holidays: FrozenSet[int] = frozenset()
+    week_rows: Mapping[int, int] = {}
 
 
 class Stored(NamedTuple):
@@ -266,7 +268,7 @@ def _check_days(now: PlanDays, before: PlanDays) -> None:
         return
     begin = "" if before.monday is None else f" from {before.monday} on"
     if not before.weeks:
-        raise Misuse(f"a period is over: write the days of the next one{begin} into the sheet plan, with its wishes and absences")
+        raise PeriodOver(f"a {PERIOD_IS_OVER}: write the days of the next one{begin} into the sheet plan, with its wishes and absences")
     raise Misuse(
         f"the plan has {plural(before.weeks, 'week')}{begin}, and the sheet plan has other days: write these, or plan in another folder"
     )

@@ -10,10 +10,11 @@ from ..judging.limits import exceeded, limits_in_words
 from ..judging.next_history import next_history
 from ..week.faults import Misuse
 from ..week.records import Cell, Place
-from .plan_days import WEEK_DAYS, PlanDays
+from .plan_days import PERIOD_IS_OVER, WEEK_DAYS, PlanDays
 from .plan_store import PlanStore, wording_of
 from .shift_changes import OFF, change_lines, shift_changes
 from .ward_plan import WardPlan
+from .week_rows import anew_lines
 from .wording import Wording
 
 
@@ -68,7 +69,7 @@ def _next_week(store: PlanStore, worked: WardPlan) -> List[str]:
     lines = [f"week {number} is over: the plan goes on from {new.days.text(new.first)}"]
     broken = [line for number in new.weeks for line in _broken_in(new, number)]
     if broken:
-        lines += [*broken, f"after these corrections the plan does not fit any more: plan again, from {new.days.head(new.first)} on"]
+        lines += [*broken, f"after these corrections the plan does not fit any more: plan again, from {new.days.text(new.first)} on"]
     return [*lines, *store.save(f"over {number}", new)]
 
 
@@ -91,4 +92,5 @@ def _next_period(store: PlanStore, worked: WardPlan) -> List[str]:
     lines = store.pages(replace(worked, open_week=number + 1, published=False))
     begin = f"from {monday} on, " if monday else ""
     then = "into the sheet plan, with its wishes and absences; then plan"
-    return [*lines, "the period is over", f"write the days of the next one, {begin}{then}"]
+    closed = f"week {number} is over, and with it the {PERIOD_IS_OVER}"
+    return [*lines, closed, f"write the days of the next one, {begin}{then}", *anew_lines(worked.sheet.week_rows, begun.days)]

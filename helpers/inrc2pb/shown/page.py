@@ -153,7 +153,8 @@ def charges_section(page: Content) -> Markup:
         folds.append(_foldable("Places with fewer nurses than best", charged[None], items[None]))
     free = [plain(nurse) for nurse in view.nurses if nurse not in charged]
     rules = sorted({charge.rule for of_nurse in charged.values() for charge in of_nurse})
-    lines = [element("p", f"Nothing is charged to {', '.join(free)}.")] * bool(free)
+    lines = [element("p", line) for line in view.without_costs()]
+    lines += [element("p", f"Nothing is charged to {', '.join(free)}.")] * (bool(free) and view.has_costs)
     lines += [element("p", "; ".join(f"{rule}: {RULES[rule]}" for rule in rules))] * bool(rules)
     return section(f"Cost: {view.penalty} points" if view.penalty is not None else "Cost", *lines, element("div", *folds, class_="folds"))
 
@@ -169,7 +170,7 @@ def _details(page: Content) -> List[Markup]:
     covered = list(coverage_tables(page))
     if covered:
         parts.append(section("Coverage", *covered))
-    if page.view.has_costs:
+    if page.view.has_costs or any(page.view.without_costs()):
         parts.append(charges_section(page))
     return parts
 

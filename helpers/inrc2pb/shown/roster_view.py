@@ -160,6 +160,12 @@ class RosterView:
         """Whether the cost of each nurse is known."""
         return any(week.charges is not None for week in self.weeks)
 
+    def without_costs(self) -> Iterator[str]:
+        """A line for each week that has no cost, since its roster breaks a hard rule."""
+        for week in (week for week in self.weeks if week.breaches):
+            others = ": the sums on this page are without it" * (len(self.weeks) > 1)
+            yield f"Week {week.number} has no cost, since it breaks rule {week.breaches[0].rule}{others}."
+
     @cached_property
     def costs(self) -> Dict[str, Dict[str, int]]:
         """The cost of each nurse in all weeks, by rule."""

@@ -16,6 +16,7 @@ from inrc2pb.plans import pages, ward_folder
 from inrc2pb.plans.agreed_days import AgreedDay, agreed_text, read_agreed
 from inrc2pb.plans.days_beside import beside_lines
 from inrc2pb.plans.few_changes import with_few_changes
+from inrc2pb.plans.leave_words import leave_lines
 from inrc2pb.plans.needless_changes import without_needless_changes
 from inrc2pb.plans.plan_days import PlanDays
 from inrc2pb.plans.plan_store import not_kept_lines
@@ -51,13 +52,13 @@ class Words(KeptTest):
     def test_a_change_of_skill_is_told_and_the_nurse_is_called(self):
         old, new = [Cell("Amara", 0, "Day", "Nurse")], [Cell("Amara", 0, "Day", "Charge")]
         changes = shift_changes(old, new)
-        self.assertEqual(change_lines(changes, BARE), ["Amara, Mon of week 0: Day Charge, before Day Nurse"])
+        self.assertEqual(change_lines(changes, BARE), ["Amara, Mon of week 0: Day Charge instead of Day Nurse"])
         self.assertEqual(call_lines(changes), ["1 nurse to call: Amara"])
 
     def test_who_is_away_on_a_changed_day_is_not_called(self):
         old, new = [Cell("Amara", 0, "Day", "Nurse")], [Cell("Bruno", 0, "Day", "Nurse")]
         changes, away = shift_changes(old, new), {("Amara", 0): "ill"}
-        says = ["Amara, Mon of week 0: ill, before Day Nurse", "Bruno, Mon of week 0: Day Nurse, before off"]
+        says = ["Amara, Mon of week 0: ill instead of Day Nurse", "Bruno, Mon of week 0: Day Nurse instead of off"]
         self.assertEqual((change_lines(changes, BARE, away), call_lines(changes, away)), (says, ["1 nurse to call: Bruno"]))
 
     def test_lost_wishes(self):
@@ -131,6 +132,17 @@ class Words(KeptTest):
         self.assertIn(f"<p>{says}</p>", page_text(pages.roster_content(plan)))
         self.assertNotIn(says, page_text(replace(pages.roster_content(plan), only_table=True)))
 
+    def test_days_away_that_count_as_days_off_are_told(self):
+        # Grace is off on both weekends. Her contract has at most four days off in a row; she has leave on the three days after the first one.
+        self.rows["contracts"][1][6] = "4"
+        self.rows["plan"][7][8:11] = ["leave"] * 3
+        self.write()
+        plan = replace(self.plan, sheet=read_sheet(self.ward, None, ()))
+        plan = plan.with_cells(cell for cell in plan.cells() if cell.nurse != "Grace" or cell.day not in (7, 8, 9))
+        says = "Mon 7 Dec to Wed 9 Dec: 5 days off in a row (2 before Mon 7 Dec), at most 4: her days away (leave) count as days off"
+        self.assertEqual(list(leave_lines(plan)), [f"30 points: Grace, {says}"])
+        self.assertEqual(list(leave_lines(self.plan)), [])
+
     def test_a_nurse_who_leaves_may_have_the_shifts_until_then(self):
         # Grace has five shifts from Monday to Friday. Her limit is that of the part of the plan before she leaves, rounded up.
         self.rows["contracts"][1][1:3] = ["0", "8!"]
@@ -168,7 +180,7 @@ class Words(KeptTest):
 class Weeks(KeptTest):
     def test_a_week_after_which_the_plan_breaks_a_rule(self):
         printed = self.does("over", "Bruno", "Sun", "Night,", "Finn", "Fri", "off,")
-        cure = "after these corrections the plan does not fit any more: plan again, from 2026-12-07 on"
+        cure = "after these corrections the plan does not fit any more: plan again, from Mon 7 Dec on"
         self.assertIn("week 1 breaks H3: Bruno may not work Day on Mon after Night on the Sunday before\n", printed)
         self.assertIn(f"{cure}\n", printed)
         self.assertIn("week 0 breaks H2: Fri Late Nurse has 0 nurses and needs at least 1\n", printed)
@@ -184,7 +196,7 @@ class Weeks(KeptTest):
         printed = self.does("over", "Grace", "Sat", "Day", "Grace", "Sun", "Day")
         self.assertIn("week 0 exceeds a limit that holds: Grace has 7 days of work in a row", printed)
         self.assertIn("week 1 exceeds a limit that holds: Grace has 12 days of work in a row, to Fri 11 Dec, of at most 5", printed)
-        self.assertIn("plan again, from 2026-12-07 on", printed)
+        self.assertIn("plan again, from Mon 7 Dec on", printed)
 
     def test_the_page_for_the_wall(self):
         # On Friday of week 1 one nurse fewer is best, as on a bank holiday; the other cells are as in all weeks.
@@ -210,9 +222,18 @@ class Weeks(KeptTest):
 
     def test_the_weeks_as_they_were_worked(self):
         self.does("over", "Finn", "Fri", "off")
-        page = ElementTree.parse(self.ward / "worked.html")
+        page = ElementTree.parse(self.ward / "worked-2026-11-30.html")
         finn = next(row for row in page.iter("tr") if "".join(row[0].itertext()) == "Finn")
         self.assertEqual(["".join(cell.itertext()) for cell in finn[1:8]], ["Late Nurse"] * 2 + [""] * 3 + ["Late Nurse"] * 2)
+
+        # Late Nurse has nobody on Friday, so the week has no cost.
+        text = "".join(page.getroot().itertext())
+        self.assertIn("Week 0 has no cost, since it breaks rule H2.", text)
+        self.assertNotIn("Nothing is charged", text)
+        self.does("over")
+        text = (self.ward / "worked-2026-11-30.html").read_text()
+        self.assertIn("<p>Week 0 has no cost, since it breaks rule H2: the sums on this page are without it.</p>", text)
+        self.assertNotIn("Week 1 has no cost", text)
 
     def test_a_correction_with_its_skill(self):
         self.does("over", "Amara", "Thu", "Day/Nurse")

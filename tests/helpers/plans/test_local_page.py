@@ -127,6 +127,12 @@ class Page(FolderTest):
         self.assertIn('<option value="Grace" selected="">', page)
         self.assertIn('<option value="2026-12-04" selected="">', page)
 
+    def test_a_day_of_leave_that_is_clicked(self):
+        self.rows["plan"][3][1] = "leave"
+        self.write()
+        self.write_plan()
+        self.assertIn("<h2>Chen, Mon 30 Nov: leave</h2>", self.asks(path=f"{self.site.path}?nurse=Chen&day=0")[1])
+
     def test_a_look_for_a_swap_has_a_button_that_writes_it(self):
         self.write_plan()
         self.asks("POST", form="verb=swap&nurse=Grace&first=2026-11-30&other=Chen&other+day=")
@@ -156,13 +162,17 @@ class Page(FolderTest):
         self.assertIn(f"The spreadsheet is {self.ward}", page)
         self.write_plan()
         self.assertNotIn("Weeks that are over", self.asks()[1])
-        self.assertEqual(self.asks(path=f"{self.site.path}worked")[0], 404)
+        worked = f"{self.site.path}worked-{DATES[0]}.html"
+        self.assertEqual(self.asks(path=worked)[0], 404)
         for _ in range(2):
-            self.assertIn(f'href="{self.site.path}worked"', self.sends(verb="over"))
-            self.assertIn("weeks 0" if _ else "week 0", self.asks(path=f"{self.site.path}worked")[1])
+            self.assertIn(f'href="{worked}">Weeks that are over, from 30 Nov 2026 on</a>', self.sends(verb="over"))
+            self.assertIn("weeks 0" if _ else "week 0", self.asks(path=worked)[1])
         # The period is over: the page says what to write into the spreadsheet, and undo goes back.
         page = self.asks()[1]
-        self.assertIn("write the days of the next one from 2026-12-14 on", page)
+        self.assertRegex(page, '<pre role="status">[^<]*\nweek 1 is over, and with it the period is over\n'
+                         "write the days of the next one, from 2026-12-14 on, into the sheet plan")  # fmt: skip
+        self.assertIn("Write the days of the next period into the sheet plan of ", page)
+        self.assertNotIn("Correct that", page)
         self.assertIn(f'<a href="{self.site.path}">load this page again</a>', page)
         self.assertIn("<h2>Undo?</h2>", self.asks("POST", form="verb=undo")[1])
         self.assertIn("holds again", self.sends(verb="undo"))

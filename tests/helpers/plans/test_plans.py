@@ -197,7 +197,10 @@ class Verbs(FolderTest):
     def test_a_plan_an_illness_and_the_way_back(self):
         self.begin()
         before, old = self.cells(), self.texts()
-        printed = self.does("ill", "Gra", "Wed", "Fri")
+        status, printed, said = run("plan", self.ward, "ill", "Gra", "Wed", "Fri", "--time", "10")
+        self.assertEqual(status, 0, said)
+        counted = "20 points for each shift that changes, and 20 for each nurse to call; the points of the plan are without them\n"
+        self.assertIn(f"the penalties of the search count also {counted}", said)
         now = self.cells()
         self.assertFalse({("Grace", day) for day in (2, 3, 4)} & set(now))
         self.assertEqual([item for item in before.items() if item[0][1] < 2], [item for item in now.items() if item[0][1] < 2])
@@ -351,7 +354,7 @@ class Verbs(FolderTest):
         status, _, said = run("plan", self.ward, "ill", "Chen", "2026-12-01")
         line = "Tue 1 Dec is in a week that is over: the plan goes on from Mon 7 Dec"
         self.assertEqual((status, said), (1, f"inrc2pb-plan: {line}\n"))
-        self.assertIn("the period is over\n", self.does("over"))
+        self.assertIn("week 1 is over, and with it the period is over\n", self.does("over"))
         status, _, said = run("plan", self.ward, "plan")
         self.assertEqual((status, said.split(":")[1]), (1, " a period is over"))
         later = [str(MONDAY + datetime.timedelta(days=14 + day)) for day in range(7)]

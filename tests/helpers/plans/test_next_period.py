@@ -1,0 +1,78 @@
+"""Tests of the plans of a ward's folder from one period to the next one."""
+
+import datetime
+import unittest
+from dataclasses import replace
+
+from test_kept_plans import KeptTest
+from test_plans import MONDAY
+from ward import ROSTER, files, run
+
+from inrc2pb.commands.plan import read_sheet
+from inrc2pb.plans.pages import worked_pages
+from inrc2pb.plans.record import Record
+from inrc2pb.plans.ward_folder import WardFolder
+from inrc2pb.plans.ward_plan import continued, read_stored
+
+
+class NextPeriod(KeptTest):
+    def write_next(self, monday):
+        """Writes the days of a period of two weeks into the sheet plan, from this Monday on, or without dates."""
+        heads = [f"{monday + datetime.timedelta(days=day)}" for day in range(14)] if monday else []
+        heads = heads or [f"{name} {week}" for week in range(2) for name in ("Mon", "Tue", "Wed", "Thu", "Fri", "Sat", "Sun")]
+        self.rows["plan"] = [["nurse", *heads], *([row[0]] for row in self.rows["plan"][1:])]
+        self.write()
+
+    def plan_next(self):
+        """Writes a plan of the period, which has the stored roster in both weeks."""
+        rows = files.read_solution(ROSTER).cells
+        plan = replace(continued(read_stored(self.last()), read_sheet(self.ward, None, ())), rosters={0: rows, 1: rows})
+        now = datetime.datetime(2026, 12, 13, 12, 0)
+        WardFolder(self.ward).add("plan", plan.texts(Record("plan", now, plan.days, 0, False)), now)
+
+    def end_period(self):
+        """Ends both weeks. Returns what the last verb has printed."""
+        self.does("over")
+        return self.does("over")
+
+    def worked(self):
+        """The names of the pages of weeks that are over."""
+        return list(worked_pages(self.ward))
+
+    def test_each_period_has_a_page_of_its_weeks(self):
+        self.end_period()
+        monday = MONDAY + datetime.timedelta(days=14)
+        self.write_next(monday)
+        self.plan_next()
+        first, second = (f"worked-{day}.html" for day in (MONDAY, monday))
+        before = (self.ward / first).read_bytes()
+        self.does("over")
+        self.assertEqual((self.worked(), (self.ward / first).read_bytes()), ([second, first], before))
+        self.assertIn("14 Dec to 20 Dec 2026", (self.ward / second).read_text())
+
+    def test_each_period_without_dates_has_a_page_of_its_weeks(self):
+        for folder in (self.ward / "plans").glob("0*"):
+            folder.rename(self.folder / folder.name)
+        self.write_next(None)
+        self.write_plan()
+        self.end_period()
+        self.plan_next()
+        self.does("over")
+        self.assertEqual(self.worked(), ["worked-1.html", "worked-0.html"])
+
+    def test_weeks_of_the_needs_count_anew(self):
+        # The last row of the needs is of a bank holiday in week 1.
+        self.rows["needs"].append(["1", "Day", "Nurse", *[""] * 4, "1", "", ""])
+        self.write()
+        row = f"sheet needs, row {len(self.rows['needs'])}: weeks count anew, and this is week 1, now Mon 21 Dec to Sun 27 Dec: "
+        self.assertNotIn("count anew", run("plan", self.ward, "check")[1])
+        self.assertIn(row, self.end_period())
+        self.write_next(MONDAY + datetime.timedelta(days=14))
+        self.assertIn(f"warning: {row}", run("plan", self.ward, "check")[1])
+        self.plan_next()
+        self.assertNotIn("count anew", run("plan", self.ward, "check")[1])
+
+
+
+if __name__ == "__main__":
+    unittest.main()
