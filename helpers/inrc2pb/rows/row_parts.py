@@ -21,8 +21,8 @@ FIRST_SIZE, LEAST_SIZE = 20.0, 4
 # Work is the same on a busy machine. The most seconds of one.
 QUICK_SHARE, MOST_SECONDS = 0.4, 60.0
 GROWTH, SHRINKAGE = 1.15, 0.8
-# The shares of the days of a week, or of a period, that neighborhoods have.
-DAYS_SHARES, SHARES_OF_DAYS = (0.35, 0.5, 0.75, 1.0), (0.125, 0.25, 0.5, 0.75, 1.0)
+# The shares of the days that neighborhoods of a week have, and those of a period.
+WEEK_SHARES, PERIOD_SHARES = (0.35, 0.5, 0.75, 1.0), (0.125, 0.25, 0.5, 0.75, 1.0)
 # The share of the neighborhoods in which one or two nurses must have another choice on a day, and the roster may cost as much as before.
 CHANGED_SHARE, MOST_CHANGED = 0.4, 2
 # Above this gap, in thousandths, dives are made in a week, too.
@@ -49,7 +49,7 @@ class RowParts:
         for number, solver in enumerate(solvers):
             own = PartSearch(search.pricing, known, solver)
             self._searches[solver] = PartWorker(self._workers[number], own) if apart else own
-        shares = SHARES_OF_DAYS if len(search.plan.weeks) > 1 else DAYS_SHARES
+        shares = PERIOD_SHARES if len(search.plan.weeks) > 1 else WEEK_SHARES
         lengths = dict.fromkeys(math.ceil(share * search.plan.days) for share in shares)
         # For each number of days the number of nurses of the next neighborhood, and the work of those that were in vain; the work of dives.
         self._sizes = {length: min(len(search.plan.nurses), FIRST_SIZE * (WEEK_DAYS / length) ** 0.5) for length in lengths}
@@ -69,17 +69,17 @@ class RowParts:
 
     def _run(self, shared: Clock) -> None:
         with concurrent.futures.ThreadPoolExecutor(len(self._solvers)) as pool:
-            workers = [pool.submit(self._work, solver, shared, number) for number, solver in enumerate(self._solvers)]
-            left = len(workers)
+            threads = [pool.submit(self._work, solver, shared, number) for number, solver in enumerate(self._solvers)]
+            left = len(threads)
             try:
-                for worker in concurrent.futures.as_completed(workers):
+                for thread in concurrent.futures.as_completed(threads):
                     try:
-                        worker.result()
+                        thread.result()
                     except SolverFault as fault:
                         left -= 1
                         if not left:
                             raise
-                        self._solvers[0].warn(f"{fault}: the search goes on with {left} of {len(workers)} threads")
+                        self._solvers[0].warn(f"{fault}: the search goes on with {left} of {len(threads)} threads")
             except (SolverFault, TimeIsOver):
                 # A thread that finds the proof stops the clock of all, and their solvers.
                 if not self._search.is_proved:
@@ -91,7 +91,7 @@ class RowParts:
         """One thread: neighborhoods of sizes that its time allows, and dives if no other thread makes one. In a week with a small gap the
         first thread begins with all nurses."""
         search = self._search
-        if not self._dives and number == 0 and search.bound is not None and search.penalty is not None and search.gap() < SMALL_GAP * search.bound:
+        if number == 0 and not self._dives and search.bound is not None and search.gap() < SMALL_GAP * search.bound:
             everything = Part(tuple(range(len(search.plan.nurses))), range(search.plan.days), limited=False)
             self.improve(everything, solver, clock.part(clock.left() * WHOLE_SHARE))
         while not search.is_proved:
@@ -101,8 +101,7 @@ class RowParts:
                 self._dive(solver, clock, dive)
                 continue
             part, penalty = self._next(), search.penalty
-            done = self.improve(part, solver, clock.part(MOST_SECONDS))
-            self._learn(part, done, search.penalty != penalty)
+            self._learn(part, self.improve(part, solver, clock.part(MOST_SECONDS)), search.penalty != penalty)
         clock.stop()
         solver.end_all()
 
