@@ -170,6 +170,16 @@ class Words(KeptTest):
         back = replace(plan, written=(WrittenAbsence("Grace", 5, "back"),))
         self.assertEqual(days_off_beside_absences(back), set())
 
+    def test_a_swap_is_marked_but_not_on_the_wall(self):
+        plan = replace(self.plan, agreed=(AgreedDay("Grace", 7), AgreedDay("Chen", 7)))
+        content = pages.roster_content(plan)
+        table = ElementTree.fromstring(page_text(content).partition("\n")[2])
+        marked = {row[0].text: [cell for cell, part in enumerate(row) if "a swap that was written" in "".join(part.itertext())]
+                  for row in next(table.iter("table")).iter("tr") if len(row)}  # fmt: skip
+        self.assertEqual({nurse: cells for nurse, cells in marked.items() if cells}, {"Grace": [8], "Chen": [8]})
+        self.assertIn("<li>\u21c4 = a swap that was written</li>", page_text(content))
+        self.assertNotIn("\u21c4", page_text(replace(content, only_table=True)) + page_text(pages.roster_content(self.plan)))
+
     def test_agreed_days_cost_much(self):
         old = [Cell("Chen", 4, "Late", "Nurse")]
         asked = with_few_changes(self.plan.scenario, replace(self.plan.data[0], requests=()), old, [], agreed=[("Chen", 4), ("Grace", 4)])
