@@ -35,8 +35,8 @@ class Content:
 
     `only_table` is for a wall: nothing on what the roster costs, nor on wishes and held shifts. `link` has the address of a nurse's day
     in a week of the table, if its cells are links. `holidays` are days from the first Monday on with numbers of their own, as bank holidays
-    have, `as_of` says when the page was made, `notes` are lines on what to look at, and `swapped` has the weeks of the table, nurses and days
-    of swaps that were written.
+    have, `as_of` says when the page was made, `notes` are lines on what to look at, and `swapped` has the weeks of the table, nurses and
+    days of swaps that were written.
     """
 
     view: RosterView
