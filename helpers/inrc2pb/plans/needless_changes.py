@@ -9,7 +9,8 @@ from ..judging.absences import absences_of, is_broken_by
 from ..judging.days_away import DaysAway
 from ..judging.rules import MISSING_NURSE
 from ..week.records import Cell, Place
-from .few_changes import CALL_POINTS, POINTS
+from .days_beside_absences import days_off_beside_absences
+from .few_changes import BESIDE_POINTS, CALL_POINTS, POINTS
 from .nurse_weeks import NurseWeeks
 from .plan_days import WEEK_DAYS
 from .shift_changes import ShiftChange, shift_changes
@@ -35,6 +36,7 @@ class _Judge:
     def __init__(self, old: WardPlan, plan: WardPlan) -> None:
         self._plan, self._alone, self._before = plan, NurseWeeks(plan), _by_nurse(plan, old.works)
         self._away = {number: absences_of(plan.data[number]) for number in plan.weeks}
+        self._beside = days_off_beside_absences(old)
         self._held: Dict[str, Dict[int, Cell]] = {nurse: {} for nurse in plan.scenario.nurses}
         for number in plan.weeks:
             for cell in plan.held[number]:
@@ -86,7 +88,8 @@ class _Judge:
         before = self._before[nurse]
         changed = [day for day in {*before, *cells} if before.get(day) != cells.get(day)] if before else []
         is_called = any((nurse, day) not in self._plan.away for day in changed)
-        return self._alone.cost(nurse, cells) + POINTS * len(changed) + CALL_POINTS * is_called
+        beside = sum((nurse, day) in self._beside for day in changed)
+        return self._alone.cost(nurse, cells) + POINTS * len(changed) + CALL_POINTS * is_called + BESIDE_POINTS * beside
 
 
 def _by_nurse(plan: WardPlan, works: Mapping[Key, Cell]) -> Dict[str, Dict[int, Cell]]:

@@ -22,6 +22,7 @@ from ..week.files import history_text, solution_text, week_text
 from ..week.records import DAYS, Cell, Solution, Week, WeekData
 from ..week.writing import write_text
 from .agreed_days import AgreedDay
+from .days_beside_absences import days_off_beside_absences
 from .few_changes import CALL_POINTS, with_few_changes
 from .plan_days import WEEK_DAYS
 from .skill_labels import with_old_skills
@@ -120,7 +121,9 @@ def _week(old: WardPlan, number: int, softly: range, agreed: Collection[Tuple[st
     if number not in old.rosters:
         return old.data[number]
     new = set(old.scenario.nurses) - {nurse for nurse, _ in old.works}
-    return with_few_changes(old.scenario, old.data[number], old.rosters[number], softly, agreed=agreed, new=new)
+    days_off = ((nurse, day - WEEK_DAYS * number) for nurse, day in days_off_beside_absences(old))
+    beside = [(nurse, day) for nurse, day in days_off if day in range(WEEK_DAYS)]
+    return with_few_changes(old.scenario, old.data[number], old.rosters[number], softly, agreed=agreed, new=new, beside=beside)
 
 
 def _kept_agreed(old: WardPlan, asked: Asked) -> List[AgreedDay]:

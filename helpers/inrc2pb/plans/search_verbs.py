@@ -11,7 +11,7 @@ from ..week.faults import Misuse, ProgramFault
 from ..week.hints import plural
 from .agreed_days import AgreedDay, broken_line
 from .days_beside import beside_lines
-from .few_changes import CALL_POINTS, POINTS
+from .few_changes import BESIDE_POINTS, CALL_POINTS, POINTS
 from .leave_words import leave_lines
 from .needless_changes import without_needless_changes
 from .plan_days import WEEK_DAYS
@@ -24,6 +24,8 @@ from .written_absences import BACK, with_days
 
 # The seconds of a search, for each week if it is a whole plan.
 WEEK_SECONDS, CHANGE_SECONDS = 20.0, 30.0
+# What a search for few changes counts beside the charges of the rules.
+_CHANGED = f"{POINTS} points for a changed shift, {BESIDE_POINTS} more if it is on a day off beside days away"
 # The share at the end of a line on the bound: a few points above nothing are many per cent.
 _SHARE = re.compile(r", [0-9.]+ %$")
 
@@ -93,8 +95,8 @@ def _search(store: PlanStore, verb: str, old: WardPlan, asked: Asked) -> List[st
     days = old.days.span([asked.first, old.days.total - 1])
     store.means.say(f"{days}, at most {asked.seconds:g} s{f'; {store.means.end}' if store.means.end else ''}")
     if asked.few_changes and old.is_planned:
-        counted = f"{POINTS} points for each shift that changes, and {CALL_POINTS} for each nurse to call"
-        store.means.say(f"the penalties of the search count also {counted}; the points of the plan are without them")
+        call = f"the bound has also {CALL_POINTS} for a nurse to call"
+        store.means.say(f"penalties of the search have also {_CHANGED}, and {call}; the points of the plan have none of this")
     # A second Ctrl-C does not end it before the plan is written.
     with interrupts():
         try:
@@ -140,7 +142,7 @@ def _result(store: PlanStore, old: WardPlan, found: Found, few_changes: bool) ->
         lines.append(f"{plural(len(changes), 'shift')} {'differs' if len(changes) == 1 else 'differ'} from the last plan")
     lines += [_broken(old, new, one) for one in old.agreed if one not in new.agreed]
     lines += [*beside_lines(new), *leave_lines(new), *wish_lines(before, new), *cost_lines(new)]
-    lines += [f"a change was counted as {POINTS} points more, and a nurse to call as {CALL_POINTS}; they are not in this sum"] * few_changes
+    lines += [f"the search counted also {_CHANGED}, and {CALL_POINTS} for a nurse to call; they are not in this sum"] * few_changes
     lines += [_SHARE.sub("", found.bound)] * (is_kept and not few_changes)
     lines += ["stopped: this is the best plan until then"] * found.stopped
     if not is_kept:

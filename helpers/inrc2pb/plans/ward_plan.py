@@ -39,8 +39,8 @@ Cells = Tuple[Cell, ...]
 
 class Sheet(NamedTuple):
     """A spreadsheet as the texts of a ward's files by their names, warnings, the shifts as which days away count in its history, the times
-    of shift types, the days for which the needs have numbers of their own, as for a bank holiday, and the week of each row of the needs that
-    has one."""
+    of shift types, the days for which the needs have numbers of their own, as for a bank holiday, and the week of each row of the needs
+    that has one."""
 
     texts: Dict[str, str]
     warnings: Sequence[str]

@@ -2,7 +2,7 @@
 
 import datetime
 from dataclasses import dataclass, field
-from typing import Callable, Collection, Dict, Iterator, List, Mapping, Optional, Sequence
+from typing import Callable, Collection, Dict, Iterator, List, Mapping, Optional, Sequence, Tuple
 
 from .changes import Change, cells_text, changes
 from ..judging.coverage import Covered, coverage
@@ -20,6 +20,7 @@ MOST_ROOMY = 25
 CHANGED, CHANGED_MEANING = "\u0394", "changed since the older roster"
 WEEKENDS = "WE"
 HOLIDAY, HOLIDAY_MEANING = "\u2022", "other numbers of nurses are needed, as on a bank holiday"
+SWAPPED, SWAPPED_MEANING = "\u21c4", "a swap that was written"
 MINUS = "\u2212"
 
 
@@ -34,7 +35,8 @@ class Content:
 
     `only_table` is for a wall: nothing on what the roster costs, nor on wishes and held shifts. `link` has the address of a nurse's day
     in a week of the table, if its cells are links. `holidays` are days from the first Monday on with numbers of their own, as bank holidays
-    have, `as_of` says when the page was made, and `notes` are lines on what to look at.
+    have, `as_of` says when the page was made, `notes` are lines on what to look at, and `swapped` has the weeks of the table, nurses and
+    days of swaps that were written.
     """
 
     view: RosterView
@@ -46,6 +48,7 @@ class Content:
     holidays: Collection[int] = ()
     as_of: Optional[datetime.datetime] = None
     notes: Sequence[str] = ()
+    swapped: Collection[Tuple[int, str, int]] = ()
 
     def week_name(self, week: int) -> str:
         """The name of a week: its number, and that of the calendar if its dates are known."""
@@ -61,6 +64,10 @@ class Content:
     def days(self, week: int) -> Sequence[str]:
         """The names of a week's days."""
         return day_names(self.monday, week)
+
+    def is_swapped(self, week: int, nurse: str, day: int) -> bool:
+        """Whether the page shows that a nurse's day is of a swap that was written."""
+        return (week, nurse, day) in self.swapped and not self.only_table
 
     def marks(self, marks: str) -> str:
         """Those marks of a cell that the page shows."""
@@ -167,6 +174,8 @@ class RosterTable:
             parts.append(element("span", "off", class_="away"))
         if change:
             parts.append(joined(shown(CHANGED, class_="mark"), hidden(f" {CHANGED_MEANING}, before: {plain(cells_text(change.before))}")))
+        if self.page.is_swapped(week, nurse, day):
+            parts.append(joined(shown(SWAPPED, class_="mark"), hidden(f", {SWAPPED_MEANING}")))
         number = self.view.shifts.index(cells[0].shift) % len(COLORS) if cells else None
         kinds = [_weekend(day), f"s{number}" if cells else None, "changed" if change else None]
         if self.page.link:
@@ -194,6 +203,7 @@ class RosterTable:
         marks = {mark for week in self.view.weeks for row in week.cells for mark in self.page.marks(week.marks(row))}
         meanings = {**MEANINGS, CHANGED: CHANGED_MEANING}
         lines += [f"{mark} = {meaning}" for mark, meaning in meanings.items() if mark in marks or mark == CHANGED and self.changed]
+        lines += [f"{SWAPPED} = {SWAPPED_MEANING}"] * any(self.page.is_swapped(*one) for one in self.page.swapped)
         lines += [f"{HOLIDAY} = {HOLIDAY_MEANING}"] * bool(self.page.holidays)
         return lines + [f"{WEEKENDS} = weekends with work"] * self.page.only_table
 

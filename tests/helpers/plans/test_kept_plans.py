@@ -15,6 +15,7 @@ from inrc2pb.commands.plan import read_sheet
 from inrc2pb.plans import pages, ward_folder
 from inrc2pb.plans.agreed_days import AgreedDay, agreed_text, read_agreed
 from inrc2pb.plans.days_beside import beside_lines
+from inrc2pb.plans.days_beside_absences import days_off_beside_absences
 from inrc2pb.plans.few_changes import with_few_changes
 from inrc2pb.plans.leave_words import leave_lines
 from inrc2pb.plans.needless_changes import without_needless_changes
@@ -23,6 +24,7 @@ from inrc2pb.plans.plan_store import not_kept_lines
 from inrc2pb.plans.shift_changes import call_lines, change_lines, shift_changes
 from inrc2pb.plans.ward_plan import read_stored
 from inrc2pb.plans.wish_words import wish_lines
+from inrc2pb.plans.written_absences import WrittenAbsence
 from inrc2pb.programs.clock import Clock
 from inrc2pb.programs.progress import Progress
 from inrc2pb.search.bounds import Bound
@@ -155,6 +157,28 @@ class Words(KeptTest):
             self.assertEqual(limit, most, first)
             gone = plan.with_cells(cell for cell in plan.cells() if cell.nurse != "Grace" or cell.day < first - 1)
             self.assertFalse([line for line in not_kept_lines(gone) if "Grace" in line])
+
+    def test_days_off_beside_days_away_cost_more(self):
+        # Grace is off on both weekends, and ill on Friday: her weekend costs more, and days on which she is always off do not count.
+        self.rows["plan"][7][5], self.rows["nurses"][7][4] = "ill", "Sun"
+        self.write()
+        plan = replace(self.plan, sheet=read_sheet(self.ward, None, ()))
+        self.assertEqual(days_off_beside_absences(plan), {("Grace", 5)})
+        asked = with_few_changes(plan.scenario, replace(plan.data[0], requests=()), [], [5], beside=[("Grace", 5), ("Grace", 6)])
+        self.assertEqual({nurse: asked.requests.count(Request(nurse, None, 5)) for nurse in ("Ewa", "Grace")}, {"Ewa": 2, "Grace": 8})
+        # Who is back earlier can be called.
+        back = replace(plan, written=(WrittenAbsence("Grace", 5, "back"),))
+        self.assertEqual(days_off_beside_absences(back), set())
+
+    def test_a_swap_is_marked_but_not_on_the_wall(self):
+        plan = replace(self.plan, agreed=(AgreedDay("Grace", 7), AgreedDay("Chen", 7)))
+        content = pages.roster_content(plan)
+        table = ElementTree.fromstring(page_text(content).partition("\n")[2])
+        marked = {row[0].text: [cell for cell, part in enumerate(row) if "a swap that was written" in "".join(part.itertext())]
+                  for row in next(table.iter("table")).iter("tr") if len(row)}  # fmt: skip
+        self.assertEqual({nurse: cells for nurse, cells in marked.items() if cells}, {"Grace": [8], "Chen": [8]})
+        self.assertIn("<li>\u21c4 = a swap that was written</li>", page_text(content))
+        self.assertNotIn("\u21c4", page_text(replace(content, only_table=True)) + page_text(pages.roster_content(self.plan)))
 
     def test_agreed_days_cost_much(self):
         old = [Cell("Chen", 4, "Late", "Nurse")]

@@ -1,6 +1,7 @@
 """Tests of the plans of a ward's folder from one period to the next one."""
 
 import datetime
+import sys
 import unittest
 from dataclasses import replace
 
@@ -10,9 +11,12 @@ from ward import ROSTER, files, run
 
 from inrc2pb.commands.plan import read_sheet
 from inrc2pb.plans.pages import worked_pages
+from inrc2pb.plans.plan_store import Means
 from inrc2pb.plans.record import Record
+from inrc2pb.plans.verbs import Verbs
 from inrc2pb.plans.ward_folder import WardFolder
 from inrc2pb.plans.ward_plan import continued, read_stored
+from inrc2pb.programs.progress import Progress
 
 
 class NextPeriod(KeptTest):
@@ -39,6 +43,11 @@ class NextPeriod(KeptTest):
         """The names of the pages of weeks that are over."""
         return list(worked_pages(self.ward))
 
+    def linked(self):
+        """Those of them that the local page links."""
+        verbs = Verbs(WardFolder(self.ward), Means(read_sheet, Progress(sys.stderr), print))
+        return list(verbs.worked_pages(verbs.current()))
+
     def test_each_period_has_a_page_of_its_weeks(self):
         self.end_period()
         monday = MONDAY + datetime.timedelta(days=14)
@@ -46,9 +55,13 @@ class NextPeriod(KeptTest):
         self.plan_next()
         first, second = (f"worked-{day}.html" for day in (MONDAY, monday))
         before = (self.ward / first).read_bytes()
+        self.assertEqual(self.linked(), [first])
         self.does("over")
+        self.assertEqual(self.linked(), [second, first])
         self.assertEqual((self.worked(), (self.ward / first).read_bytes()), ([second, first], before))
         self.assertIn("14 Dec to 20 Dec 2026", (self.ward / second).read_text())
+        self.does("undo")
+        self.assertEqual(self.linked(), [first])
 
     def test_each_period_without_dates_has_a_page_of_its_weeks(self):
         for folder in (self.ward / "plans").glob("0*"):

@@ -199,8 +199,9 @@ class Verbs(FolderTest):
         before, old = self.cells(), self.texts()
         status, printed, said = run("plan", self.ward, "ill", "Gra", "Wed", "Fri", "--time", "10")
         self.assertEqual(status, 0, said)
-        counted = "20 points for each shift that changes, and 20 for each nurse to call; the points of the plan are without them\n"
-        self.assertIn(f"the penalties of the search count also {counted}", said)
+        counted = "also 20 points for a changed shift, 60 more if it is on a day off beside days away, and "
+        self.assertIn(f"penalties of the search have {counted}the bound has also 20 for a nurse to call; ", said)
+        self.assertIn(f"the search counted {counted}20 for a nurse to call; they are not in this sum\n", printed)
         now = self.cells()
         self.assertFalse({("Grace", day) for day in (2, 3, 4)} & set(now))
         self.assertEqual([item for item in before.items() if item[0][1] < 2], [item for item in now.items() if item[0][1] < 2])
