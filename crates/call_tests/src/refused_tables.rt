@@ -66,7 +66,7 @@ const FACTS: &[u8] = b"FACTS s1 ROWS = 2 HOLDS EVEN NOT CHOICE 1 Ann Mon None";
 // The number of facts.
 fn count_of_facts(alloc: Global, scenario: &Scenario) -> Result<usize, FileFault> {
     match read_facts(alloc, scenario, 1, FACTS) {
-        Ok(facts) => Ok(facts.len()),
+        Ok(facts) => Ok(facts.conditions.len()),
         Err(fault) => Err(fault),
     }
 }
