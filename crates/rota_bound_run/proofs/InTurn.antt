@@ -4,8 +4,9 @@ use Rattle.std.proofs.Math.ListN.{set}
 use Rattle.std.proofs.lemmas.Grind.{drop_more_same}
 use Rattle.std.proofs.lemmas.List.{drop-set, drop-set-lt, drop_all, drop_more, get_or-set_same, get_or-take, length-set, take-set, take-take}
 use Rattle.rota_pb.specs.declared.period_fault.PeriodFault.{PeriodFault}
+use Rattle.rota_pb.specs.Steps.{stopped, went_on}
 use Rattle.rota_bound_run.specs.PeriodFiles.{each_of}
-use Rattle.rota_bound_run.specs.PeriodSteps.{PeriodStep, in_turn, stopped, went_on}
+use Rattle.rota_bound_run.specs.PeriodSteps.{PeriodStep, in_turn}
 
 -- The first i files are read, and `found` is found in them. Each end of the rest is an end of the whole run.
 pub record Reads {X E : Type 0} {R : Type 1} (step : X → R → PeriodStep X) (one_of : E → E → R) (start : X) (olds : List E) (i : ℕ)

@@ -12,29 +12,21 @@ use Rattle.rota_certificate.specs.Plans.{History}
 use Rattle.rota_read.specs.FactsLayout.{GivenTables}
 use Rattle.rota_pb.specs.PeriodFaults.{fault_in_week}
 use Rattle.rota_pb.specs.RunPorts.{Reader, reader_of}
-use Rattle.rota_pb.specs.Steps.{Step}
+use Rattle.rota_pb.specs.Steps.{EndsInTurn, Step, ◌>>=◌, check, stopped, went_on}
 use Rattle.rota_pb.specs.declared.fault.Fault.{Fault}
 use Rattle.rota_pb.specs.declared.period_fault.PeriodFault.{PeriodFault}
 use Rattle.rota_pb.specs.declared.period_fault.PeriodFault.TheVariants.{Run}
+use Rattle.rota_pb.proofs.Steps.{is_fault}
 use Rattle.rota_bound_run.specs.Judging.{history_before, judge_week}
 use Rattle.rota_bound_run.specs.PeriodFiles.{SameWeeks, each_of, reader_if, week_readers}
 use Rattle.rota_bound_run.specs.PeriodRead.{read_given, read_next, read_proof, read_weeks}
-use Rattle.rota_bound_run.specs.PeriodSteps.{EndsInTurn, PeriodStep, ◌>>=◌, check, for_all, for_week, stopped, went_on}
+use Rattle.rota_bound_run.specs.PeriodSteps.{PeriodStep, for_all, for_week}
 use Rattle.rota_bound_run.specs.PlanJudged.{for_some, judge_all, judge_next, judge_plan, meet_given}
 use Rattle.rota_bound_run.specs.declared.files.WeekFiles.{WeekFiles}
 use Rattle.rota_bound_run.specs.declared.judged.Judged.{Judged}
 use Rattle.rota_bound_run.specs.declared.ward.Ward.{Ward}
 use Rattle.rota_bound_run.proofs.InTurn.{none-touched}
 use Rattle.rota_bound_run.proofs.WeekSteps.{reads-no-week, same-length}
-
-is_fault : {A : Type 0} (result : Result A PeriodFault) (fault : PeriodFault) → IsErrAnd result (λ e. e ≡ fault) → result ≡ Err fault
-is_fault (Ok value) fault is = absurd is
-is_fault (Err e) fault is = ap Err is
-
--- the run ends with the fault of the step
-pub stopped_by : {A B : Type 0} {step : PeriodStep A} {next : A → PeriodStep B} (result : Result B PeriodFault) (fault : PeriodFault) →
-    IsErrAnd result (λ e. e ≡ fault) → step.ends (Err fault) → ((found : A) → (next found).untouched) → EndsInTurn step next result
-stopped_by result fault is ends untouched = stopped fault (is_fault result fault is) ends untouched
 
 -- the run ends with the fault of a step for all weeks
 pub stopped_for_all : {A B : Type 0} (step : Step A) {next : A → PeriodStep B} (result : Result B PeriodFault) (fault : Fault) →

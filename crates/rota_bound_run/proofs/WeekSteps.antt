@@ -9,9 +9,9 @@ use Rattle.rota_pb.specs.PeriodFaults.{fault_in_week}
 use Rattle.rota_pb.specs.declared.fault.Fault.{Fault}
 use Rattle.rota_pb.specs.declared.fault.Fault.TheVariants.{Memory}
 use Rattle.rota_pb.specs.declared.period_fault.PeriodFault.TheVariants.{Run}
+use Rattle.rota_pb.specs.Steps.{stopped, went_on}
 use Rattle.rota_bound_run.specs.PeriodFiles.{SameWeek, SameWeeks, reader_if, week_readers}
 use Rattle.rota_bound_run.specs.PeriodRead.{read_next}
-use Rattle.rota_bound_run.specs.PeriodSteps.{stopped, went_on}
 use Rattle.rota_bound_run.specs.WeeksRead.{IsLike, IsWeekAt, hold_cells, read_week, week_at}
 use Rattle.rota_bound_run.specs.declared.files.WeekFiles.{WeekFiles}
 use Rattle.rota_bound_run.specs.declared.ward.Ward.{Ward}

@@ -9,11 +9,11 @@ use Rattle.rota_core.specs.declared.fault.FileName.TheVariants as names
 use Rattle.rota_read.specs.CertificateLayout.{IsCertificateOf, SpellsCertificate, certificate, leaf_with, node_of}
 use Rattle.rota_read.specs.FactsLayout.{GivenTables, facts, no_facts}
 use Rattle.rota_pb.specs.RunPorts.{IsRead}
-use Rattle.rota_pb.specs.Steps.{Step, call, check, find}
+use Rattle.rota_pb.specs.Steps.{Step, ◌>>=◌, call, check, find}
 use Rattle.rota_pb.specs.WeekFiles.{FailsCheck, read_file}
 use Rattle.rota_pb.specs.declared.fault.Fault.TheVariants.{Memory}
 use Rattle.rota_bound_run.specs.PeriodFiles.{FilesOfWeek, OptionalReader, absent, named}
-use Rattle.rota_bound_run.specs.PeriodSteps.{PeriodStep, ◌>>=◌, for_week, in_turn, make}
+use Rattle.rota_bound_run.specs.PeriodSteps.{PeriodStep, for_week, in_turn, make}
 use Rattle.rota_bound_run.specs.WeeksRead.{read_week}
 use Rattle.rota_bound_run.specs.declared.ward.Ward.{Ward}
 

@@ -1,31 +1,15 @@
 -- A run for several weeks as steps in their order. A step is one of `rota_pb`, and its fault may name a week.
-use Rattle.std.specs.Prelude.{◌≡◌, ℕ, ⊤, List, [], ◌∷◌, MatchResult, Result, Ok, Err}
-use Rattle.rota_pb.specs.Steps.{Step}
+use Rattle.std.specs.Prelude.{◌≡◌, ℕ, List, [], ◌∷◌, MatchResult, Result, Ok, Err}
+use Rattle.rota_pb.specs.Steps.{Step, StepOf, ◌>>=◌, check}
 use Rattle.rota_pb.specs.declared.fault.Fault.{Fault}
 use Rattle.rota_pb.specs.declared.fault.Fault.TheVariants.{Memory}
 use Rattle.rota_pb.specs.PeriodFaults.{fault_in_week}
 use Rattle.rota_pb.specs.declared.period_fault.PeriodFault.{PeriodFault}
 use Rattle.rota_pb.specs.declared.period_fault.PeriodFault.TheVariants.{Run}
 
--- A run or a step of one. `ends` says that it may find this value, or stop with this fault. `untouched` says that it was not started.
-pub record PeriodStep (A : Type 0) : Type 1 where
-  pub ends : Result A PeriodFault → Type 0
-  pub untouched : Type 0
-
--- one step, and then the rest of the run; if the step ends with a fault, so does the run, and the rest is not started
-pub data EndsInTurn {A B : Type 0} (step : PeriodStep A) (next : A → PeriodStep B) (result : Result B PeriodFault) : Type 0 where
-  stopped : (fault : PeriodFault) → result ≡ Err fault → step.ends (Err fault) → ((found : A) → (next found).untouched) →
-      EndsInTurn step next result
-  went_on : (found : A) → step.ends (Ok found) → (next found).ends result → EndsInTurn step next result
-
-infixl 10 ◌>>=◌
--- the step, and then the next one, which depends on the value that the first one finds
-abbrev pub ◌>>=◌ : {A B : Type 0} → PeriodStep A → (A → PeriodStep B) → PeriodStep B
-◌>>=◌ {A} step next = record { ends = EndsInTurn step next; untouched = step.untouched × ((found : A) → (next found).untouched) }
-
--- a step at no port: the result is a value for which `Finds` holds, or a fault for which `Stops` holds
-abbrev pub check : {A : Type 0} → (A → Type 0) → (PeriodFault → Type 0) → PeriodStep A
-check Finds Stops = record { ends = λ result. MatchResult result Finds Stops; untouched = ⊤ }
+-- a step of a run for several weeks
+abbrev pub PeriodStep : Type 0 → Type 1
+PeriodStep = StepOf PeriodFault
 
 -- a step at no port that stops only if memory runs out
 abbrev pub make : {A : Type 0} → (A → Type 0) → PeriodStep A

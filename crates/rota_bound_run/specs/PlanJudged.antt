@@ -9,8 +9,9 @@ use Rattle.rota_certificate.specs.Plans.{plan_cost}
 use Rattle.rota_read.specs.FactsLayout.{GivenTables}
 use Rattle.rota_pb.specs.RunPorts.{Reader}
 use Rattle.rota_pb.specs.declared.period_fault.PeriodFault.TheVariants.{Unmet}
+use Rattle.rota_pb.specs.Steps.{◌>>=◌, check}
 use Rattle.rota_bound_run.specs.Judging.{history_before, judge_week}
-use Rattle.rota_bound_run.specs.PeriodSteps.{PeriodStep, ◌>>=◌, check, for_week, in_turn, make}
+use Rattle.rota_bound_run.specs.PeriodSteps.{PeriodStep, for_week, in_turn, make}
 use Rattle.rota_bound_run.specs.declared.judged.Judged.{Judged}
 
 -- a step for a week that exists

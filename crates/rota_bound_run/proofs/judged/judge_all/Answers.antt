@@ -2,7 +2,7 @@ use Rattle.std.proofs.Common.{◌<◌, ◌∙◌, refl, arith, [], length}
 use Rattle.std.proofs.lemmas.List.{set-get_or}
 use Rattle.std.proofs.lemmas.Result.{err_from_is_err_and}
 use Rattle.rota_pb.specs.RunPorts.{reader_of}
-use Rattle.rota_bound_run.specs.PeriodSteps.{stopped, went_on}
+use Rattle.rota_pb.specs.Steps.{stopped, went_on}
 use Rattle.rota_bound_run.specs.PlanJudged.{judge_next}
 use Rattle.rota_bound_run.proofs.InTurn.{none-touched, reads-all, reads-more, reads-none, stops-at}
 use Rattle.rota_bound_run.proofs.Judging.{judges-more, judges-start, next-week, pasts-for, small-sum}

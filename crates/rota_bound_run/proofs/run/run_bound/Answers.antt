@@ -2,12 +2,13 @@ use Rattle.std.proofs.Common.{◌≡◌, ℕ, ◌<◌, ap, ◌∙◌, refl, arit
 use Rattle.std.proofs.lemmas.Result.{err_from_is_err_and}
 use Rattle.rota_read.specs.FactsLayout.{given_of}
 use Rattle.rota_pb.specs.RunPorts.{reader_of}
+use Rattle.rota_pb.specs.Steps.{went_on}
 use Rattle.rota_bound_run.specs.Bounding.{bound_run}
 use Rattle.rota_bound_run.specs.PeriodFiles.{reader_if}
 use Rattle.rota_bound_run.specs.PeriodRead.{read_given, read_proof}
-use Rattle.rota_bound_run.specs.PeriodSteps.{went_on}
 use Rattle.rota_bound_run.specs.Wards.{read_ward}
-use Rattle.rota_bound_run.proofs.PeriodRuns.{gives-none, judges-none, length-back, proves-none, reads-no-weeks, rosters-back, same-weeks-back, slice-back, stopped_by, stopped_for_all, weeks-back}
+use Rattle.rota_pb.proofs.Steps.{stopped_by}
+use Rattle.rota_bound_run.proofs.PeriodRuns.{gives-none, judges-none, length-back, proves-none, reads-no-weeks, rosters-back, same-weeks-back, slice-back, stopped_for_all, weeks-back}
 use Rattle.rota_bound_run.proofs.PeriodWeeks.{for-weeks, given-for, is-period}
 use Rattle.rota_bound_run.proofs.WeekSteps.{same-length, same-weeks}
 use Rattle.rota_bound_run.proofs.run.run_bound.Goals as goal
