@@ -111,7 +111,7 @@ def sums_of_sources(crates: Dict[str, Crate]) -> Dict[str, str]:
     return sums
 
 
-# ---- marks of what was proved
+# ---- marks of proved crates
 
 
 def mark(crate: Crate, sources: str) -> str:

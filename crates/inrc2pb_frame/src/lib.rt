@@ -1,4 +1,4 @@
-//! What the programs share: the words of the process, the options of a command, the ports of the host, and the end of a
+//! The shared parts of the programs: the words of the process, the options of a command, the ports of the host, and the end of a
 //! program, with its message and its exit code.
 #![tactic(auto)]
 

@@ -5,7 +5,7 @@ use Rattle.rota_pb.specs.declared.fault.Fault.{Fault}
 use Rattle.rota_pb.specs.declared.period_fault.PeriodFault.{PeriodFault}
 use Rattle.rota_pb.specs.declared.period_fault.PeriodFault.TheVariants.{InWeek, Run, Unmet}
 
--- the fault of the week with this index, if there are so many weeks: the only week is not named
+-- the fault of the week with this index, if there is such a week: the only week is not named
 abbrev pub fault_in_week : (weeks index : ℕ) → Fault → PeriodFault
 fault_in_week weeks index fault = (if weeks == 1 then Run fault else InWeek (index + 1) fault)
 

@@ -60,7 +60,7 @@ impl fmt::Display for PeriodFault {
 impl Error for PeriodFault {}
 
 impl PeriodFault {
-    /// The fault of the week with this index, if there are so many weeks: the only week is not named.
+    /// The fault of the week with this index, if there is such a week: the only week is not named.
     pub fn in_week(weeks: usize, index: usize, fault: Fault) -> PeriodFault
         requires { index < weeks }
         ensures { result ≡ fault_in_week weeks index fault }

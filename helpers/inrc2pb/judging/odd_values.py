@@ -6,7 +6,7 @@ from ..week.records import DAYS, Contract, History, Limits, NurseHistory, Requir
 from ..week.hints import plural
 from ..week.slots import is_utf8
 
-# What a warning of a week says that has no roster.
+# The words of a warning about a week that has no roster.
 IMPOSSIBLE = "no roster can meet it"
 
 

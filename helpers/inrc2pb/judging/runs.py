@@ -25,7 +25,7 @@ class RunState(NamedTuple):
     is_called: bool = False
 
 
-# The choice of an older row for a day on which all choices are alike.
+# The choice of an older row for a day on which all choices cost the same.
 ANY_CHOICE = 255
 
 
