@@ -4,7 +4,8 @@ use Rattle.rota_read.specs.FactsLayout.{given_of}
 use Rattle.rota_pb.specs.RunPorts.{reader_of}
 use Rattle.rota_bound_run.specs.Bounding.{bound_run}
 use Rattle.rota_bound_run.specs.PeriodFiles.{reader_if}
-use Rattle.rota_bound_run.specs.PeriodRead.{read_given, read_proof}
+use Rattle.rota_bound_run.specs.CertificateRead.{read_proof}
+use Rattle.rota_bound_run.specs.PeriodRead.{read_given}
 use Rattle.rota_bound_run.specs.PeriodSteps.{went_on}
 use Rattle.rota_bound_run.specs.Wards.{read_ward}
 use Rattle.rota_bound_run.proofs.PeriodRuns.{gives-none, judges-none, length-back, proves-none, reads-no-weeks, rosters-back, same-weeks-back, slice-back, stopped_by, stopped_for_all, weeks-back}
