@@ -37,6 +37,7 @@ failed=0
 skipped=0
 what='the files'
 in=/dev/null
+seconds=
 # The name of the program in its faults.
 program_name=inrc2pb
 out=$room/out
@@ -163,14 +164,14 @@ check_stream() {
     esac
 }
 
-# run WHAT STATUS STDOUT STDERR [WORD..]: runs the program in the room, from $in to $out and $err.
+# run WHAT STATUS STDOUT STDERR [WORD..]: runs the program in the room, from $in to $out and $err. After $seconds, if set, it is ended.
 run() {
     begins_case "$1"
     local status=$2 wants_out=$3 wants_err=$4 ended
     shift 4
     : > "$room/out"
     : > "$room/err"
-    (cd "$room" && exec "$program" "$@" < "$in" > "$out" 2> "$err")
+    (cd "$room" && exec ${seconds:+timeout "$seconds"} "$program" "$@" < "$in" > "$out" 2> "$err")
     ended=$?
     [ $ended = "$status" ] || complain "status $ended, not $status"
     [ "$out" != "$room/out" ] || check_stream 'standard output' "$out" "$wants_out"

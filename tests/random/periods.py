@@ -116,11 +116,12 @@ def random_prices(chance, period: Period):
     return {place: chance.choice(kinds) for place in period.demands if chance.random() < 0.9}
 
 
-def random_tree(chance, period: Period, lists: int, depth: int = 0):
-    """A tree of at most eight leaves."""
+def random_tree(chance, period: Period, lists: int, facts: Sequence[plain_plans.Fact] = ()):
+    """A tree of at most eight leaves, below a node with these facts. A fact comes once on a path."""
+    depth = len(facts)
     if depth < 3 and chance.random() < (0.8, 0.6, 0.4)[depth]:
-        below = [random_tree(chance, period, lists, depth + 1) for _ in range(2)]
-        return ("SPLIT", random_fact(chance, period), *below)
+        fact = next(fact for fact in iter(lambda: random_fact(chance, period), None) if fact not in facts)
+        return ("SPLIT", fact, *(random_tree(chance, period, lists, (*facts, fact)) for _ in range(2)))
     kinds = chance.choice([[0], [0, 5_000, 10_000, 15_000, 20_000, 30_000], [0, 4_999, 14_999, 15_001], [0, 0, MAX_PRICE]])
     return "LEAF", chance.randrange(lists), [chance.choice(kinds) for _ in range(chance.randint(0, depth + len(period.given) + 1))]
 

@@ -8,7 +8,7 @@ use Rattle.rota_core.specs.ScenarioTables.{ScenarioTables}
 use Rattle.rota_core.specs.declared.certificate.Certificate.{Certificate}
 use Rattle.rota_core.specs.declared.certificate.Leaf.{Leaf}
 use Rattle.rota_core.specs.declared.certificate.Node.TheVariants as nodes
-use Rattle.rota_bound_run.specs.PeriodRead.{AreFreeTables, IsFree, IsFreeCertificate}
+use Rattle.rota_bound_run.specs.CertificateRead.{AreFreeTables, IsFree, IsFreeCertificate}
 
 -- what holds of each element implies something else of it
 all-imply : {X : Type 0} (P Q : X → Type 0) → ((x : X) → P x → Q x) → (xs : List X) → AllByRecursion P xs → AllByRecursion Q xs

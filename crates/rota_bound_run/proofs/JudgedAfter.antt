@@ -81,7 +81,7 @@ module _ (week : Problem) (history : History) (shifts : ℕ) (pasts : List Past)
         roster_is = refl;
         costs = record {
           keeps = keeps-alike week roster listed history agree costs.keeps;
-          is = costs.is ∙ penalty-alike week roster listed history agree;
+          penalty_is = costs.penalty_is ∙ penalty-alike week roster listed history agree;
           small = costs.small;
         };
         pasts = record { count = left.count; each = λ n n_in. left.each n n_in ∙ left-alike week roster listed history agree n n_in };

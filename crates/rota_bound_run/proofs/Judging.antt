@@ -74,7 +74,7 @@ module _ (weeks : List InstanceTables) (i : ℕ) (rosters : List RosterTables) (
             subst (AllByRecursion (λ one. KeepsHardRules one.week one.roster)) (sym more)
             (AllByRecursion-append (λ one. KeepsHardRules one.week one.roster) (plan_from weeks rosters) (next ∷ []) judged.keep
             (is.costs.keeps, tt));
-        cost_is = omega (arith, judged.cost_is, is.costs.is, costs, sum, one);
+        cost_is = omega (arith, judged.cost_is, is.costs.penalty_is, costs, sum, one);
         small = omega (arith, judged.small, is.costs.small);
         left =
             subst (λ (history : History). ArePastsIn (numbers_in weeks).nurses history found.pasts.items)

@@ -17,9 +17,10 @@ use Rattle.rota_pb.specs.declared.fault.Fault.{Fault}
 use Rattle.rota_pb.specs.declared.period_fault.PeriodFault.{PeriodFault}
 use Rattle.rota_pb.specs.declared.period_fault.PeriodFault.TheVariants.{Run}
 use Rattle.rota_pb.proofs.Steps.{is_fault}
+use Rattle.rota_bound_run.specs.CertificateRead.{read_proof}
 use Rattle.rota_bound_run.specs.Judging.{history_before, judge_week}
 use Rattle.rota_bound_run.specs.PeriodFiles.{SameWeeks, each_of, reader_if, week_readers}
-use Rattle.rota_bound_run.specs.PeriodRead.{read_given, read_next, read_proof, read_weeks}
+use Rattle.rota_bound_run.specs.PeriodRead.{read_given, read_next, read_weeks}
 use Rattle.rota_bound_run.specs.PeriodSteps.{PeriodStep, for_all, for_week}
 use Rattle.rota_bound_run.specs.PlanJudged.{for_some, judge_all, judge_next, judge_plan, meet_given}
 use Rattle.rota_bound_run.specs.declared.files.WeekFiles.{WeekFiles}
@@ -41,7 +42,7 @@ module _ {S : Type 0} (port : Ghosts S) where
 
   pub proves-none : (s : ScenarioTables) (weeks : ℕ) (file : Option S) → (read_proof s weeks (reader_if port file file)).untouched
   proves-none s weeks None = tt
-  proves-none s weeks (Some file) = refl
+  proves-none s weeks (Some file) = (refl, λ found. tt)
 
   pub reads-no-weeks : (early : Bool) (ward : Ward) (files : List (WeekFiles S)) → (read_weeks early ward
       (each_of (week_readers port) files files)).untouched

@@ -3,9 +3,10 @@ use Rattle.std.specs.Prelude.{length}
 use Rattle.rota_pb.specs.RunPorts.{Writer}
 use Rattle.rota_pb.specs.Steps.{◌>>=◌, send}
 use Rattle.rota_bound_run.specs.BoundText.{bound_text}
+use Rattle.rota_bound_run.specs.CertificateRead.{read_proof}
 use Rattle.rota_bound_run.specs.ExactAnswers.{IsAnswer}
 use Rattle.rota_bound_run.specs.PeriodFiles.{FilesOfPeriod}
-use Rattle.rota_bound_run.specs.PeriodRead.{read_given, read_proof, read_weeks}
+use Rattle.rota_bound_run.specs.PeriodRead.{read_given, read_weeks}
 use Rattle.rota_bound_run.specs.PeriodSteps.{PeriodStep, for_all, make}
 use Rattle.rota_bound_run.specs.PlanJudged.{judge_plan}
 use Rattle.rota_bound_run.specs.Wards.{read_ward}

@@ -19,7 +19,7 @@ pub record ArePastsIn (nurses : ℕ) (history : History) (pasts : List Past) : T
 -- the roster keeps the hard rules of the week, and this is its penalty
 pub record IsPenalty (week : Problem) (roster : Roster) (points : ℕ) : Type 0 where
   pub keeps : KeepsHardRules week roster
-  pub is : points ≡ penalty week roster
+  pub penalty_is : points ≡ penalty week roster
   pub small : points < penalty_limit
 
 -- the roster keeps the hard rules of the week, at this penalty, and leaves these pasts

@@ -1,5 +1,6 @@
 pub mod BoundText
 pub mod Bounding
+pub mod CertificateRead
 pub mod Claims
 pub mod ExactAnswers
 pub mod JudgedWeeks

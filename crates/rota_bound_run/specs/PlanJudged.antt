@@ -27,7 +27,7 @@ judge_next weeks rosters reader = for_some (slice_get weeks (length rosters)) λ
 
 -- the rosters keep the hard rules of the weeks and meet the given facts, at this penalty
 pub record IsJudged (weeks : List InstanceTables) (given : Case) (judged : Judged) : Type 0 where
-  pub do_so : KeepAndMeet (map problem_of weeks) given (map set_of judged.rosters.items)
+  pub feasible : KeepAndMeet (map problem_of weeks) given (map set_of judged.rosters.items)
   pub penalty_is : judged.penalty ≡ plan_cost (plan_from weeks judged.rosters.items)
 
 -- the rosters do not meet a given fact: the first that they do not meet begins on this line

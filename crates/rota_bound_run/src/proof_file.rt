@@ -5,9 +5,10 @@ ghost use Rattle.rota_read.specs.CertificateLayout.{IsCertificateOf, SpellsCerti
 ghost use Rattle.rota_pb.specs.RunPorts.{IsRead, reader_of};
 ghost use Rattle.rota_pb.specs.WeekFiles.{FailsCheck};
 ghost use Rattle.rota_bound_run.specs.PeriodFiles.{reader_if};
-ghost use Rattle.rota_bound_run.specs.PeriodRead.{AreFreeTables, IsFreeCertificate, read_proof};
+ghost use Rattle.rota_bound_run.specs.CertificateRead.{AreFreeTables, IsFreeCertificate, check_paths, read_proof};
 
-use rota_core::{Certificate, Leaf, Node, Prices, Scenario, Source};
+use rota_certificate::repeats_fact;
+use rota_core::{Certificate, FileFault, FileName, Kind, Leaf, Node, Prices, Scenario, Source};
 use rota_pb::{Fault, read_file};
 use rota_read::read_certificate;
 use std::alloc::{AllocError, Global};
@@ -56,7 +57,22 @@ fn free_certificate(
     Ok(Certificate { prices, nodes })
 }
 
-/// The certificate of the file, for plans of this number of weeks. Without a file each price is 0.
+// The certificate, if no fact occurs more than once on a path of its tree.
+fn check_paths(alloc: Global, certificate: Certificate) -> Result<Certificate, Fault>
+    ensures { (check_paths certificate).ends result }
+{
+    if repeats_fact(alloc, &certificate)? {
+        return Err(Fault::File(FileFault::Bad {
+            kind: Kind::Repeated,
+            file: FileName::Certificate,
+            line: 0,
+        }));
+    }
+    Ok(certificate)
+}
+
+/// The certificate of the file, for plans of this number of weeks, if no fact occurs more than once on a path of its
+/// tree. Without a file each price is 0.
 pub(crate) fn read_proof<S: Source>(
     alloc: Global,
     scenario: &Scenario,
@@ -68,7 +84,10 @@ pub(crate) fn read_proof<S: Source>(
     ensures same { is_some file.new ≡ is_some file.old }
 {
     match file {
-        Some(source) => read_certificate_from(alloc, scenario, weeks, source),
+        Some(source) => {
+            let certificate = read_certificate_from(alloc, scenario, weeks, source)?;
+            check_paths(alloc, certificate)
+        }
         None => Ok(free_certificate(alloc, scenario, weeks)?),
     }
 }

@@ -24,10 +24,11 @@ use std::alloc::Global;
 /// of a later week is the one that the roster of the week before leaves.
 ///
 /// Errors: `File` with the first fault of the first file that has one; `LateWeek` after the data of a week before
-/// which the scenario ends; `Limit` at line 0 of the history if a roster leaves a number beyond the limits of a
-/// history's file; `Breaks` with the first hard rule that a roster breaks; `Unmet` with the line of the first given fact that
-/// the rosters do not meet; `Read` if a reader failed before it reported its end; `Memory`. Later readers are then not
-/// touched, and the writer is not called. `Write` if the writer failed: it got a prefix of the text.
+/// which the scenario ends; `Repeated` at line 0 of the certificate if a fact occurs more than once on a path of its
+/// tree; `Limit` at line 0 of the history if a roster leaves a number beyond the limits of a history's file; `Breaks`
+/// with the first hard rule that a roster breaks; `Unmet` with the line of the first given fact that the rosters do not
+/// meet; `Read` if a reader failed before it reported its end; `Memory`. Later readers are then not touched, and the
+/// writer is not called. `Write` if the writer failed: it got a prefix of the text.
 pub fn run_bound<S: Source, W: Target>(
     alloc: Global,
     question: Question,

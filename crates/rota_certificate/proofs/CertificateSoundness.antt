@@ -43,7 +43,7 @@ tables-at (first ∷ lists) (suc i) within = tables-at lists i within.1
 
 module _ (first : Problem) (later : List Problem) (given : Case) (certificate : Certificate)
     (evidence : AreEvidenceFor first later given certificate) (rosters : List Roster)
-    (do_so : KeepAndMeet (first ∷ later) given rosters) where
+    (feasible : KeepAndMeet (first ∷ later) given rosters) where
   abbrev problems : List Problem
   problems = first ∷ later
 
@@ -66,27 +66,27 @@ module _ (first : Problem) (later : List Problem) (given : Case) (certificate : 
   nodes-pass (node ∷ list) all = (node-passes node all.0, nodes-pass list all.1)
 
   nurses_are : nurses_of plan ≡ first.nurses
-  nurses_are = nurses-are first later rosters do_so.keep.count
+  nurses_are = nurses-are first later rosters feasible.keep.count
 
   have : HaveNurses (nurses_of plan) plan
   have =
-      subst (λ (n : ℕ). HaveNurses n plan) (sym nurses_are) (have-nurses first.numbers plan (plan-keeps first later rosters evidence.period do_so.keep))
+      subst (λ (n : ℕ). HaveNurses n plan) (sym nurses_are) (have-nurses first.numbers plan (plan-keeps first later rosters evidence.period feasible.keep))
 
   -- the bound of a leaf in thousandths of a point, or without the soft rules
   leaf-sound : (unit : ℕ) (surcharges : List ℕ) (path : CasePath) (leaf : Leaf) → AllFacts plan IsForPlan path → IsIn plan path →
       leaf_bound unit problems (case_of path given) (prices_of_leaf certificate leaf) surcharges ≤ unit * plan_cost plan
   leaf-sound unit surcharges path leaf facts is_in =
-      leaf-within first later rosters evidence.period do_so.keep unit (length problems) (case_of path given) (prices_of_leaf certificate leaf)
+      leaf-within first later rosters evidence.period feasible.keep unit (length problems) (case_of path given) (prices_of_leaf certificate leaf)
       (tables-at (map (λ list. list.items) certificate.prices.items) leaf.prices evidence.tables)
       (all-append (λ (one : Condition). IsForPlan one.fact) (reverse path) given (all-reverse (λ (one : Condition). IsForPlan one.fact) path facts) evidence.given_for)
-      (all-append (Meets plan) (reverse path) given (all-reverse (Meets plan) path is_in) do_so.meet) surcharges
+      (all-append (Meets plan) (reverse path) given (all-reverse (Meets plan) path is_in) feasible.meet) surcharges
 
   leaf-rounded : (path : CasePath) (leaf : Leaf) → AllFacts plan IsForPlan path → IsLeafOf leaf → IsIn plan path →
       rounded_up (case_of path given) (bound_at thousandths problems given certificate path leaf) ≤ plan_cost plan
   leaf-rounded path leaf facts is_leaf is_in =
       let tenths = plan-tenths (nurses_of plan) plan have in
       rounded-within plan (case_of path given) (charges_of_all ShiftRuns plan) tenths.0 (bound_at thousandths problems given certificate path leaf)
-      (plan_cost plan) (all-append (Meets plan) (reverse path) given (all-reverse (Meets plan) path is_in) do_so.meet) refl tenths.1
+      (plan_cost plan) (all-append (Meets plan) (reverse path) given (all-reverse (Meets plan) path is_in) feasible.meet) refl tenths.1
       (leaf-sound thousandths leaf.surcharges.items path leaf facts is_in)
 
   -- the plan costs no less than the bound
@@ -109,8 +109,8 @@ module _ (first : Problem) (later : List Problem) (given : Case) (certificate : 
     (evidence : AreEvidenceFor first later given certificate) where
   -- no plan that meets the conditions costs less than the bound
   pub lower_bound-sound : NoneCostLess (first ∷ later) given (lower_bound (first ∷ later) given certificate)
-  lower_bound-sound = λ rosters do_so. costs-bound first later given certificate evidence rosters do_so
+  lower_bound-sound = λ rosters feasible. costs-bound first later given certificate evidence rosters feasible
 
   -- no plan meets the conditions if the bound without the soft rules is above 0
   pub minimums-prove : 0 < minimums_bound (first ∷ later) given certificate → HaveNoPlan (first ∷ later) given
-  minimums-prove above = λ rosters do_so. costs-minimums first later given certificate evidence rosters do_so above
+  minimums-prove above = λ rosters feasible. costs-minimums first later given certificate evidence rosters feasible above

@@ -23,6 +23,7 @@ pub mod PeriodProofs
 pub mod PlacePart
 pub mod PlaceSteps
 pub mod PlanParts
+pub mod RepeatedFacts
 pub mod Rounding
 pub mod ShiftRuns
 pub mod StageLimits

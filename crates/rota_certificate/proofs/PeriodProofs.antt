@@ -1,10 +1,9 @@
 -- The claims that the certificate of a period proves.
-use Rattle.std.proofs.Common.{◌≡◌, ℕ, ◌*◌, ◌<◌, ◌≤◌, sym, subst, List, [], ◌∷◌, length, map, slice_index_or}
+use Rattle.std.proofs.Common.{◌≡◌, ℕ, ◌<◌, ◌≤◌, sym, subst, List, [], ◌∷◌, length, map, slice_index_or}
 use Rattle.std.specs.List.{AllByRecursion}
 use Rattle.std.proofs.lemmas.List.{length-map}
 use Rattle.rota_core.specs.Certificates.{AreConditionsFor, IsCertificateFor, IsFactFor, IsLeafFor, IsNodeFor}
 use Rattle.rota_core.specs.InstanceTables.{InstanceTables, problem_of}
-use Rattle.rota_core.specs.Limits.{max_number}
 use Rattle.rota_core.specs.Problem.{Problem}
 use Rattle.rota_core.specs.Sizes.{Numbers}
 use Rattle.rota_core.specs.declared.certificate.Certificate.{Certificate}
@@ -53,11 +52,6 @@ node-at (first ∷ later) certificate i node is_for inside is =
     node-limited numbers (length (first ∷ later)) prices node
     (each-at (IsNodeFor numbers (length (first ∷ later)) prices) certificate.nodes.items i node is_for.nodes inside is)
 
-pub node-count : (weeks : List InstanceTables) (certificate : Certificate) → IsForWeeks weeks certificate →
-    length certificate.nodes.items ≤ 2 * max_number
-node-count [] certificate is_for = absurd is_for
-node-count (first ∷ later) certificate is_for = is_for.count
-
 -- ---- soundness
 
 module _ (given : Case) (certificate : Certificate) (tables : HaveTables certificate) where
@@ -87,9 +81,9 @@ module _ (given : Case) (certificate : Certificate) (tables : HaveTables certifi
 -- rosters that cost as much as a bound are optimal
 pub are-optimal : (weeks : List Problem) (given : Case) (points : ℕ) → NoneCostLess weeks given points → AreOptimalAt weeks given points
 are-optimal weeks given points none =
-    λ rosters do_so same.
+    λ rosters feasible same.
     record {
-      do_so = do_so;
+      feasible = feasible;
       least = λ others do_too.
           subst (λ (cost : ℕ). cost ≤ plan_cost (plan_of weeks others)) (sym same) (none others do_too);
     }

@@ -17,6 +17,7 @@ pub mod PlaceBounds
 pub mod PlaceCases
 pub mod Plans
 pub mod Evidence
+pub mod RepeatedFacts
 pub mod ShiftCharges
 pub mod Stages
 pub mod Tariffs

@@ -12,7 +12,7 @@ pub record KeepAndMeet (weeks : List Problem) (given : Case) (rosters : List Ros
 
 -- these rosters do so, and no others that do so cost less
 pub record AreOptimal (weeks : List Problem) (given : Case) (rosters : List Roster) : Type 0 where
-  pub do_so : KeepAndMeet weeks given rosters
+  pub feasible : KeepAndMeet weeks given rosters
   pub least : (others : List Roster) → KeepAndMeet weeks given others →
       plan_cost (plan_of weeks rosters) ≤ plan_cost (plan_of weeks others)
 

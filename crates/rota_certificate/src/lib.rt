@@ -35,6 +35,7 @@ mod counted;
 
 // The tree of cases.
 mod paths;
+mod repeats;
 mod tree;
 
 /// The laws of the bound.
@@ -42,4 +43,5 @@ pub mod laws;
 
 pub use conditions::first_unmet;
 pub use counted::past_after_week;
+pub use repeats::repeats_fact;
 pub use tree::{lower_bound, no_plan_exists};

@@ -1,7 +1,8 @@
 //! The path from the root of a tree of cases to a node: the first condition is the root's.
 
-ghost use Rattle.std.specs.Prelude.{◌≡◌, ◌++◌, IfOk, None, Some, if◌then◌else◌, reverse};
+ghost use Rattle.std.specs.Prelude.{◌≡◌, ◌++◌, ◌↔◌, IfOk, IsTrue, None, Some, if◌then◌else◌, reverse};
 ghost use Rattle.rota_certificate.specs.CertificateBounds.{next_path, with, without};
+ghost use Rattle.rota_certificate.specs.RepeatedFacts.{IsOnPath};
 
 use rota_core::{Condition, Fact};
 use std::alloc::{AllocError, Global};
@@ -18,6 +19,20 @@ fn without(fact: Fact) -> Condition
     ensures { result ≡ without fact }
 {
     Condition { fact, holds: false }
+}
+
+// Whether the condition is about the fact.
+fn is_about(condition: Condition, fact: Fact) -> bool
+    ensures { IsTrue result ↔ (condition.fact ≡ fact) }
+{
+    condition.fact == fact
+}
+
+/// Whether a condition of the path is about the fact.
+pub fn is_on_path(path: &[Condition], fact: Fact) -> bool
+    ensures { IsTrue result ↔ IsOnPath fact path.now }
+{
+    path.iter().any(|one| is_about(*one, fact))
 }
 
 /// Goes on to the case that comes next in the tree, after all cases below the end of the path. The

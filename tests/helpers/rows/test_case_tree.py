@@ -133,6 +133,8 @@ class Trees(HelperTest):
                 certificate = tree.certificate()
                 self.assertLessEqual(plain.bound(period_of(plan), certificate.text("x")), best)
                 self.assertTrue(all(penalty >= best for penalty in self.found))
+                # A fact comes once on a path.
+                self.assertTrue(all(len({claim.fact for claim in case}) == len(case) for case, _ in certificate.leaves()))
 
     @unittest.skipUnless(HAS_CBC, "needs cbc")
     def test_no_time_and_more_time(self):

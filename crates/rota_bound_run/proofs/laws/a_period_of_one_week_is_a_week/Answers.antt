@@ -23,7 +23,7 @@ module _ (week : Problem) (roster : Roster) where
 
   kept : KeepAndMeet (week ∷ []) [] (roster ∷ []) → KeepsHardRules week roster
   unfolding plan_after
-  kept do_so = do_so.keep.keep.0
+  kept feasible = feasible.keep.keep.0
 
 holds : (week : Problem) (claim : Claim) → Holds (week ∷ []) [] claim → HoldsForWeek week claim
 holds week (AtLeast bound) claim = λ roster keep.
@@ -34,7 +34,7 @@ holds week Unknown claim = tt
 
 optimal : (week : Problem) (roster : Roster) → AreOptimal (week ∷ []) [] (roster ∷ []) → IsOptimal week roster
 optimal week roster are = record {
-  keeps = kept week roster are.do_so;
+  keeps = kept week roster are.feasible;
   least = λ other keep. omega (arith, are.least (other ∷ []) (keeps week other keep), costs week roster, costs week other);
 }
 

@@ -1,4 +1,4 @@
-use Rattle.rota_bound_run.specs.PeriodRead.{AreFreeTables}
+use Rattle.rota_bound_run.specs.CertificateRead.{AreFreeTables}
 use Rattle.rota_bound_run.proofs.proof_file.free_tables.Given as goal
 
 -- there is a table for each of the first weeks

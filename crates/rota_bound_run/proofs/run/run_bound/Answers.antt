@@ -5,7 +5,8 @@ use Rattle.rota_pb.specs.RunPorts.{reader_of}
 use Rattle.rota_pb.specs.Steps.{went_on}
 use Rattle.rota_bound_run.specs.Bounding.{bound_run}
 use Rattle.rota_bound_run.specs.PeriodFiles.{reader_if}
-use Rattle.rota_bound_run.specs.PeriodRead.{read_given, read_proof}
+use Rattle.rota_bound_run.specs.CertificateRead.{read_proof}
+use Rattle.rota_bound_run.specs.PeriodRead.{read_given}
 use Rattle.rota_bound_run.specs.Wards.{read_ward}
 use Rattle.rota_pb.proofs.Steps.{stopped_by}
 use Rattle.rota_bound_run.proofs.PeriodRuns.{gives-none, judges-none, length-back, proves-none, reads-no-weeks, rosters-back, same-weeks-back, slice-back, stopped_for_all, weeks-back}
