@@ -139,13 +139,13 @@ docs/DECISIONS.md 1021
 docs/answers.md 1540
 docs/changing.md 785
 docs/embedding.md 1477
-docs/formats.md 1294
+docs/formats.md 1311
 docs/helpers.md 838
 docs/layers.md 532
 docs/model.md 1686
 docs/promises.md 629
 docs/proved.md 1355
-docs/reading.md 2712
+docs/reading.md 2729
 docs/rules.md 1354
 docs/solvers.md 1049
 docs/tested.md 715

@@ -189,6 +189,8 @@ sweep_program 'the minimums of two weeks' 2 0 text nothing "${two_weeks[@]}" --f
 sweep_program 'a week too many' 2 1 nothing nothing "${week[@]}" --week week.txt --week week.txt
 sweep_program 'a roster too few' 2 2 nothing nothing "${two_weeks[@]}" --roster nobody
 sweep_program 'a certificate with text after its end' 2 1 nothing nothing "${five[@]}" --proof more_week.txt
+printf '%s\n' CERTIFICATE s1 'WEEKS = 1' 'PRICES = 1' 'ROWS = 0' 'LEAVES = 3' 'SPLIT EVEN' 'SPLIT EVEN' 'LEAF 0 SURCHARGES = 0'{,,} > "$room/repeated"
+sweep_program 'a certificate with a fact twice on a path' 2 1 nothing nothing "${week[@]}" --proof repeated
 program=$encoder
 line out_of_memory 'inrc2pb: out of memory'
 

@@ -5,7 +5,8 @@ usage: every_plan.py PROGRAM [--periods N] [--seed N]
 
 The plans and the bounds are those of plain_plans.py and plain_bounds.py. The program's bound is that of the certificate, and no plan that
 keeps the hard rules and the given facts costs less; none exists if the program says so. It gives the penalties of some plans, `optimal` if
-such a plan has the bound, and the first rule or fact that others break. A period that fails is made smaller and kept in fuzz-failures/.
+such a plan has the bound, and the first rule or fact that others break. It refuses a certificate with a fact twice on a path. A period that
+fails is made smaller and kept in fuzz-failures/.
 """
 
 import itertools
@@ -21,7 +22,7 @@ from typing import Callable, Dict, Iterator, List, NamedTuple, Optional, Sequenc
 
 import plain_plans
 from drafts import ROOT, first_broken, solution_text
-from periods import period_files, random_certificate, random_period
+from periods import certificate_text, period_files, random_certificate, random_period, repeating_tree
 from plain_bounds import NONE, Certificate, lower_bound, minimums_bound
 from plain_plans import Chain, Period, Plan
 from random_weeks import any_cell
@@ -123,6 +124,13 @@ def check_first_roster(runs: Runs, chance: random.Random) -> bool:
     return bool(rule)
 
 
+def check_repeated_fact(runs: Runs, case: Case, chance: random.Random) -> None:
+    """Tries the certificate with a fact twice on a path."""
+    text = certificate_text(case.period, case.certificate._replace(tree=repeating_tree(chance, case.certificate.tree)))
+    (runs.folder / "certificate.txt").write_text(text)
+    runs.expect("repeated fact", (1, "", "inrc2pb-bound: certificate: repeated\n"))
+
+
 def check(program: str, folder: str, case: Case) -> Tuple[bool, ...]:
     """What was tried: whether there are several weeks, several leaves, given facts of other kinds than choices, a bound above 0, an optimal
     plan, no plan at all, a proof of that, a plan that breaks a rule, one that breaks a fact."""
@@ -150,6 +158,8 @@ def check(program: str, folder: str, case: Case) -> Tuple[bool, ...]:
         status, told = refusal(period, plan) or (0, "")
         rules, facts = rules + ("breaks" in told), facts + ("fact" in told)
         runs.expect("broken", (status, "", f"inrc2pb-bound: {told}\n"), *runs.judge(plan.rosters(len(period.weeks))))
+    if certificate.tree[0] == "SPLIT":
+        check_repeated_fact(runs, case, random.Random("fact"))
     return (
         len(period.weeks) > 1, certificate.tree[0] == "SPLIT", any(fact[0] != "CHOICE" for fact, _ in period.given), 0 < bound < NONE,
         plans.all_tried and cheapest == bound < NONE, plans.all_tried and not plans.kept, minimums > 0, rules > 0, facts > 0)

@@ -126,6 +126,16 @@ def random_tree(chance, period: Period, lists: int, facts: Sequence[plain_plans.
     return "LEAF", chance.randrange(lists), [chance.choice(kinds) for _ in range(chance.randint(0, depth + len(period.given) + 1))]
 
 
+def repeating_tree(chance, tree, facts: Sequence[plain_plans.Fact] = ()):
+    """The tree with one of its leaves split by a fact of its path."""
+    if tree[0] == "LEAF":
+        return "SPLIT", chance.choice(facts), tree, tree
+    parts = list(tree[2:])
+    number = chance.randrange(2)
+    parts[number] = repeating_tree(chance, parts[number], (*facts, tree[1]))
+    return (*tree[:2], *parts)
+
+
 def random_certificate(chance, period: Period, every: Dict[str, list]) -> Certificate:
     """A certificate; if there are few chains, each list of prices is the best of some for one of its leaves."""
     if chance.random() < 0.6 and 0 < math.prod(map(len, every.values())) <= LEAVES:

@@ -159,6 +159,47 @@ Ann 0 0 None 0 0 9993
     check_fault(&rt, rt.alloc(), &long, None, in_week(2, fault))
 }
 
+// Monday is split again after another fact, where it holds; where it does not; and in both cases of another fact.
+const PROOFS: [(&[u8], bool); 3] = [
+    (
+        b"CERTIFICATE s1 WEEKS = 1 PRICES = 1 ROWS = 0 LEAVES = 4 SPLIT CHOICE 1 Ann Mon None SPLIT EVEN
+        SPLIT CHOICE 1 Ann Mon None LEAF 0 SURCHARGES = 0 LEAF 0 SURCHARGES = 0 LEAF 0 SURCHARGES = 0 LEAF 0 SURCHARGES = 0",
+        true,
+    ),
+    (
+        b"CERTIFICATE s1 WEEKS = 1 PRICES = 1 ROWS = 0 LEAVES = 4 SPLIT CHOICE 1 Ann Mon None LEAF 0 SURCHARGES = 0
+        SPLIT EVEN LEAF 0 SURCHARGES = 0 SPLIT CHOICE 1 Ann Mon None LEAF 0 SURCHARGES = 0 LEAF 0 SURCHARGES = 0",
+        true,
+    ),
+    (
+        b"CERTIFICATE s1 WEEKS = 1 PRICES = 1 ROWS = 0 LEAVES = 4 SPLIT EVEN
+        SPLIT CHOICE 1 Ann Mon None LEAF 0 SURCHARGES = 0 LEAF 0 SURCHARGES = 0
+        SPLIT CHOICE 1 Ann Mon None LEAF 0 SURCHARGES = 0 LEAF 0 SURCHARGES = 0",
+        false,
+    ),
+];
+
+#[test]
+fn a_fact_comes_once_on_a_path(rt: HostRuntime) -> Result<(), Fail> {
+    let repeated = PeriodFault::Run(Fault::File(FileFault::Bad {
+        kind: Kind::Repeated,
+        file: FileName::Certificate,
+        line: 0,
+    }));
+    for (proof, repeats) in PROOFS {
+        let run = Run {
+            proof: Some(proof),
+            ..one_week(one_nurse_one_shift())
+        };
+        if repeats {
+            check_fault(&rt, rt.alloc(), &run, None, repeated)?;
+        } else {
+            check_text(&rt, rt.alloc(), &run, b"lower bound 0\n")?;
+        }
+    }
+    Ok(())
+}
+
 // The week that the file with this number belongs to, of the files of two weeks with facts, a certificate and rosters.
 fn week_of(file: usize) -> Option<usize> {
     match file {

@@ -4,7 +4,7 @@ use Rattle.rota_core.specs.InstanceTables.{InstanceTables}
 use Rattle.rota_core.specs.ScenarioTables.{ScenarioTables}
 use Rattle.rota_core.specs.declared.fault.FileName.TheVariants as names
 use Rattle.rota_read.specs.FactsLayout.{GivenTables, facts, no_facts}
-use Rattle.rota_pb.specs.Steps.{Step, find}
+use Rattle.rota_pb.specs.Steps.{Step, ◌>>=◌, find}
 use Rattle.rota_pb.specs.WeekFiles.{read_file}
 use Rattle.rota_bound_run.specs.PeriodFiles.{FilesOfWeek, OptionalReader, absent, named}
 use Rattle.rota_bound_run.specs.PeriodSteps.{PeriodStep, for_week, in_turn, make}

@@ -13,7 +13,8 @@ use Rattle.rota_core.specs.declared.certificate.Fact.{Fact}
 use Rattle.rota_core.specs.declared.certificate.Leaf.{Leaf}
 use Rattle.rota_core.specs.declared.certificate.Node.{Node}
 use Rattle.rota_core.specs.declared.certificate.Node.TheVariants as nodes
-use Rattle.rota_certificate.specs.CertificateBounds.{CasePath, bound_at, case_of, lower_bound, minimums_bound, prices_of_leaf, rounded_up, thousandths}
+use Rattle.rota_certificate.specs.CasePaths.{CasePath}
+use Rattle.rota_certificate.specs.CertificateBounds.{bound_at, case_of, lower_bound, minimums_bound, prices_of_leaf, rounded_up, thousandths}
 use Rattle.rota_certificate.specs.Facts.{Case, IsIn, Meets, charges_of_all, nurses_of}
 use Rattle.rota_certificate.specs.LeafBounds.{leaf_bound}
 use Rattle.rota_certificate.specs.Optimality.{KeepAndMeet}

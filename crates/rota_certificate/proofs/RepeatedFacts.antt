@@ -8,8 +8,7 @@ use Rattle.rota_core.specs.declared.certificate.Fact.{Fact}
 use Rattle.rota_core.specs.declared.certificate.Leaf.{Leaf}
 use Rattle.rota_core.specs.declared.certificate.Node.{Node}
 use Rattle.rota_core.specs.declared.certificate.Node.TheVariants as nodes
-use Rattle.rota_certificate.specs.CertificateBounds.{CasePath, next_path, with}
-use Rattle.rota_certificate.specs.RepeatedFacts.{IsOnPath, RepeatsFrom}
+use Rattle.rota_certificate.specs.CasePaths.{CasePath, IsOnPath, RepeatsFrom, next_path, with}
 use Rattle.rota_certificate.proofs.ListSteps.{list-more}
 use Rattle.rota_certificate.proofs.TreePaths.{reverse-push}
 

@@ -11,7 +11,8 @@ use Rattle.rota_core.specs.declared.certificate.Leaf.{Leaf}
 use Rattle.rota_core.specs.declared.certificate.Node.{Node}
 use Rattle.rota_core.specs.declared.certificate.Node.TheVariants as nodes
 use Rattle.rota_certificate.specs.CaseLimits.{IsLimited, IsLimitedCase}
-use Rattle.rota_certificate.specs.CertificateBounds.{CasePath, case_of, least_bound, next_path, with, without}
+use Rattle.rota_certificate.specs.CasePaths.{CasePath, next_path, with, without}
+use Rattle.rota_certificate.specs.CertificateBounds.{case_of, least_bound}
 use Rattle.rota_certificate.specs.LeafBounds.{most_bound}
 use Rattle.rota_certificate.specs.Evidence.{IsShortPath}
 use Rattle.rota_certificate.proofs.ListSteps.{all-append, all-reverse, list-more}

@@ -10,7 +10,8 @@ use Rattle.rota_core.specs.declared.certificate.Fact.{Fact}
 use Rattle.rota_core.specs.declared.certificate.Leaf.{Leaf}
 use Rattle.rota_core.specs.declared.certificate.Node.{Node}
 use Rattle.rota_core.specs.declared.certificate.Node.TheVariants as nodes
-use Rattle.rota_certificate.specs.CertificateBounds.{CasePath, least_bound, next_path, with, without}
+use Rattle.rota_certificate.specs.CasePaths.{CasePath, next_path, with, without}
+use Rattle.rota_certificate.specs.CertificateBounds.{least_bound}
 use Rattle.rota_certificate.specs.Facts.{IsIn, is_fact}
 use Rattle.rota_certificate.specs.Plans.{Plan}
 

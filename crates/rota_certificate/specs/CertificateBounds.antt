@@ -1,6 +1,6 @@
 -- The bound of a certificate: the minimum of the bounds of its leaves. The nodes are a tree in preorder. The case of a node has the
 -- conditions on its path to the root, and the given conditions, which all plans are asked to meet.
-use Rattle.std.specs.Prelude.{ℕ, ◌+◌, ◌-◌, ◌/◌, ◌*◌, ◌++◌, Bool, true, false, min, if◌then◌else◌, Option, Some, None, List, [], ◌∷◌, map, reverse, slice_index_or}
+use Rattle.std.specs.Prelude.{ℕ, ◌+◌, ◌-◌, ◌/◌, ◌*◌, ◌++◌, Bool, true, false, min, if◌then◌else◌, List, [], ◌∷◌, map, reverse, slice_index_or}
 use Rattle.std.specs.List.{AllByRecursion, list_any}
 use Rattle.std.specs.Option.{option_map_or}
 use Rattle.rota_core.specs.PriceTables.{PriceTables, prices_of}
@@ -8,12 +8,12 @@ use Rattle.rota_core.specs.Prices.{ArePrices, Prices}
 pub use Rattle.rota_core.specs.Prices.{thousandths}
 use Rattle.rota_core.specs.Problem.{Problem}
 use Rattle.rota_core.specs.declared.certificate.Certificate.{Certificate}
-use Rattle.rota_core.specs.declared.certificate.Condition.{Condition}
 use Rattle.rota_core.specs.declared.certificate.Fact.{Fact}
 use Rattle.rota_core.specs.declared.certificate.Fact.TheVariants.{EvenShiftRuns}
 use Rattle.rota_core.specs.declared.certificate.Leaf.{Leaf}
 use Rattle.rota_core.specs.declared.certificate.Node.{Node}
 use Rattle.rota_core.specs.declared.certificate.Node.TheVariants as nodes
+use Rattle.rota_certificate.specs.CasePaths.{CasePath, next_path, with}
 use Rattle.rota_certificate.specs.Facts.{Case}
 use Rattle.rota_certificate.specs.LeafBounds.{leaf_bound}
 pub use Rattle.rota_certificate.specs.Optimality.{AreOptimal}
@@ -47,23 +47,6 @@ rounded_up case sum =
     else (sum + (step_cost - 1)) / step_cost * step))
 
 -- ---- the tree
-
--- the conditions from a node to the root
-abbrev pub CasePath : Type 0
-CasePath = List Condition
-
--- the condition that the fact holds
-abbrev pub with : Fact → Condition
-with fact = record { fact = fact; holds = true }
-
--- the condition that the fact does not hold
-abbrev pub without : Fact → Condition
-without fact = record { fact = fact; holds = false }
-
--- the path to the case that comes next in the tree, after all cases below the end of this path
-unfoldable pub next_path : CasePath → Option CasePath
-next_path [] = None
-next_path (condition ∷ path) = (if condition.holds then Some (without condition.fact ∷ path) else next_path path)
 
 -- the minimum of the bounds of the leaves from this node on; a case without a leaf has the bound 0
 unfoldable pub least_bound : (CasePath → Leaf → ℕ) → CasePath → List Node → ℕ

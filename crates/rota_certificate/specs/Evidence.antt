@@ -8,7 +8,8 @@ use Rattle.rota_core.specs.Problem.{Problem}
 use Rattle.rota_core.specs.declared.certificate.Condition.{Condition}
 use Rattle.rota_core.specs.declared.certificate.Leaf.{Leaf}
 use Rattle.rota_certificate.specs.CaseLimits.{IsLimited}
-use Rattle.rota_certificate.specs.CertificateBounds.{CasePath, case_of, prices_of_leaf, rounded_up, thousandths}
+use Rattle.rota_certificate.specs.CasePaths.{CasePath}
+use Rattle.rota_certificate.specs.CertificateBounds.{case_of, prices_of_leaf, rounded_up, thousandths}
 use Rattle.rota_certificate.specs.Facts.{Case}
 use Rattle.rota_certificate.specs.LeafBounds.{leaf_bound}
 use Rattle.rota_certificate.specs.PeriodBounds.{AreEvidence}

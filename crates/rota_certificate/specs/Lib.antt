@@ -1,4 +1,5 @@
 pub mod CaseLimits
+pub mod CasePaths
 pub mod CertificateBounds
 pub mod CountedCharges
 pub mod DayCharges
@@ -17,7 +18,6 @@ pub mod PlaceBounds
 pub mod PlaceCases
 pub mod Plans
 pub mod Evidence
-pub mod RepeatedFacts
 pub mod ShiftCharges
 pub mod Stages
 pub mod Tariffs

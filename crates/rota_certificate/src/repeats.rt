@@ -1,7 +1,7 @@
 //! Whether a certificate has a fact on a path more than once.
 
 ghost use Rattle.std.specs.Prelude.{◌↔◌, IfOk, IsTrue};
-ghost use Rattle.rota_certificate.specs.RepeatedFacts.{RepeatsFact};
+ghost use Rattle.rota_certificate.specs.CasePaths.{RepeatsFact};
 
 use crate::paths::{go_on, is_on_path, with};
 use rota_core::{Certificate, Node};

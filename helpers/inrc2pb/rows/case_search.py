@@ -87,7 +87,7 @@ class CaseSearch:
         return Examined(best, now.value, self._split(now, task, limits, clock))
 
     def _split(self, now: CaseSolution, task: CaseTask, limits: CaseLimits, clock: Clock) -> Optional[Rated]:
-        """The best split of a case, if its solution suggests one by a new fact. Without rows for a limit of the case it may suggest an old one."""
+        """The best split of a case by a new fact, if its solution suggests one. Without rows for a limit it may suggest an old one, too."""
         old = {claim.fact for claim in task.case}
         facts = [fact for fact in suggested(self.pricing, self._program, now, limits) if fact not in old]
         return best_split(self.pricing, self._program, now, task.case, facts, task.target, clock) if facts else None

@@ -1,7 +1,7 @@
 use Rattle.std.proofs.Common.{◌≡◌, ◌<◌, ◌≤◌, ◌++◌, ◌∷◌, [], ap, sym, ◌∙◌, subst, arith, List, length, slice_index_or}
 use Rattle.rota_core.specs.declared.certificate.Condition.{Condition}
 use Rattle.rota_core.specs.declared.certificate.Node.{Node}
-use Rattle.rota_certificate.specs.RepeatedFacts.{IsOnPath}
+use Rattle.rota_certificate.specs.CasePaths.{IsOnPath}
 use Rattle.rota_certificate.proofs.RepeatedFacts.{found-there, left-after_leaf, left-after_split, none-after_last, none-at_end}
 use Rattle.rota_certificate.proofs.repeats.repeats_fact.Goals as goal
 use Rattle.rota_certificate.proofs.repeats.repeats_fact.Goals.{in-Split+else-is_on_path+in_ok-push-in-Split, in-Leaf+in_ok-go_on-in-Leaf+else-not-branch}

@@ -1,11 +1,30 @@
--- Certificates in which a fact is on a path more than once.
-use Rattle.std.specs.Prelude.{◌≡◌, ◌⊎◌, IsSomeAnd, List, [], ◌∷◌}
+-- The paths of a tree of cases, and facts that are on a path more than once.
+use Rattle.std.specs.Prelude.{◌≡◌, ◌⊎◌, true, false, if◌then◌else◌, Option, Some, None, IsSomeAnd, List, [], ◌∷◌}
 use Rattle.std.specs.List.{Any}
 use Rattle.rota_core.specs.declared.certificate.Certificate.{Certificate}
+use Rattle.rota_core.specs.declared.certificate.Condition.{Condition}
 use Rattle.rota_core.specs.declared.certificate.Fact.{Fact}
 use Rattle.rota_core.specs.declared.certificate.Node.{Node}
 use Rattle.rota_core.specs.declared.certificate.Node.TheVariants as nodes
-use Rattle.rota_certificate.specs.CertificateBounds.{CasePath, next_path, with}
+
+-- the conditions from a node to the root
+abbrev pub CasePath : Type 0
+CasePath = List Condition
+
+-- the condition that the fact holds
+abbrev pub with : Fact → Condition
+with fact = record { fact = fact; holds = true }
+
+-- the condition that the fact does not hold
+abbrev pub without : Fact → Condition
+without fact = record { fact = fact; holds = false }
+
+-- the path to the case that comes next in the tree, after all cases below the end of this path
+unfoldable pub next_path : CasePath → Option CasePath
+next_path [] = None
+next_path (condition ∷ path) = (if condition.holds then Some (without condition.fact ∷ path) else next_path path)
+
+-- ---- facts that occur more than once
 
 -- a condition of the path says that the fact holds, or that it does not hold
 abbrev pub IsOnPath : Fact → CasePath → Type 0
