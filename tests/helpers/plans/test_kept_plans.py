@@ -97,6 +97,17 @@ class Words(KeptTest):
         found = without_needless_changes(old, needless)
         self.assertEqual([one[:2] for one in shift_changes(old.cells(), found.cells())], [("Grace", 4)])
 
+    def test_changes_cost_as_much_as_in_a_search(self):
+        # Finn works late on Saturday, and Grace is off: her new shift costs 20 points, and 40 to call both, but his day off costs nothing.
+        cells = [cell for cell in self.plan.cells() if (cell.nurse, cell.day) != ("Finn", 5)]
+        data = self.plan.data[0] = replace(self.plan.data[0], requests=())
+        new = self.plan.with_cells([*cells, Cell("Grace", 5, "Late", "Nurse")])
+        more = new.view().penalty - self.plan.view().penalty
+        for saved, is_taken_back in ((55, True), (65, False)):
+            self.plan.data[0] = replace(data, requests=(Request("Finn", None, 5),) * ((more + saved) // 10))
+            self.assertEqual(self.plan.view().penalty - new.view().penalty, saved)
+            self.assertEqual(("Finn", 5) in without_needless_changes(self.plan, new).works, is_taken_back, saved)
+
     def test_one_nurse_is_called_in_place_of_two(self):
         # Finn works late on the weekend, Ewa and Grace are off, and Ewa is off on Monday, too.
         self.rows["plan"][6][6:8] = ["ill", "ill"]
