@@ -108,12 +108,13 @@ class SheetCell(NamedTuple):
             self.fault(f"the {kind} '{self.text}' is there already: use another name")
         return name
 
-    def known(self, kind: str, names: Collection[str], others: Sequence[str] = ()) -> str:
-        """The name that the cell has, in whatever letters. A fault names the other words that may be in its place too."""
+    def known(self, kind: str, names: Collection[str], others: Sequence[str] = (), end: str = "") -> str:
+        """The name that the cell has, in whatever letters. A fault names the other words that may be in its place too, and what else may
+        help."""
         wanted = self.text.replace(" ", "_").casefold()
         found = next((name for name in names if name.casefold() == wanted), None)
         if found is None:
-            otherwise = f"write one of {quoted([*map(readable, names), *others])}"
+            otherwise = f"write one of {quoted([*map(readable, names), *others])}{end}"
             advice = did_you_mean(self.text.replace(" ", "_"), [*names, *others], otherwise, readable)
             self.fault(f"'{self.text}' is no {kind}: {advice}" if self.text else f"the cell is empty: write a {kind}, or delete the row")
         return found

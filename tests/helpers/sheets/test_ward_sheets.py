@@ -138,6 +138,9 @@ class Contents(unittest.TestCase):
             ("needs", 4, 1, "Day", "row 4, column B: Day Nurse has a row already: delete one, or write its week"),
             ("needs", 2, 0, "2", "row 2, column A: 2 is more than 1: weeks are counted from 0, so write 1 for the last one"),
             ("plan", 2, 0, "Amara", "row 2, column A: 'Amara' is no nurse of the sheet nurses: did you mean Amara Koch?"),
+            ("plan", 3, 0, "Legend: x", "row 3, column A: 'Legend: x' is no nurse of the sheet nurses: "
+             "write one of Amara Koch, Bruno, Chen, Dilek, Ewa, Finn, Grace, Hana, or delete the row"),
+            ("needs", 3, 1, "Total", "row 3, column B: 'Total' is no shift type: write one of Day, Late, Night, or delete the row"),
             ("plan", 3, 0, "Amara Koch", "row 3, column A: Amara Koch has a row already: put everything into one row"),
             ("plan", 2, 1, "Dya", "row 2, column B: 'Dya' is no shift type: did you mean Day?"),
             ("plan", 2, 1, "trainin", "row 2, column B: 'trainin' is no shift type: did you mean training?"),
@@ -321,7 +324,7 @@ class Contents(unittest.TestCase):
         for sheets, line in (
             (changed("nurses", 7, 3, "Day, Late, Night"), "sheet nurses: Finn never works: nobody can plan her"),
             (night, "sheet shifts: Night may not follow Day, and each shift type may follow Night: is 'not followed by' the other way round?"),
-            (missing, "sheet plan: Chen has no row: she has no wishes and no absences"),
+            (missing, "sheet plan: Chen has no row: she has no wishes and no absences; if she has some, add a row"),
         ):
             self.assertIn(line, made(sheets).warnings)
             self.assertNotIn(line, made(SHEETS).warnings)
