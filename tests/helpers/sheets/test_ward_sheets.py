@@ -4,6 +4,7 @@ import copy
 import csv
 import io
 import os
+import re
 import unittest
 from pathlib import Path
 
@@ -18,7 +19,7 @@ from inrc2pb.week.facts import Charged, Claim, read_facts
 from inrc2pb.week.faults import FileFault, FileFaults
 from inrc2pb.sheets.plan_sheets import read_days
 from inrc2pb.week.records import Absence, Place, Requirement, Week
-from inrc2pb.sheets.sheet_files import Book
+from inrc2pb.sheets.sheet_files import Book, read_book
 
 NAMES = ["ward.txt", "history-0.txt", "facts.txt", "reasons.txt", "week-0.txt", "fix-0.txt", "week-1.txt", "fix-1.txt"]
 
@@ -356,6 +357,17 @@ class Command(HelperTest):
         words = ("--sce", out / "ward.txt", "--his", out / "history-0.txt", "--week", out / "week-0.txt", "--fix", out / "fix-0.txt")
         status, printed, _ = run("check", *words)
         self.assertEqual((status, printed.splitlines()[-1]), (0, "No mistake found."))
+        # Its notes are not read. A maximum with the sign, and the row of a bank holiday, are as they say.
+        sheets = read_book(book).sheets
+        self.assertEqual([row[4] for row in sheets["shifts"]], ["times", "07:00-15:30", "14:30-23:00", "22:30-07:15"])
+        contracts, needs = sheets["contracts"], sheets["needs"]
+        self.assertEqual((contracts[0][9], needs[0][10]), ("note", "note"))
+        example, words = texts(sheets, weeks=4), re.search("with (.+) for week, (.+) for shift, (.+) for skill, and (.+) for Fri", needs[2][10])
+        contracts[1][2] = contracts[1][9].split(" ")[0]
+        needs.append([*words.groups()[:3], "", "", "", "", words[4]])
+        found = texts(sheets, weeks=4)
+        self.assertEqual([name for name in found if found[name] != example[name]], ["facts.txt", "week-3.txt"])
+        self.assertIn("Day Nurse (1,2) (1,2) (1,2) (1,2) (0,1) (0,1) (0,1)\n", found["week-3.txt"])
         again = f"inrc2pb-ward: --template {book}: there is such a file, perhaps with your ward: give another name"
         self.assert_fault(run("ward", "--template", book), again)
 
