@@ -43,6 +43,11 @@ def date_of(cell: SheetCell) -> Optional[datetime.date]:
     return date
 
 
+def date_shown(cell: SheetCell, date: Optional[datetime.date]) -> str:
+    """What a spreadsheet shows in a cell with this date, if it has one."""
+    return str(date) if date and cell.text.isdecimal() else cell.text
+
+
 def _year_first(first: int, second: int, year: int) -> str:
     """The date that has its day or its month first."""
     for month, day in ((second, first), (first, second)):

@@ -8,7 +8,7 @@ from ..judging.absences import is_broken_by, readable
 from ..week.faults import Gathering
 from ..week.hints import plural
 from ..week.records import DAYS, Absence, Cell, Place, Request, Requirement, Scenario
-from .head_dates import date_of, day_of_head
+from .head_dates import date_of, date_shown, day_of_head
 from .sheet_files import Book
 from .sheet_rows import SheetCell, SheetRow, Table, about
 from ..week.slots import MAX_NUMBER
@@ -72,10 +72,11 @@ def read_days(book: Book) -> Days:
         if date and monday and (date - monday).days != index:
             cell.fault(f"{date} does not follow the day before: write one column for each day")
         if bool(date) != bool(monday):
-            cell.fault(f"'{cell.text}' has {'a date' if date else 'no date'}, unlike the first day: write dates for all days or for none")
+            has = "a date" if date else "no date"
+            cell.fault(f"'{date_shown(cell, date)}' has {has}, unlike the first day: write dates for all days or for none")
         wanted = DAYS[index % len(DAYS)]
         if (date.weekday() if date else day_of_head(cell)) != index % len(DAYS):
-            cell.fault(f"'{cell.text}' should be a {wanted}: the plan begins on a Monday, and has each day once")
+            cell.fault(f"'{date_shown(cell, date)}' should be a {wanted}: the plan begins on a Monday, and has each day once")
     if not columns or len(columns) % len(DAYS):
         plan.fault(f"it has {plural(len(columns), 'day')}: plan whole weeks, from Monday to Sunday")
     return Days(plan, columns, monday)
@@ -158,7 +159,7 @@ def _week_number(cell: SheetCell, weeks: int, monday: Optional[datetime.date]) -
     date = date_of(cell)
     if date:
         number = (date - monday).days // len(DAYS) if monday else -1
-        cell.fault(f"'{cell.text}' is a date: write {number if 0 <= number < weeks else 'the number'}, its week from 0")
+        cell.fault(f"'{date_shown(cell, date)}' is a date: write {number if 0 <= number < weeks else 'the number'}, its week from 0")
     week = cell.number()
     if week >= weeks:
         cell.fault(f"{week} is more than {weeks - 1}: weeks are counted from 0, so write {weeks - 1} for the last one")

@@ -90,6 +90,8 @@ class SheetCell(NamedTuple):
             return f"write {thousands[1]} or {thousands[1]}000"
         if re.fullmatch("[oO0-9]+", self.text):
             return "write the digit 0"
+        if self.text.endswith("%"):
+            return "write the number itself, not a part of another one"
         if self.text.endswith(KEPT):
             return f"the sign {KEPT} is for shifts max, work max and weekends"
         if not pair and re.fullmatch(r"[0-9]+[.,][0-9]+", self.text):

@@ -169,6 +169,20 @@ class Words(KeptTest):
             gone = plan.with_cells(cell for cell in plan.cells() if cell.nurse != "Grace" or cell.day < first - 1)
             self.assertFalse([line for line in not_kept_lines(gone) if "Grace" in line])
 
+    def test_an_illness_takes_no_shifts_of_other_days(self):
+        # Grace has five shifts in both weeks, and her limit is ten. Two days of 14 count as 8 * 2 / 14 shifts, rounded up.
+        self.rows["contracts"][1][1:3] = ["8", "10!"]
+        self.rows["plan"][7][6:8] = ["ill", "ill"]
+        self.write()
+        cells, more = self.plan.cells(), Cell("Grace", 12, "Day", "Nurse")
+        fewer = [one for one in cells if (one.nurse, one.day) != ("Grace", 0)]
+        for rosters, most in ((cells, 2), (fewer, 1), ([*cells, more], 2), ([], 0)):
+            plan = replace(self.plan.with_cells(rosters), sheet=read_sheet(self.ward, None, ()))
+            limit = next(fact.most for fact, _ in plan.claims if isinstance(fact, Charged) and fact.nurse == "Grace")
+            self.assertEqual(limit, most)
+            # Only an eleventh shift is above the limit.
+            self.assertEqual(bool([line for line in not_kept_lines(plan) if "Grace has" in line]), more in rosters)
+
     def test_days_off_beside_days_away_cost_more(self):
         # Grace is off on both weekends, and ill on Friday: her weekend costs more, and days on which she is always off do not count.
         self.rows["plan"][7][5], self.rows["nurses"][7][4] = "ill", "Sun"

@@ -17,7 +17,7 @@ from inrc2pb.judging.given import with_given
 from inrc2pb.judging.rules import charges
 from inrc2pb.week.facts import Charged, Claim, read_facts
 from inrc2pb.week.faults import FileFault, FileFaults
-from inrc2pb.sheets.plan_sheets import read_days
+from inrc2pb.sheets.plan_sheets import AWAY, read_days
 from inrc2pb.week.records import Absence, Place, Requirement, Week
 from inrc2pb.sheets.sheet_files import Book, read_book
 
@@ -102,13 +102,15 @@ class Contents(unittest.TestCase):
         for sheet, row, column, text, said in (
             ("shifts", 1, 1, "min in row", "row 1, column B: 'min in row' is no column of this sheet: did you mean 'min in a row'?"),
             ("shifts", 1, 0, "type", "no row has the head 'shift': write shift into the first row"),
-            ("shifts", 2, 0, "Any", "row 2, column A: 'Any' has a meaning of its own in the ward's files: use another name"),
+            *(("shifts", 2, 0, text, f"row 2, column A: '{text}' has a meaning of its own in the ward's files: use another name")
+              for text in ("Any", "Off", "wish", *AWAY)),
             ("shifts", 3, 0, "day", "row 3, column A: the shift type 'day' is there already: use another name"),
             ("shifts", 2, 0, "", "row 2, column A: the cell is empty: write the name of the shift type, or delete the row"),
             ("shifts", 2, 0, "D (long)", "row 2, column A: 'D (long)' has one of the signs ( ) , =: write the name without it"),
             ("shifts", 3, 3, "Dya", "row 3, column D: 'Dya' is no shift type: did you mean Day?"),
             ("shifts", 2, 1, "7", "row 2, column B: the minimum 7 is above the maximum 5: correct one of the two"),
             ("contracts", 2, 1, "9.5", "row 2, column B: '9.5' is no whole number: shifts are counted, not hours"),
+            ("contracts", 2, 1, "50.00%", "row 2, column B: '50.00%' is no whole number: write the number itself, not a part of another one"),
             ("contracts", 2, 1, "O", "row 2, column B: 'O' is no whole number: write the digit 0"),
             ("contracts", 2, 8, "maybe", "row 2, column I: 'maybe' is neither yes nor no: write yes or no"),
             ("nurses", 2, 1, "Ful", "row 2, column B: 'Ful' is no contract: did you mean Full?"),
@@ -155,6 +157,7 @@ class Contents(unittest.TestCase):
             ("plan", 1, 13, "# Sat", "row 1, column O: the column before this one is no day: delete it, or move it after the last day"),
             ("plan", 1, 1, "Sun 0", "row 1, column B: 'Sun 0' should be a Mon: the plan begins on a Monday, and has each day once"),
             ("plan", 1, 1, "2026-12-01", "row 1, column B: '2026-12-01' should be a Mon: the plan begins on a Monday, and has each day once"),
+            ("plan", 1, 1, "46357", "row 1, column B: '2026-12-01' should be a Mon: the plan begins on a Monday, and has each day once"),
             ("plan", 1, 1, "2026-02-30", "row 1, column B: there is no day 2026-02-30: write a date such as 2026-11-30"),
             ("plan", 1, 1, "30.11.", "row 1, column B: '30.11.' is no day of the week: write one of Mon,Tue,Wed,Thu,Fri,Sat,Sun, or whole dates such as 2026-11-30, or begin the head with #"),
             *(("plan", 1, 1, text, f"row 1, column B: '{text}' may have the day or the month first: write {dates}")
@@ -162,6 +165,7 @@ class Contents(unittest.TestCase):
             ("plan", 1, 1, "1900-01-29",
              "row 1, column B: a spreadsheet makes 1900-01-29 of the number of a day: write whole dates, such as 2026-11-30"),
             ("contracts", 2, 2, "1,000", "row 2, column C: '1,000' is no whole number: write 1 or 1000"),
+            ("needs", 2, 0, "46381", "row 2, column A: '2026-12-25' is a date: write the number, its week from 0"),
             ("needs", 2, 0, "25.12.2026", "row 2, column A: '25.12.2026' is a date: write the number, its week from 0"),
             *(("contracts", 2, 2, text, f"row 2, column C: '{text}' is no whole number: write a number such as 2, or leave the cell empty") for text in ("-", "n/a")),
             ("contracts", 2, 2, "0",
@@ -323,7 +327,7 @@ class Contents(unittest.TestCase):
         missing = copy.deepcopy(SHEETS)
         del missing["plan"][3]
         for sheets, line in (
-            (changed("nurses", 7, 3, "Day, Late, Night"), "sheet nurses: Finn never works: nobody can plan her"),
+            (changed("nurses", 7, 3, "Day, Late, Night"), "sheet nurses: Finn never works: correct what she never works, or when she is always off"),
             (night, "sheet shifts: Night may not follow Day, and each shift type may follow Night: is 'not followed by' the other way round?"),
             (missing, "sheet plan: Chen has no row: she has no wishes and no absences; if she has some, add a row"),
         ):
