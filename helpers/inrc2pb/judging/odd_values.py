@@ -42,7 +42,8 @@ def _too_many_assignments(contract: Contract, weeks: int) -> Iterator[str]:
     rounds, rest = divmod(days, work + off)
     most = rounds * work + min(rest, work)
     if minimum > days:
-        yield f"contract {contract.name}: at least {minimum} assignments are asked for, and the period has {days} days: count shifts, not hours"
+        asks = f"contract {contract.name}: at least {minimum} assignments are asked for"
+        yield f"{asks}, and the period has {days} days: count shifts, not hours"
     elif minimum > most:
         in_a_row = f"with at most {work} working days and at least {off} off in a row"
         yield f"contract {contract.name}: at least {minimum} assignments are asked for, and {days} days have {most} {in_a_row}"

@@ -30,7 +30,8 @@ def with_planned_shifts(
     """The claims, with limits that the shifts of a plan do not exceed if nurses leave, or since days away count as shifts, which `credit`
     has. The history is that before the first week of the plan."""
     away = {(one.nurse, WEEK_DAYS * (one.week - 1) + one.day) for one in reasons}
-    planned = [cell.nurse for number, of_week in rosters.items() for cell in of_week if (cell.nurse, WEEK_DAYS * number + cell.day) not in away]
+    cells = ((cell.nurse, WEEK_DAYS * number + cell.day) for number, of_week in rosters.items() for cell in of_week)
+    planned = [nurse for nurse, day in cells if (nurse, day) not in away]
     for claim in claims:
         fact = claim.fact
         if isinstance(fact, Charged) and fact.kind == SHIFTS and fact.nurse is not None:
