@@ -141,7 +141,7 @@ def _serve(folder: WardFolder, given: argparse.Namespace) -> None:
     """Serves the local page until Ctrl-C."""
     with interrupts() as signals:
         try:
-            server = LocalServer(Jobs(folder, read_sheet, signals), given.host, given.port)
+            server = LocalServer(Jobs(folder, read_sheet, signals, given.time), given.host, given.port)
         except OSError as fault:
             cure = "give the name of this machine, and a free port"
             raise Misuse(f"--host {given.host} --port {given.port}: {fault.strerror}: {cure}") from fault

@@ -29,7 +29,7 @@ from ..week.slots import MAX_NUMBER
 from ..week.targets import check_target
 from ..sheets.ward_sheets import book_warnings, read_ward, skill_warnings, ward_warnings
 from ..sheets.ward_template import write_template
-from ..judging.leave import credit_line, credited, shifts_of_leave
+from ..judging.leave import credit_line, credited, paid_days, shifts_of_leave
 
 
 def _options() -> argparse.ArgumentParser:
@@ -112,7 +112,8 @@ def ward_files(book: Book, name: str, days: Days, weeks: int, reasons: Sequence[
     for number, (sheet, data) in enumerate(zip(sheets, datas)):
         found[f"week-{number}.txt"] = week_text(_with_requests(book, ward.scenario, data, number) if requests else data)
         found[f"fix-{number}.txt"] = solution_text(Solution(number, name, tuple(held.row for held in sheet.held)))
-        for line in (*week_warnings(ward.scenario, data), *demand_warnings(ward.scenario, None if number else history, data)):
+        past, paid = None if number else history, [paid_days(later.reasons, reasons) for later in sheets[number:]]
+        for line in (*week_warnings(ward.scenario, data), *demand_warnings(ward.scenario, past, data, paid)):
             odd.setdefault(line, []).append(number)
     warnings += [f"sheet needs, week {', '.join(map(str, numbers))}: {line}" for line, numbers in odd.items()]
     warnings += [f"sheet needs: {line}" for line in supply_warnings(ward.scenario, history, datas)]

@@ -1,8 +1,11 @@
 """What can be counted before planning: nurses who are needed at once, and shifts that a week asks for and contracts supply."""
 
-from typing import Collection, Dict, Iterator, List, NamedTuple, Optional, Sequence, Tuple
+import math
+from fractions import Fraction
+from typing import Collection, Dict, Iterator, List, Mapping, NamedTuple, Optional, Sequence, Tuple
 
 from .absences import absences_of, joined
+from .leave import share_of_day
 from .odd_values import IMPOSSIBLE
 from ..week.facts import SHIFTS
 from .rules import ASSIGNMENT_TOTAL, MISSING_NURSE
@@ -10,6 +13,8 @@ from ..week.records import DAYS, Absence, Cell, History, Place, Scenario, WeekDa
 
 # What warnings say of weeks whose rosters break an absence, or exceed a limit that holds.
 UNKEPT, ABOVE_LIMITS = "no roster that keeps every absence can meet it", "too many to keep the limits that hold"
+# For each week, from that of a history on, the number of each nurse's days away that count as work. The history has their shifts.
+Paid = Sequence[Mapping[str, int]]
 
 
 class _Short(NamedTuple):
@@ -19,7 +24,7 @@ class _Short(NamedTuple):
     cure: str
 
 
-def demand_warnings(scenario: Scenario, history: Optional[History], data: WeekData) -> Iterator[str]:
+def demand_warnings(scenario: Scenario, history: Optional[History], data: WeekData, paid: Paid = ()) -> Iterator[str]:
     """Warnings of days for which no choice of nurses fills all minimum numbers, and of more shifts than the contracts supply."""
     found: Dict[str, List[str]] = {}
     for day, name in enumerate(DAYS):
@@ -30,7 +35,7 @@ def demand_warnings(scenario: Scenario, history: Optional[History], data: WeekDa
             found.setdefault(f"{there.text}: {UNKEPT}: {there.cure}, or shorten an absence", []).append(name)
     for text, days in found.items():
         yield f"{joined(days)}: {text}"
-    asked, supplied = asked_shifts(data), supplied_shifts(scenario, history)
+    asked, supplied = asked_shifts(data), supplied_shifts(scenario, history, paid)
     if asked[0] > supplied[1]:
         supply = f"it asks for at least {asked[0]} shifts, and the contracts supply at most {supplied[1]} a week"
         yield f"{supply}: if all weeks ask for so many, each shift above costs points"
@@ -41,16 +46,18 @@ def asked_shifts(data: WeekData) -> Tuple[int, int]:
     return sum(one.minimum for one in data.requirements.values()), sum(max(one.minimum, one.optimal) for one in data.requirements.values())
 
 
-def supplied_shifts(scenario: Scenario, history: Optional[History]) -> Tuple[int, int]:
-    """The shifts that the contracts ask for at least and allow at most, in the part of a week of those that are left, rounded outwards."""
-    left = scenario.weeks - (history.week if history else 0)
-    minimum = most = 0
+def supplied_shifts(scenario: Scenario, history: Optional[History], paid: Paid = ()) -> Tuple[int, int]:
+    """The shifts that the contracts ask for at least and allow at most in the first of the weeks that are left, rounded outwards: the same
+    part for each week, without the shifts of its own days away that count as work."""
+    left, zero = scenario.weeks - (history.week if history else 0), Fraction(0)
+    minimum = most = zero
     for name in scenario.nurses:
-        done = history.nurses[name].assignments if history else 0
-        limits = scenario.contract_of(name).assignments
-        minimum += max(0, limits.minimum - done)
-        most += min(max(0, limits.maximum - done), 7 * left)
-    return minimum // left, -(-most // left)
+        share, limits = share_of_day(scenario, name), scenario.contract_of(name).assignments
+        done = history.nurses[name].assignments - share * sum(week.get(name, 0) for week in paid) if history else zero
+        away = share * (paid[0].get(name, 0) if paid else 0)
+        minimum += max(zero, (limits.minimum - done) / left - away)
+        most += max(zero, min(max(zero, limits.maximum - done) / left, Fraction(len(DAYS))) - away)
+    return math.floor(minimum), math.ceil(most)
 
 
 def supply_warnings(scenario: Scenario, history: History, weeks: Sequence[WeekData]) -> Iterator[str]:

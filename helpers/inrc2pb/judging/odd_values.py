@@ -6,6 +6,8 @@ from ..week.records import DAYS, Contract, History, Limits, NurseHistory, Requir
 from ..week.hints import plural
 from ..week.slots import is_utf8
 
+# What helps if two values contradict one another.
+_CORRECT = "correct one of the two"
 # The words of a warning about a week that has no roster.
 IMPOSSIBLE = "no roster can meet it"
 
@@ -40,7 +42,8 @@ def _too_many_assignments(contract: Contract, weeks: int) -> Iterator[str]:
     rounds, rest = divmod(days, work + off)
     most = rounds * work + min(rest, work)
     if minimum > days:
-        yield f"contract {contract.name}: at least {minimum} assignments are asked for, and the period has {days} days"
+        asks = f"contract {contract.name}: at least {minimum} assignments are asked for"
+        yield f"{asks}, and the period has {days} days: count shifts, not hours"
     elif minimum > most:
         in_a_row = f"with at most {work} working days and at least {off} off in a row"
         yield f"contract {contract.name}: at least {minimum} assignments are asked for, and {days} days have {most} {in_a_row}"
@@ -57,16 +60,16 @@ def _last_days(past: NurseHistory) -> Iterator[str]:
     """Warnings of days in a row that contradict one another."""
     if past.last_shift is None:
         if past.consecutive_shifts or past.working_days:
-            yield f"{past.nurse} was off on Sunday (None), but has consecutive shifts or working days"
+            yield f"{past.nurse} was off on Sunday (None), but has consecutive shifts or working days: {_CORRECT}"
         return
     worked = f"{past.nurse} worked on Sunday ({past.last_shift})"
     if past.days_off:
-        yield f"{worked}, but has {plural(past.days_off, 'day')} off in a row"
+        yield f"{worked}, but has {plural(past.days_off, 'day')} off in a row: {_CORRECT}"
     if past.consecutive_shifts == 0:
-        yield f"{worked}, but has 0 days in a row on this shift type"
+        yield f"{worked}, but has 0 days in a row on this shift type: {_CORRECT}"
     elif past.consecutive_shifts > past.working_days:
         on_shift = f"{plural(past.consecutive_shifts, 'day')} in a row on {past.last_shift}"
-        yield f"{past.nurse} has {on_shift}, and only {past.working_days} with work"
+        yield f"{past.nurse} has {on_shift}, and only {past.working_days} with work: {_CORRECT}"
 
 
 def _totals(past: NurseHistory, week: int, leave: int) -> Iterator[str]:
@@ -115,4 +118,4 @@ def _unasked(scenario: Scenario, data: WeekData) -> Iterator[str]:
         rows = {place: required for place, required in data.requirements.items() if place.shift == shift}
         asked = any(required.minimum or required.optimal for required in rows.values())
         if not asked and len(rows) < len(scenario.skills) * len(DAYS):
-            yield f"nobody is asked for {shift} on any day"
+            yield f"nobody is asked for {shift} on any day: write a row for each skill, with 0 if nobody is needed"

@@ -1,4 +1,7 @@
-"""Few changes: in a copy of a week's file each shift that the old roster does not have costs something."""
+"""Few changes: a shift that is new for its nurse costs points, and so does a nurse to call. A day off in place of a shift is no new shift.
+
+In a search new shifts are requests in a copy of a week's file.
+"""
 
 from dataclasses import replace
 from typing import Collection, Dict, Iterator, Optional, Tuple
@@ -6,13 +9,24 @@ from typing import Collection, Dict, Iterator, Optional, Tuple
 from ..judging.rules import REQUEST
 from ..week.records import Cell, Request, Scenario, WeekData
 
-# The cost of another shift for a nurse, in points, in addition to the charges of the rules; and on a day that she has agreed on. It is
-# less than an absence.
+# The cost of a new shift of a nurse, in points, in addition to the charges of the rules; and on a day that she has agreed on. It is less
+# than an absence.
 POINTS, AGREED_POINTS = 20, 250
-# The cost of a nurse with another shift, in addition to that of her shifts, since she has to be called.
+# The cost of a nurse with another shift or day off, in addition to that of her shifts, since she has to be called.
 CALL_POINTS = 20
 # The cost of a shift on a day off beside days away, in addition to that of the shift.
 BESIDE_POINTS = 60
+NurseDay = Tuple[str, int]
+
+
+def is_other_shift(before: Optional[Cell], now: Optional[Cell]) -> bool:
+    """Whether a nurse's day has another shift type, or is off in only one of two rosters. Another skill is no other shift."""
+    return (before.shift if before else None) != (now.shift if now else None)
+
+
+def new_shift_points(place: NurseDay, agreed: Collection[NurseDay], beside: Collection[NurseDay]) -> int:
+    """What another shift of a nurse on a day costs, if it is one on which she has agreed, or a day off beside days away."""
+    return AGREED_POINTS if place in agreed else POINTS + BESIDE_POINTS * (place in beside)
 
 
 def with_few_changes(
@@ -20,22 +34,20 @@ def with_few_changes(
     data: WeekData,
     old: Collection[Cell],
     days: Collection[int],
-    points: int = POINTS,
-    agreed: Collection[Tuple[str, int]] = (),
+    agreed: Collection[NurseDay] = (),
     new: Collection[str] = (),
-    beside: Collection[Tuple[str, int]] = (),
+    beside: Collection[NurseDay] = (),
 ) -> WeekData:
     """The week's file with requests against all shifts on these days, and on agreed days of nurses, but those of the old roster. A new
     nurse may have any shift. The days off `beside` days away cost more."""
     shift_on = {(cell.nurse, cell.day): cell.shift for cell in old}
-    costs = {(nurse, day): points for nurse in scenario.nurses if nurse not in new for day in days}
-    costs.update({one: costs[one] + BESIDE_POINTS for one in beside if one in costs})
-    costs.update({one: AGREED_POINTS for one in agreed})
+    places = dict.fromkeys((*((nurse, day) for nurse in scenario.nurses if nurse not in new for day in days), *agreed))
+    costs = {place: new_shift_points(place, agreed, beside) for place in places}
     asked = [(request, cost) for (nurse, day), cost in costs.items() for request in _requests(scenario, nurse, day, shift_on)]
     return replace(data, requests=(*data.requests, *(request for request, cost in asked for _ in range(cost // REQUEST))))
 
 
-def _requests(scenario: Scenario, nurse: str, day: int, shift_on: Dict[Tuple[str, int], str]) -> Iterator[Request]:
+def _requests(scenario: Scenario, nurse: str, day: int, shift_on: Dict[NurseDay, str]) -> Iterator[Request]:
     """Who was off is asked to work nothing, who worked to work no other shift type."""
     old: Optional[str] = shift_on.get((nurse, day))
     if old is None:

@@ -1,4 +1,5 @@
-"""Nurses who leave the ward in a period: the shifts that they have until then are facts, also if their part of the contract has fewer."""
+"""Shifts of a plan that are facts for its limits: those of nurses who leave the ward, also if their part of the contract has fewer, and
+those of nurses who are ill later, also if days away then count as shifts."""
 
 from typing import Dict, Iterator, Mapping, Sequence
 
@@ -22,15 +23,20 @@ def leaving_days(reasons: Reasons, total: int) -> Dict[str, int]:
     return found
 
 
-def with_shifts_until_leaving(
-    claims: Sequence[Claim], scenario: Scenario, history: History, rosters: Mapping[int, Sequence[Cell]], leaving: Mapping[str, int]
+def with_planned_shifts(
+    claims: Sequence[Claim], scenario: Scenario, history: History, rosters: Mapping[int, Sequence[Cell]], leaving: Mapping[str, int],
+    reasons: Reasons, credit: Mapping[str, int],
 ) -> Iterator[Claim]:
-    """The claims, with limits that the shifts of a plan until nurses leave do not exceed. The history is that before its first week."""
+    """The claims, with limits that the shifts of a plan do not exceed if nurses leave, or since days away count as shifts, which `credit`
+    has. The history is that before the first week of the plan."""
+    away = {(one.nurse, WEEK_DAYS * (one.week - 1) + one.day) for one in reasons}
+    cells = ((cell.nurse, WEEK_DAYS * number + cell.day) for number, of_week in rosters.items() for cell in of_week)
+    planned = [nurse for nurse, day in cells if (nurse, day) not in away]
     for claim in claims:
         fact = claim.fact
-        if isinstance(fact, Charged) and fact.kind == SHIFTS and fact.nurse is not None and fact.nurse in leaving:
-            cells = ((WEEK_DAYS * number + cell.day, cell.nurse) for number, of_week in rosters.items() for cell in of_week)
-            planned = sum(nurse == fact.nurse and day < leaving[nurse] for day, nurse in cells)
-            above = history.nurses[fact.nurse].assignments + planned - scenario.contract_of(fact.nurse).assignments.maximum
-            claim = claim._replace(fact=fact._replace(most=max(fact.most, above)))
+        if isinstance(fact, Charged) and fact.kind == SHIFTS and fact.nurse is not None:
+            most = scenario.contract_of(fact.nurse).assignments.maximum
+            above = history.nurses[fact.nurse].assignments + planned.count(fact.nurse) - most
+            allowed = above if fact.nurse in leaving else min(above, credit.get(fact.nurse, 0))
+            claim = claim._replace(fact=fact._replace(most=max(fact.most, allowed)))
         yield claim

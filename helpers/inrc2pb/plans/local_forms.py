@@ -54,17 +54,17 @@ def writes(fields: Fields) -> str:
     return next((form.writes for form in FORMS if form.verb == fields.get("verb")), "")
 
 
-def verb_of(fields: Fields) -> Callable[[Verbs], List[str]]:
-    """The verb that a form asks for."""
+def verb_of(fields: Fields, seconds: Optional[float] = None) -> Callable[[Verbs], List[str]]:
+    """The verb that a form asks for; a search has so many seconds, if the form does not say how many."""
     verb = fields.get("verb", "")
     if verb not in [form.verb for form in FORMS]:
         raise Misuse(f"'{verb}' is no button of this page: it has {quoted(form.button for form in FORMS)}")
     words = [fields[name] for name in ("nurse", "first", "other", "other day", "last", "from") if fields.get(name)]
     found: Dict[str, Callable[[Verbs], List[str]]] = {
         "check": lambda verbs: verbs.check(),
-        "plan": lambda verbs: verbs.plan(words, _seconds(fields), "free" in fields),
-        "away": lambda verbs: verbs.away(_reason(fields), words, None),
-        "back": lambda verbs: verbs.back(words, None),
+        "plan": lambda verbs: verbs.plan(words, _seconds(fields) or seconds, "free" in fields),
+        "away": lambda verbs: verbs.away(_reason(fields), words, seconds),
+        "back": lambda verbs: verbs.back(words, seconds),
         "swap": lambda verbs: verbs.swap(words, "write it" in fields),
         "over": lambda verbs: verbs.over(fields.get("corrections", "").split()),
         "page": lambda verbs: verbs.page(),
@@ -89,9 +89,10 @@ def _reason(fields: Fields) -> str:
     return reason
 
 
-def form_markup(form: Form, plan: WardPlan, address: str, kept: Fields = {}) -> Markup:
-    """A form of the page, with these values in its fields. With the choice `-` a field is left out."""
-    fields = [_field(name, plan, kept.get(name, "")) for name in form.fields]
+def form_markup(form: Form, plan: Optional[WardPlan], address: str, kept: Fields = {}, seconds: Optional[float] = None) -> Markup:
+    """A form of the page, with these values in its fields, and this time of a search. With the choice `-` a field is left out. One without
+    fields needs no plan."""
+    fields = [_field(name, plan, kept.get(name, ""), seconds) for name in form.fields if plan]
     button = element("button", form.button, name="verb", value=form.verb)
     text = f"{form.text}; writes {form.writes}" if form.writes else form.text
     text = f"{form.text}; writes nothing, but with 'write it' {_NEW_PLAN}" if form.verb == "swap" else text
@@ -130,13 +131,13 @@ def swap_markup(words: Mapping[str, str], text: str, address: str) -> Markup:
     return element("form", *hidden, element("button", text, name="verb", value="swap"), method="post", action=address)
 
 
-def _field(name: str, plan: WardPlan, kept: str) -> Markup:
+def _field(name: str, plan: WardPlan, kept: str, seconds: Optional[float]) -> Markup:
     label = f"{_LABELS.get(name, name)} "
     if name in _CHECKS:
         return joined(element("label", element("input", type="checkbox", name=name, value="yes"), label), " ")
     if name in ("seconds", "corrections"):
         kind = {"type": "number", "min": "1", "max": f"{_MOST_SECONDS:.0f}"} if name == "seconds" else {"type": "text"}
-        kind["placeholder"] = f"{WEEK_SECONDS * len(plan.weeks):.0f}" if name == "seconds" else ""
+        kind["placeholder"] = f"{seconds or WEEK_SECONDS * len(plan.weeks):g}" if name == "seconds" else ""
         return joined(element("label", label, element("input", name=name, value=kept or None, **kind)), " ")
     if name == "reason":
         choices: Sequence[Tuple[str, str]] = [(word, word) for word in ("ill", *(word for word in AWAY if word != "ill"))]

@@ -23,17 +23,28 @@ class Said(NamedTuple):
 class Jobs:
     """The verbs of a folder. `stop` ends the one that runs, which keeps its best plan."""
 
-    def __init__(self, folder: WardFolder, read: Reader, signals: Interrupts) -> None:
-        self.folder, self._read, self._signals = folder, read, signals
+    def __init__(self, folder: WardFolder, read: Reader, signals: Interrupts, seconds: Optional[float] = None) -> None:
+        # The seconds of a search, if they are not the usual ones.
+        self.folder, self.seconds, self._read, self._signals = folder, seconds, read, signals
         self._lock = threading.Lock()
         self._thread: Optional[threading.Thread] = None
         self._spoken = io.StringIO()
         self._said = Said([])
 
-    def verbs(self, spoken: Optional[io.StringIO] = None) -> Verbs:
+    def verbs(self, spoken: Optional[io.StringIO] = None, only_reads: bool = False) -> Verbs:
         """The verbs of the folder, which say to this text how far they are."""
         text = spoken or io.StringIO()
-        return Verbs(self.folder, Means(self._read, Progress(text), lambda line: print(line, file=text), "", "the button below writes it"))
+        means = Means(self._read, Progress(text), lambda line: print(line, file=text), "", "the button below writes it")
+        return Verbs(self.folder, means, only_reads)
+
+    def refused(self, verb: Callable[[Verbs], List[str]]) -> Optional[Said]:
+        """Why a verb would write nothing, if it would not."""
+        verbs = self.verbs(only_reads=True)
+        try:
+            lines = verb(verbs)
+        except Exception as fault:
+            return Said(fault_lines(fault), True)
+        return Said(lines, True) if verbs.status else None
 
     @property
     def runs(self) -> bool:

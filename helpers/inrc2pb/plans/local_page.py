@@ -51,7 +51,8 @@ class Place(NamedTuple):
 
 class Shown(NamedTuple):
     """What a page shows beside the plan: what was said, the cell that was clicked, the form that asks whether to write, the fields of the
-    last form, the path of the spreadsheet, the pages of weeks that are over with their texts, and the name of the ward."""
+    last form, the path of the spreadsheet, the pages of weeks that are over with their texts, the name of the ward, and the seconds of
+    a search, if they are not the usual ones."""
 
     said: Said
     place: Optional[Place] = None
@@ -60,6 +61,7 @@ class Shown(NamedTuple):
     spreadsheet: str = ""
     worked: Mapping[str, str] = {}
     name: str = "Ward"
+    seconds: Optional[float] = None
 
 
 def page_markup(plan: Optional[WardPlan], shown: Shown, address: str) -> str:
@@ -78,7 +80,7 @@ def page_markup(plan: Optional[WardPlan], shown: Shown, address: str) -> str:
         clicked = {"nurse": shown.place.nurse, "first": plan.days.head(shown.place.day)} if shown.place else {}
         for form in FORMS:
             kept = shown.kept if form.verb == shown.kept.get("verb") and not clicked else clicked
-            parts += [form_markup(form, plan, address, kept)] * (plan.is_planned or not form.needs_plan)
+            parts += [form_markup(form, plan, address, kept, shown.seconds)] * (plan.is_planned or not form.needs_plan)
     elif plan is None and not said.runs:
         parts += _without_plan(shown, address)
     if plan and (plan.is_planned and plan.weeks or shown.worked):
@@ -94,7 +96,7 @@ def _without_plan(shown: Shown, address: str) -> List[Markup]:
     begin = "Correct that in" if shown.said.is_fault else "Write the days of the next period into the sheet plan of"
     return [
         element("p", f"{begin} {shown.spreadsheet}, save it, and ", again, "."),
-        element("form", element("button", "Undo", name="verb", value="undo"), method="post", action=address),
+        *(form_markup(form, None, address) for form in FORMS if not (form.needs_plan or form.fields)),
         element("p", *_linked(_worked(shown), address), class_="links"),
     ]
 

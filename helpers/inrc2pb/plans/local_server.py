@@ -53,7 +53,9 @@ class Site:
 
     def plan(self) -> Tuple[Optional[WardPlan], Said]:
         """The plan that holds, and what is said above it: a fault of the spreadsheet, or of a form, if there is one."""
-        said = self.jobs.said()
+        said, refused = self.jobs.said(), None
+        if not said.runs:
+            refused, self.fault = self.fault, None
         try:
             plan = self.jobs.verbs().current()
             self.name = readable(plan.scenario.name)
@@ -62,22 +64,23 @@ class Site:
             is_told = said.runs or any(PERIOD_IS_OVER in line for line in said.lines)
             return None, said if is_told else Said([str(fault)])
         except Exception as fault:
-            return None, said if said.runs else Said(fault_lines(fault), True)
-        if self.fault and not said.runs:
-            said, self.fault = self.fault, None
-        return plan, said
+            # What undo has done is told also if the spreadsheet has a fault.
+            done = said.lines if self.kept.get("verb") == "undo" and not said.is_fault else []
+            return None, said if said.runs else Said([*fault_lines(fault), *done], True)
+        return plan, refused or said
 
     def post(self, fields: Dict[str, str]) -> bool:
-        """Does what a form asks for. A form that no page has is a fault, which the next page shows. Returns whether the user has to be
-        asked first, since the verb writes."""
+        """Does what a form asks for. What cannot be done is a fault, which the next page shows. Returns whether the user has to be asked
+        first, since the verb writes."""
         self.kept = fields
         try:
             if fields.get("verb") == "stop":
                 self.jobs.stop()
                 return False
-            verb = verb_of(fields)
+            verb = verb_of(fields, self.jobs.seconds)
             if writes(fields) and SURE not in fields and not self.jobs.runs:
-                return True
+                self.fault = self.jobs.refused(verb)
+                return self.fault is None
             self.jobs.begin(verb)
         except Misuse as fault:
             self.fault = Said([str(fault)], True)
@@ -114,7 +117,7 @@ class _Handler(BaseHTTPRequestHandler):
         else:
             kept = self.site.fields(said)
             place = _place(plan, query) or _looked(plan, kept, said)
-            shown = Shown(said, place, kept=kept, spreadsheet=self.site.spreadsheet, worked=worked, name=self.site.name)
+            shown = Shown(said, place, {}, kept, self.site.spreadsheet, worked, self.site.name, self.site.jobs.seconds)
             self._answer(page_markup(plan, shown, self.site.base))
 
     def _page(self, path: str, plan: WardPlan) -> None:

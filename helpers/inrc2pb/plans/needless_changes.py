@@ -10,7 +10,7 @@ from ..judging.days_away import DaysAway
 from ..judging.rules import MISSING_NURSE
 from ..week.records import Cell, Place
 from .days_beside_absences import days_off_beside_absences
-from .few_changes import BESIDE_POINTS, CALL_POINTS, POINTS
+from .few_changes import CALL_POINTS, is_other_shift, new_shift_points
 from .nurse_weeks import NurseWeeks
 from .plan_days import WEEK_DAYS
 from .shift_changes import ShiftChange, shift_changes
@@ -28,6 +28,7 @@ class _Value(NamedTuple):
     broken: int
     not_kept: int
     points: int
+    changes: int
 
 
 class _Judge:
@@ -36,7 +37,7 @@ class _Judge:
     def __init__(self, old: WardPlan, plan: WardPlan) -> None:
         self._plan, self._alone, self._before = plan, NurseWeeks(plan), _by_nurse(plan, old.works)
         self._away = {number: absences_of(plan.data[number]) for number in plan.weeks}
-        self._beside = days_off_beside_absences(old)
+        self._beside, self._agreed = days_off_beside_absences(old), frozenset(old.agreed)
         self._held: Dict[str, Dict[int, Cell]] = {nurse: {} for nurse in plan.scenario.nurses}
         for number in plan.weeks:
             for cell in plan.held[number]:
@@ -49,7 +50,9 @@ class _Judge:
         for nurse, cells in _by_nurse(self._plan, works).items():
             key = nurse, tuple(sorted(cells.values(), key=lambda cell: cell.day))
             if key not in self._known:
-                self._known[key] = _Value(self._broken(nurse, cells), self._not_kept(nurse, cells), self._points(nurse, cells))
+                self._known[key] = _Value(
+                    self._broken(nurse, cells), self._not_kept(nurse, cells), self._points(nurse, cells), self._changes(nurse, cells)
+                )  # fmt: skip
             parts.append(self._known[key])
         return _Value(*map(sum, zip(*parts)))
 
@@ -62,7 +65,7 @@ class _Judge:
                 there = number[place._replace(day=WEEK_DAYS * week + place.day)]
                 below += max(0, asked.minimum - there)
                 missing += max(0, asked.optimal - there)
-        return _Value(below, 0, MISSING_NURSE * missing)
+        return _Value(below, 0, MISSING_NURSE * missing, 0)
 
     def _broken(self, nurse: str, cells: Mapping[int, Cell]) -> int:
         """How often these assignments of a nurse break a hard rule."""
@@ -84,12 +87,18 @@ class _Judge:
         return working + self._alone.above(nurse, cells)[0] + above
 
     def _points(self, nurse: str, cells: Mapping[int, Cell]) -> int:
-        """What the nurse is charged, with the points of her changes; a nurse without shifts in the old plan may have any."""
+        """What the nurse is charged, with the points of her changes, as a search counts them; a nurse without shifts in the old plan may
+        have any."""
         before = self._before[nurse]
-        changed = [day for day in {*before, *cells} if before.get(day) != cells.get(day)] if before else []
+        changed = [day for day in {*before, *cells} if is_other_shift(before.get(day), cells.get(day))] if before else []
         is_called = any((nurse, day) not in self._plan.away for day in changed)
-        beside = sum((nurse, day) in self._beside for day in changed)
-        return self._alone.cost(nurse, cells) + POINTS * len(changed) + CALL_POINTS * is_called + BESIDE_POINTS * beside
+        new = sum(new_shift_points((nurse, day), self._agreed, self._beside) for day in changed if day in cells)
+        return self._alone.cost(nurse, cells) + new + CALL_POINTS * is_called
+
+    def _changes(self, nurse: str, cells: Mapping[int, Cell]) -> int:
+        """The days of the nurse with another shift or skill: of equal plans the one with fewer of them is better."""
+        before = self._before[nurse]
+        return sum(before.get(day) != cells.get(day) for day in {*before, *cells})
 
 
 def _by_nurse(plan: WardPlan, works: Mapping[Key, Cell]) -> Dict[str, Dict[int, Cell]]:

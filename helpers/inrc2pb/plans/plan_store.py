@@ -39,10 +39,11 @@ class Means(NamedTuple):
 
 
 class PlanStore:
-    """The plans of a folder. `status` is the exit status of the verb that uses it."""
+    """The plans of a folder. `status` is the exit status of the verb that uses it. A verb that `only_reads` ends before it searches or
+    writes, so it finds the faults of what is asked."""
 
-    def __init__(self, folder: WardFolder, means: Means) -> None:
-        self.folder, self.means = folder, means
+    def __init__(self, folder: WardFolder, means: Means, only_reads: bool = False) -> None:
+        self.folder, self.means, self.only_reads = folder, means, only_reads
         self.status = 0
 
     def current(self, written: Sequence[WrittenAbsence] = ()) -> WardPlan:
@@ -72,6 +73,8 @@ class PlanStore:
 
     def save(self, verb: str, plan: WardPlan, old: Optional[WardPlan] = None) -> List[str]:
         """Writes the plan and its pages. Returns the lines that name them."""
+        if self.only_reads:
+            return []
         now = datetime.datetime.now()
         self.folder.add(verb.split(" ", 1)[0], plan.texts(Record(verb, now, plan.days, plan.open_week, plan.published)), now)
         return self.pages(plan, old)
@@ -86,12 +89,18 @@ class PlanStore:
         return sum(map(_ends_period, self.folder.all_plans()[:-1]))
 
     def worked_pages(self, plan: Optional[WardPlan]) -> Dict[str, str]:
-        """The pages of weeks that are over, and their texts. That of the plan is an undone one if no week of it is over."""
+        """The pages of weeks that are over, and their texts. That of the plan is an undone one if no week of it is over. If the spreadsheet
+        has a fault, so there is no plan, also the page of the roster."""
         undone = pages.worked_name(plan.days, self.periods_before()) if plan and not plan.open_week else None
-        return {name: text for name, text in pages.worked_pages(self.folder.top).items() if name != undone}
+        last, roster = self.folder.last(), self.folder.top / pages.ROSTER
+        is_left = plan is None and last is not None and not _ends_period(last) and roster.is_file()
+        found = {pages.ROSTER: "The roster as it was last written"} if is_left else {}
+        return {**found, **{name: text for name, text in pages.worked_pages(self.folder.top).items() if name != undone}}
 
     def pages(self, plan: WardPlan, old: Optional[WardPlan] = None) -> List[str]:
         """Writes the pages of a plan. Returns the lines that name them."""
+        if self.only_reads:
+            return []
         top = self.folder.top
         try:
             written = [pages.write_worked_page(top, plan, self.periods_before())] if plan.open_week else []

@@ -25,7 +25,8 @@ from .written_absences import BACK, with_days
 # The seconds of a search, for each week if it is a whole plan.
 WEEK_SECONDS, CHANGE_SECONDS = 20.0, 30.0
 # What a search for few changes counts beside the charges of the rules.
-_CHANGED = f"{POINTS} points for a changed shift, {BESIDE_POINTS} more if it is on a day off beside days away"
+_BESIDE = f"{BESIDE_POINTS} more on a day off beside days away"
+_CHANGED = f"{POINTS} points for a new shift of a nurse ({_BESIDE}), {CALL_POINTS} for a nurse to call"
 # The share at the end of a line on the bound: a few points above nothing are many per cent.
 _SHARE = re.compile(r", [0-9.]+ %$")
 
@@ -92,11 +93,12 @@ def _days_away(old: WardPlan, nurse: str, first: int) -> List[int]:
 
 def _search(store: PlanStore, verb: str, old: WardPlan, asked: Asked) -> List[str]:
     """Searches, writes the plan, and says what it costs and what changes."""
+    if store.only_reads:
+        return []
     days = old.days.span([asked.first, old.days.total - 1])
     store.means.say(f"{days}, at most {asked.seconds:g} s{f'; {store.means.end}' if store.means.end else ''}")
     if asked.few_changes and old.is_planned:
-        call = f"the bound has also {CALL_POINTS} for a nurse to call"
-        store.means.say(f"penalties of the search have also {_CHANGED}, and {call}; the points of the plan have none of this")
+        store.means.say(f"penalties and the bound of the search have also {_CHANGED}; the points of the plan have not")
     # A second Ctrl-C does not end it before the plan is written.
     with interrupts():
         try:
@@ -142,7 +144,7 @@ def _result(store: PlanStore, old: WardPlan, found: Found, few_changes: bool) ->
         lines.append(f"{plural(len(changes), 'shift')} {'differs' if len(changes) == 1 else 'differ'} from the last plan")
     lines += [_broken(old, new, one) for one in old.agreed if one not in new.agreed]
     lines += [*beside_lines(new), *leave_lines(new), *wish_lines(before, new), *cost_lines(new)]
-    lines += [f"the search counted also {_CHANGED}, and {CALL_POINTS} for a nurse to call; they are not in this sum"] * few_changes
+    lines += [f"the search counted also {_CHANGED}; they are not in this sum"] * few_changes
     lines += [_SHARE.sub("", found.bound)] * (is_kept and not few_changes)
     lines += ["stopped: this is the best plan until then"] * found.stopped
     if not is_kept:

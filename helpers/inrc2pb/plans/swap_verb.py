@@ -57,6 +57,8 @@ def _swap(store: PlanStore, old: WardPlan, asked: Swap, do: bool) -> List[str]:
     lines += [readable(line) for line in charge_lines(old.view(), new.view()) if line[:1] in " +-"]
     if not do:
         return [*lines, f"{NOT_WRITTEN}: {store.means.write}", *offer_lines(old, swaps, *shift_of(swaps, asked))]
+    if store.only_reads:
+        return []
     # The program has the last word on the new rosters.
     cost_lines(new)
     agreed = [AgreedDay(nurse, day) for nurse in (asked.one, asked.other) for day in asked.days]

@@ -6,9 +6,11 @@ from typing import Dict, List, Optional, Sequence
 
 from ..judging.absences import readable
 from ..judging.demand import ABOVE_LIMITS, UNKEPT
+from ..judging.leave import paid_days
 from ..judging.odd_values import IMPOSSIBLE
 from ..programs.program import BROKEN_RULE, NO_ROSTER
 from ..shown.telling import held_sentences, history_sentences, limit_sentences, scenario_sentences, week_sentences
+from ..sheets.plan_sheets import COUNTED
 from ..shown.why import breach_lines
 from ..week.faults import FileFault, Misuse, fault_line
 from . import search_verbs, swap_verb, week_end
@@ -24,8 +26,8 @@ from .ward_plan import WardPlan
 class Verbs:
     """The verbs of a folder, as functions that return the lines to print."""
 
-    def __init__(self, folder: WardFolder, means: Means) -> None:
-        self._store = PlanStore(folder, means)
+    def __init__(self, folder: WardFolder, means: Means, only_reads: bool = False) -> None:
+        self._store = PlanStore(folder, means, only_reads)
 
     @property
     def status(self) -> int:
@@ -69,7 +71,8 @@ class Verbs:
         lines += [*scenario_sentences(plan.scenario), *limits, "", *history_sentences(plan.histories[plan.open_week], plan.sheet.credit)]
         for number in plan.weeks:
             data, past = plan.data[number], plan.histories[number] if number < len(plan.histories) else None
-            told = week_sentences(plan.scenario, past, data, plan.reasons(number))
+            paid = [paid_days(plan.reasons(later), COUNTED) for later in plan.weeks if later >= number]
+            told = week_sentences(plan.scenario, past, data, plan.reasons(number), paid)
             lines += ["", f"Week {number}, {plan.days.text(WEEK_DAYS * number)}:", *told, *held_sentences(plan.held[number])]
         if plan.is_planned:
             lines += ["", *breach_lines(plan.view(), "plan")]
@@ -86,6 +89,9 @@ class Verbs:
     def undo(self) -> List[str]:
         """The plan before the last verb holds again."""
         folder = self._store.folder
+        folder.check_undo()
+        if self._store.only_reads:
+            return []
         undone = _made(folder.undo())
         last = folder.last()
         if last is None:

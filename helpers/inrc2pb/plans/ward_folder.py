@@ -75,11 +75,16 @@ class WardFolder:
         folder = self.plans / UNDONE
         return [path for path in folder.iterdir() if _NAME.fullmatch(path.name)] if folder.is_dir() else []
 
-    def undo(self) -> Path:
-        """Takes the last plan away, to the folder `undone`. Returns its new path."""
+    def check_undo(self) -> Path:
+        """The folder of the plan that undo takes away; that there is none is a Misuse."""
         last = self.last()
         if last is None:
             raise Misuse(f"{self.top}: there is nothing to undo")
+        return last
+
+    def undo(self) -> Path:
+        """Takes the last plan away, to the folder `undone`. Returns its new path."""
+        last = self.check_undo()
         (self.plans / UNDONE).mkdir(exist_ok=True)
         return last.rename(self.plans / UNDONE / last.name)
 

@@ -24,7 +24,7 @@ from . import record
 from .agreed_days import NAME as AGREED
 from .agreed_days import AgreedDay, agreed_text, read_agreed
 from .free_days import days_away_of
-from .leavers import leaving_days, with_shifts_until_leaving
+from .leavers import leaving_days, with_planned_shifts
 from .plan_days import PERIOD_IS_OVER, WEEK_DAYS, PeriodOver, PlanDays
 from .record import Record, read_record
 from .written_absences import WrittenAbsence, read_written, written_text
@@ -120,8 +120,9 @@ class WardPlan:
     def claims(self) -> Tuple[Claim, ...]:
         """The absences and the limits that hold, as facts."""
         claims, history = read_given(FACTS, self.scenario, self.sheet.texts[FACTS]), credited(self.start, self.sheet.credit)
-        leaving = leaving_days(read_reasons(REASONS, self.scenario, self.sheet.texts[REASONS]), self.days.total)
-        return tuple(with_shifts_until_leaving(claims, self.scenario, history, self.rosters, leaving))
+        reasons = read_reasons(REASONS, self.scenario, self.sheet.texts[REASONS])
+        leaving = leaving_days(reasons, self.days.total)
+        return tuple(with_planned_shifts(claims, self.scenario, history, self.rosters, leaving, reasons, self.sheet.credit))
 
     @cached_property
     def data(self) -> List[WeekData]:

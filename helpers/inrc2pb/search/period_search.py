@@ -125,7 +125,8 @@ class PeriodSearch:
                 self._keep(cells)
                 self._cells, self._rank, self.penalty = cells, rank, rank[2]
                 given = "week after week" if self._start is None else "the earlier plan"
-                self._progress.improved(penalty, given if finder == GIVEN else finder)
+                # The bound has the calls, too.
+                self._progress.improved(rank[2] if plan.calls.points else penalty, given if finder == GIVEN else finder)
             # Before the search, the cost of calls, and of the weeks that are not known, is not known either.
             return Points(rank[2]) if run.search or not counts_more else None
 

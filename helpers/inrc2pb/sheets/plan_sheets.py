@@ -8,6 +8,7 @@ from ..judging.absences import is_broken_by, readable
 from ..week.faults import Gathering
 from ..week.hints import plural
 from ..week.records import DAYS, Absence, Cell, Place, Request, Requirement, Scenario
+from .head_dates import date_of, date_shown, day_of_head
 from .sheet_files import Book
 from .sheet_rows import SheetCell, SheetRow, Table, about
 from ..week.slots import MAX_NUMBER
@@ -22,11 +23,8 @@ _PAIR = re.compile(r"\(?([0-9]{1,4}) ?(\+|,|\.\.) ?([0-9]{1,4})\)?")
 _RANGE = re.compile(r"([0-9]{1,4}) ?(?:[-\u2013/.,]|to) ?([0-9]{1,4})")
 # Half a nurse, or two numbers.
 _DECIMAL = re.compile(r"([0-9]{1,4})[.,]([0-9]{1,4})")
-_DATE = re.compile(r"([0-9]{4})-([0-9]{1,2})-([0-9]{1,2})|([0-9]{1,2})\.([0-9]{1,2})\.([0-9]{4})")
-_OTHER_DATE = re.compile(r"\b([0-9]{1,2})[/-]([0-9]{1,2})[/-]([0-9]{4})\b")
-# A date as a spreadsheet counts it, from 1954 on.
-_SERIAL = re.compile(r"\b[2-9][0-9]{4}\b")
-_FIRST_YEAR = 1954
+# What else may help if a name in the first cell of a row is not known.
+_NO_ROW = ", or delete the row"
 
 
 class Held(NamedTuple):
@@ -66,7 +64,7 @@ def read_days(book: Book) -> Days:
     """The days of the sheet plan: whole weeks from Monday to Sunday."""
     plan = Table(book, "plan", ("nurse",), open_end=True)
     columns = plan.others
-    dates = [_date_of(cell) for cell in columns]
+    dates = [date_of(cell) for cell in columns]
     monday = dates[0] if dates else None
     for index, (cell, date) in enumerate(zip(columns, dates)):
         if cell.column != columns[0].column + index:
@@ -74,50 +72,14 @@ def read_days(book: Book) -> Days:
         if date and monday and (date - monday).days != index:
             cell.fault(f"{date} does not follow the day before: write one column for each day")
         if bool(date) != bool(monday):
-            cell.fault(f"'{cell.text}' has {'a date' if date else 'no date'}, unlike the first day: write dates for all days or for none")
+            has = "a date" if date else "no date"
+            cell.fault(f"'{date_shown(cell, date)}' has {has}, unlike the first day: write dates for all days or for none")
         wanted = DAYS[index % len(DAYS)]
-        if (date.weekday() if date else _day_of(cell)) != index % len(DAYS):
-            cell.fault(f"'{cell.text}' should be a {wanted}: the plan begins on a Monday, and has each day once")
+        if (date.weekday() if date else day_of_head(cell)) != index % len(DAYS):
+            cell.fault(f"'{date_shown(cell, date)}' should be a {wanted}: the plan begins on a Monday, and has each day once")
     if not columns or len(columns) % len(DAYS):
         plan.fault(f"it has {plural(len(columns), 'day')}: plan whole weeks, from Monday to Sunday")
     return Days(plan, columns, monday)
-
-
-def _day_of(cell: SheetCell) -> int:
-    """The day of the week with which a head begins, as Wed or Wednesday 0."""
-    short = cell.text[:3].casefold()
-    for day, name in enumerate(DAYS):
-        if short == name.casefold():
-            return day
-    whole = ", or whole dates such as 2026-11-30" * bool(re.search("[0-9]", cell.text))
-    cell.fault(f"'{cell.text}' is no day of the week: write one of {','.join(DAYS)}{whole}, or begin the head with #")
-
-
-def _date_of(cell: SheetCell) -> Optional[datetime.date]:
-    """The date in a head: written out, or as a number of a spreadsheet."""
-    found, serial = _DATE.search(cell.text), _SERIAL.search(cell.text)
-    other = _OTHER_DATE.search(cell.text)
-    if other and not found:
-        cell.fault(f"'{cell.text}' may have the day or the month first: write {_year_first(*map(int, other.groups()))}")
-    if not found:
-        return cell.book.day_zero + datetime.timedelta(days=int(serial.group())) if serial else None
-    words = found.groups()
-    year, month, day = words[:3] if words[0] else (words[5], words[4], words[3])
-    try:
-        date = datetime.date(int(year), int(month), int(day))
-    except ValueError:
-        cell.fault(f"there is no day {found.group()}: write a date such as 2026-11-30")
-    if date.year < _FIRST_YEAR:
-        cell.fault(f"a spreadsheet makes {date} of the number of a day: write whole dates, such as 2026-11-30")
-    return date
-
-
-def _year_first(first: int, second: int, year: int) -> str:
-    """The date that has its day or its month first."""
-    for month, day in ((second, first), (first, second)):
-        if month <= 12 < day:
-            return f"{year}-{month:02}-{day:02}"
-    return f"{year}-{second:02}-{first:02} or {year}-{first:02}-{second:02}"
 
 
 def read_weeks(book: Book, ward: Ward, days: Days) -> List[WeekSheet]:
@@ -142,7 +104,7 @@ def _plan_rows(days: Days, scenario: Scenario, faults: Gathering) -> Dict[str, S
     for row in days.plan.rows:
         with faults.step():
             cell = row.of("nurse")
-            nurse = cell.known("nurse of the sheet nurses", scenario.nurses)
+            nurse = cell.known("nurse of the sheet nurses", scenario.nurses, (), _NO_ROW)
             if nurse in rows:
                 cell.fault(f"{readable(nurse)} has a row already: put everything into one row")
             rows[nurse] = row
@@ -152,7 +114,8 @@ def _plan_rows(days: Days, scenario: Scenario, faults: Gathering) -> Dict[str, S
 def plan_warnings(days: Days, scenario: Scenario) -> Iterator[str]:
     """Warnings of nurses for whom the plan has no row."""
     there = {row.of("nurse").text.replace(" ", "_").casefold() for row in days.plan.rows}
-    yield from (f"{nurse} has no row: she has no wishes and no absences" for nurse in scenario.nurses if nurse.casefold() not in there)
+    no_row = "has no row: she has no wishes and no absences; if she has some, add a row"
+    yield from (f"{nurse} {no_row}" for nurse in scenario.nurses if nurse.casefold() not in there)
 
 
 class _Asked(NamedTuple):
@@ -170,8 +133,8 @@ def _read_needs(table: Table, scenario: Scenario, weeks: List[WeekSheet], monday
         for row in table.rows:
             with faults.step():
                 week = _week_number(row.of("week"), len(weeks), monday)
-                shift = row.of("shift").known("shift type", scenario.shift_types)
-                skill = row.of("skill").known("skill of the sheet nurses", scenario.skills)
+                shift = row.of("shift").known("shift type", scenario.shift_types, (), _NO_ROW)
+                skill = row.of("skill").known("skill of the sheet nurses", scenario.skills, (), _NO_ROW)
                 asked = _Asked(week, shift, skill)
                 if asked in given:
                     row.of("shift").fault(f"{readable(shift)} {readable(skill)} has a row already: delete one, or write its week")
@@ -193,10 +156,10 @@ def _week_number(cell: SheetCell, weeks: int, monday: Optional[datetime.date]) -
     """The week of a row of the needs; None: all weeks."""
     if not cell.text:
         return None
-    date = _date_of(cell)
+    date = date_of(cell)
     if date:
         number = (date - monday).days // len(DAYS) if monday else -1
-        cell.fault(f"'{cell.text}' is a date: write {number if 0 <= number < weeks else 'the number'}, its week from 0")
+        cell.fault(f"'{date_shown(cell, date)}' is a date: write {number if 0 <= number < weeks else 'the number'}, its week from 0")
     week = cell.number()
     if week >= weeks:
         cell.fault(f"{week} is more than {weeks - 1}: weeks are counted from 0, so write {weeks - 1} for the last one")

@@ -90,6 +90,8 @@ class SheetCell(NamedTuple):
             return f"write {thousands[1]} or {thousands[1]}000"
         if re.fullmatch("[oO0-9]+", self.text):
             return "write the digit 0"
+        if self.text.endswith("%"):
+            return "write the number itself, not a part of another one"
         if self.text.endswith(KEPT):
             return f"the sign {KEPT} is for shifts max, work max and weekends"
         if not pair and re.fullmatch(r"[0-9]+[.,][0-9]+", self.text):
@@ -108,12 +110,13 @@ class SheetCell(NamedTuple):
             self.fault(f"the {kind} '{self.text}' is there already: use another name")
         return name
 
-    def known(self, kind: str, names: Collection[str], others: Sequence[str] = ()) -> str:
-        """The name that the cell has, in whatever letters. A fault names the other words that may be in its place too."""
+    def known(self, kind: str, names: Collection[str], others: Sequence[str] = (), end: str = "") -> str:
+        """The name that the cell has, in whatever letters. A fault names the other words that may be in its place too, and what else may
+        help."""
         wanted = self.text.replace(" ", "_").casefold()
         found = next((name for name in names if name.casefold() == wanted), None)
         if found is None:
-            otherwise = f"write one of {quoted([*map(readable, names), *others])}"
+            otherwise = f"write one of {quoted([*map(readable, names), *others])}{end}"
             advice = did_you_mean(self.text.replace(" ", "_"), [*names, *others], otherwise, readable)
             self.fault(f"'{self.text}' is no {kind}: {advice}" if self.text else f"the cell is empty: write a {kind}, or delete the row")
         return found

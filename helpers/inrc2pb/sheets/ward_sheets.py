@@ -28,6 +28,8 @@ _HEADS = {
 }  # fmt: skip
 
 
+# Words with a meaning of their own in cells and files, so no shift type has such a name.
+OWN_WORDS = ("none", "any", "off", "wish", "away", "ill", "leave", "unpaid", "training")
 # The maxima of a contract that may be never exceeded, by their columns.
 _KEPT = {"shifts max": SHIFTS, "work max": WORK_DAYS, "weekends": WEEKENDS}
 
@@ -99,7 +101,7 @@ def _shift_types(table: Table) -> Dict[str, ShiftType]:
             with faults.step():
                 cell = row.of("shift")
                 name = cell.new_name("shift type", names)
-                if name.casefold() in ("none", "any"):
+                if name.casefold() in OWN_WORDS:
                     cell.fault(f"'{cell.text}' has a meaning of its own in the ward's files: use another name")
                 names[name] = row
     with Gathering() as faults:
@@ -237,7 +239,7 @@ def ward_warnings(ward: Ward) -> Iterator[str]:
     types = ward.scenario.shift_types
     for nurse, (shifts, weekdays) in ward.never.items():
         if set(shifts) == set(types) or set(weekdays) == set(range(len(DAYS))):
-            yield f"sheet nurses: {nurse} never works: nobody can plan her"
+            yield f"sheet nurses: {nurse} never works: correct what she never works, or when she is always off"
     for name, shift in types.items():
         later = [other for other in types if name in types[other].forbidden_next]
         if NIGHT.search(name) and later and not shift.forbidden_next:

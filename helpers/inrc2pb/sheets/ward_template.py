@@ -18,16 +18,19 @@ def _days(*weeks: str) -> List[str]:
     return [cells.get(day, "") for cells in given for day in DAYS]
 
 
+# Columns with the head `note` are not read.
+KEPT_NOTE = "22! in place of 22: she never has more; so may work max and weekends"
+HOLIDAY_NOTE = "if Fri of week 3 is a bank holiday: one more row, with 3 for week, Day for shift, Nurse for skill, and 0+1 for Fri only"
 EXAMPLE: Dict[str, Rows] = {
     "shifts": [
-        ("shift", "min in a row", "max in a row", "not followed by"),
-        ("Day", 2, 5, ""),
-        ("Late", 2, 4, "Day"),
-        ("Night", 2, 4, "Day, Late"),
+        ("shift", "min in a row", "max in a row", "not followed by", "times"),
+        ("Day", 2, 5, "", "07:00-15:30"),
+        ("Late", 2, 4, "Day", "14:30-23:00"),
+        ("Night", 2, 4, "Day, Late", "22:30-07:15"),
     ],
     "contracts": [
-        ("contract", "shifts min", "shifts max", "work min", "work max", "off min", "off max", "weekends", "complete weekends"),
-        ("Full", 17, 22, 3, 5, 2, 3, 2, "yes"),
+        ("contract", "shifts min", "shifts max", "work min", "work max", "off min", "off max", "weekends", "complete weekends", "note"),
+        ("Full", 17, 22, 3, 5, 2, 3, 2, "yes", KEPT_NOTE),
         ("Half", 8, 12, 2, 3, 2, 5, 2, "no"),
     ],
     "nurses": [
@@ -44,9 +47,9 @@ EXAMPLE: Dict[str, Rows] = {
         ("Grace", "Full", "Nurse", "", "", 0, 0, "", 0, 0, 2),
     ],
     "needs": [
-        ("week", "shift", "skill", *DAYS),
+        ("week", "shift", "skill", *DAYS, "note"),
         ("", "Day", "Charge", *[1] * 7),
-        ("", "Day", "Nurse", *["1+1"] * 5, "0+1", "0+1"),
+        ("", "Day", "Nurse", *["1+1"] * 5, "0+1", "0+1", HOLIDAY_NOTE),
         ("", "Late", "Nurse", *[1] * 7),
         ("", "Night", "Nurse", *[1] * 7),
     ],

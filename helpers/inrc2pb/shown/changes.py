@@ -41,7 +41,7 @@ def changed_lines(old: RosterView, new: RosterView) -> Iterator[str]:
     """A line for each change."""
     for change in changes(old, new):
         week = new.prefix(new.weeks[change.week])
-        yield f"{week}{change.nurse} {DAYS[change.day]}: {cells_text(change.now)}, before {cells_text(change.before)}"
+        yield f"{week}{change.nurse} {DAYS[change.day]}: {cells_text(change.now)} instead of {cells_text(change.before)}"
 
 
 # ---- swaps

@@ -102,7 +102,7 @@ def _summary(page: Content) -> Iterator[str]:
     count = sum(len(week.cells) for week in view.weeks)
     cost = f", penalty {view.penalty}" if view.penalty is not None and not page.only_table else ""
     old = page.old.penalty if page.old and not page.old.breaks_absences else None
-    before = f", before {old}" if cost and old is not None else ""
+    before = f" instead of {old}" if cost and old is not None else ""
     named = f"{view.weeks_text}: " if page.monday else ""
     made = f"; as of {page.as_of:%A}, {date_text(page.as_of)} {page.as_of:%Y, %H:%M}" if page.as_of else ""
     yield f"{named}{plural(len(view.nurses), 'nurse')}, {plural(count, 'shift')}{cost}{before}{made}"

@@ -173,7 +173,8 @@ class RosterTable:
         elif not cells and change:
             parts.append(element("span", "off", class_="away"))
         if change:
-            parts.append(joined(shown(CHANGED, class_="mark"), hidden(f" {CHANGED_MEANING}, before: {plain(cells_text(change.before))}")))
+            older = f" {CHANGED_MEANING}, instead of {plain(cells_text(change.before))}"
+            parts.append(joined(shown(CHANGED, class_="mark"), hidden(older)))
         if self.page.is_swapped(week, nurse, day):
             parts.append(joined(shown(SWAPPED, class_="mark"), hidden(f", {SWAPPED_MEANING}")))
         number = self.view.shifts.index(cells[0].shift) % len(COLORS) if cells else None

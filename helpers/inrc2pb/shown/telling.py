@@ -3,7 +3,7 @@
 from typing import Collection, Dict, Iterable, Iterator, List, Mapping, Optional, Tuple
 
 from ..judging.absences import absences_of, joined, wishes_of
-from ..judging.demand import asked_shifts, supplied_shifts
+from ..judging.demand import Paid, asked_shifts, supplied_shifts
 from ..week.facts import SHIFTS, WEEKENDS, WORK_DAYS
 from ..week.hints import plural
 from ..week.records import DAYS, Cell, Contract, History, Limits, Place, Request, Requirement, Scenario, WeekData
@@ -81,9 +81,10 @@ def history_sentences(history: History, credit: Mapping[str, int] = {}) -> Itera
 
 
 def week_sentences(
-    scenario: Scenario, history: Optional[History], data: WeekData, reasons: Mapping[Tuple[str, int], str] = {}
+    scenario: Scenario, history: Optional[History], data: WeekData, reasons: Mapping[Tuple[str, int], str] = {}, paid: Paid = ()
 ) -> Iterator[str]:
-    """A week in sentences: its numbers, absences with their reasons, as far as they are known, and wishes."""
+    """A week in sentences: its numbers, absences with their reasons, as far as they are known, and wishes. `paid` has days away that count
+    as work."""
     rows: Dict[Tuple[str, str], List[Requirement]] = {}
     for place in data.requirements:
         rows[place.shift, place.skill] = [
@@ -91,7 +92,7 @@ def week_sentences(
         ]
     for (shift, skill), numbers in rows.items():
         yield f"{shift} {skill}: {_numbers_by_day(numbers)}."
-    (minimum, best), (low, high) = asked_shifts(data), supplied_shifts(scenario, history)
+    (minimum, best), (low, high) = asked_shifts(data), supplied_shifts(scenario, history, paid)
     yield f"The week asks for {_numbers(minimum, best)} shifts; the contracts supply {_numbers(low, high)} a week."
     away = absences_of(data)
     for nurse in scenario.nurses:

@@ -49,4 +49,4 @@ def change_lines(old: RosterView, new: RosterView) -> Iterator[str]:
     before, now = (cost_by_rule(charge for _, charge in _charges(view)) for view in (old, new))
     by_rule = [f"{rule} {now[rule] - before[rule]:+}" for rule in SOFT_RULES if now[rule] != before[rule]]
     rules = f": {' '.join(by_rule)}" if by_rule else ""
-    yield f"{new.penalty - old.penalty:+5}  in all{rules}; penalty {new.penalty}, before {old.penalty}"
+    yield f"{new.penalty - old.penalty:+5}  in all{rules}; penalty {new.penalty} instead of {old.penalty}"

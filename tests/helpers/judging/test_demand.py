@@ -59,6 +59,18 @@ class Demand(unittest.TestCase):
     def test_shifts_that_are_asked_for_and_supplied(self):
         # Day Charge 7, Day Nurse 5 and 10+2, Late 7, Night 7; five Full (17,21) and two Half (8,11) in four weeks.
         self.assertEqual((asked_shifts(DATA), supplied_shifts(WARD, PAST)), ((26, 33), (25, 32)))
+
+    def test_days_away_that_count_as_work_are_missing_in_their_week(self):
+        # The contracts have 101 to 127 shifts. Amara has leave on five days of the second week, 5 * 17 / 28 shifts, four in her history.
+        paid = [{}, {"Amara": 5}, {}, {}]
+        past = replace(PAST, nurses={**PAST.nurses, "Amara": replace(PAST.nurses["Amara"], assignments=4)})
+        # 101 / 4 and 127 / 4 in the first week, 3.04 less in the second one.
+        self.assertEqual((supplied_shifts(WARD, past, paid), supplied_shifts(WARD, None, paid[1:])), ((25, 32), (22, 29)))
+        # All nurses have leave in the whole second week.
+        paid[1] = dict.fromkeys(WARD.nurses, 7)
+        self.assertEqual(supplied_shifts(WARD, None, paid[1:]), (0, 7))
+
+    def test_a_week_that_asks_for_too_many_shifts(self):
         many = replace(DATA, requirements={place: Requirement(1, 1) for place in (Place(d, s, k) for d in range(7) for s in WARD.shift_types for k in WARD.skills)})
         self.assertIn("it asks for at least 42 shifts, and the contracts supply at most 32 a week: if all weeks ask for so many, each shift above costs points", list(demand_warnings(WARD, PAST, many)))
 

@@ -8,15 +8,15 @@ EXAMPLES = ROOT / "examples"
 # A file of the ward, a change, the file's option, and the only warning, if there is one.
 WARNINGS = [
     (SCENARIO, "Day (2,5)", "Day (5,2)", "--sce", "shift type Day: the minimum of (5,2) is above its maximum"),
-    (SCENARIO, "(17,21)", "(29,30)", "--sce", "contract Full: at least 29 assignments are asked for, and the period has 28 days"),
+    (SCENARIO, "(17,21)", "(29,30)", "--sce", "contract Full: at least 29 assignments are asked for, and the period has 28 days: count shifts, not hours"),
     (SCENARIO, "(17,21)", "(21,21)", "--sce", "contract Full: at least 21 assignments are asked for, "
      "and 28 days have 20 with at most 5 working days and at least 2 off in a row"),
-    (SCENARIO, "WEEKS = 4", "WEEKS = 2", "--sce", "contract Full: at least 17 assignments are asked for, and the period has 14 days"),
+    (SCENARIO, "WEEKS = 4", "WEEKS = 2", "--sce", "contract Full: at least 17 assignments are asked for, and the period has 14 days: count shifts, not hours"),
     (SCENARIO, "(17,21)", "(20,21)", "--sce", None),
-    (HISTORY, "Bruno 0 0 None 0 0 2", "Bruno 0 0 None 0 1 2", "--his", "Bruno was off on Sunday (None), but has consecutive shifts or working days"),
-    (HISTORY, "Amara 0 0 Day 2 2 0", "Amara 0 0 Day 2 2 1", "--his", "Amara worked on Sunday (Day), but has 1 day off in a row"),
-    (HISTORY, "Amara 0 0 Day 2 2 0", "Amara 0 0 Day 0 2 0", "--his", "Amara worked on Sunday (Day), but has 0 days in a row on this shift type"),
-    (HISTORY, "Amara 0 0 Day 2 2 0", "Amara 0 0 Day 3 2 0", "--his", "Amara has 3 days in a row on Day, and only 2 with work"),
+    (HISTORY, "Bruno 0 0 None 0 0 2", "Bruno 0 0 None 0 1 2", "--his", "Bruno was off on Sunday (None), but has consecutive shifts or working days: correct one of the two"),
+    (HISTORY, "Amara 0 0 Day 2 2 0", "Amara 0 0 Day 2 2 1", "--his", "Amara worked on Sunday (Day), but has 1 day off in a row: correct one of the two"),
+    (HISTORY, "Amara 0 0 Day 2 2 0", "Amara 0 0 Day 0 2 0", "--his", "Amara worked on Sunday (Day), but has 0 days in a row on this shift type: correct one of the two"),
+    (HISTORY, "Amara 0 0 Day 2 2 0", "Amara 0 0 Day 3 2 0", "--his", "Amara has 3 days in a row on Day, and only 2 with work: correct one of the two"),
     (HISTORY, "Bruno 0 0", "Bruno 18 0", "--his", "Bruno has 18 assignments, and 0 weeks of the period are over (leave with credit?)"),
     (HISTORY, "Bruno 0 0", "Bruno 0 1", "--his", "Bruno has 1 weekend, and 0 weeks of the period are over"),
     (HISTORY, "Bruno 0 0 None 0 0 2", "Bruno 0 0 None 0 0 0", "--his", None),
@@ -29,7 +29,8 @@ WARNINGS = [
      "it asks for at least 34 shifts, and the contracts supply at most 32 a week: if all weeks ask for so many, each shift above costs points"),
     (WEEK, "Day Charge (1,1) (1,1)", "Day Charge (1,1) (1,4)", "--week", "Day Charge on Tue: 4 are best, and 3 nurses have the skill"),
     (WEEK, "Day Charge (1,1)", "Day Charge (2,1)", "--week", "Day Charge on Mon: (2,1) has a minimum above the optimal number"),
-    (WEEK, "Late Nurse", "Night Charge", "--week", "nobody is asked for Late on any day"),
+    (WEEK, "Late Nurse", "Night Charge", "--week",
+     "nobody is asked for Late on any day: write a row for each skill, with 0 if nobody is needed"),
 ]  # fmt: skip
 
 

@@ -97,6 +97,17 @@ class Words(KeptTest):
         found = without_needless_changes(old, needless)
         self.assertEqual([one[:2] for one in shift_changes(old.cells(), found.cells())], [("Grace", 4)])
 
+    def test_changes_cost_as_much_as_in_a_search(self):
+        # Finn works late on Saturday, and Grace is off: her new shift costs 20 points, and 40 to call both, but his day off costs nothing.
+        cells = [cell for cell in self.plan.cells() if (cell.nurse, cell.day) != ("Finn", 5)]
+        data = self.plan.data[0] = replace(self.plan.data[0], requests=())
+        new = self.plan.with_cells([*cells, Cell("Grace", 5, "Late", "Nurse")])
+        more = new.view().penalty - self.plan.view().penalty
+        for saved, is_taken_back in ((55, True), (65, False)):
+            self.plan.data[0] = replace(data, requests=(Request("Finn", None, 5),) * ((more + saved) // 10))
+            self.assertEqual(self.plan.view().penalty - new.view().penalty, saved)
+            self.assertEqual(("Finn", 5) in without_needless_changes(self.plan, new).works, is_taken_back, saved)
+
     def test_one_nurse_is_called_in_place_of_two(self):
         # Finn works late on the weekend, Ewa and Grace are off, and Ewa is off on Monday, too.
         self.rows["plan"][6][6:8] = ["ill", "ill"]
@@ -157,6 +168,20 @@ class Words(KeptTest):
             self.assertEqual(limit, most, first)
             gone = plan.with_cells(cell for cell in plan.cells() if cell.nurse != "Grace" or cell.day < first - 1)
             self.assertFalse([line for line in not_kept_lines(gone) if "Grace" in line])
+
+    def test_an_illness_takes_no_shifts_of_other_days(self):
+        # Grace has five shifts in both weeks, and her limit is ten. Two days of 14 count as 8 * 2 / 14 shifts, rounded up.
+        self.rows["contracts"][1][1:3] = ["8", "10!"]
+        self.rows["plan"][7][6:8] = ["ill", "ill"]
+        self.write()
+        cells, more = self.plan.cells(), Cell("Grace", 12, "Day", "Nurse")
+        fewer = [one for one in cells if (one.nurse, one.day) != ("Grace", 0)]
+        for rosters, most in ((cells, 2), (fewer, 1), ([*cells, more], 2), ([], 0)):
+            plan = replace(self.plan.with_cells(rosters), sheet=read_sheet(self.ward, None, ()))
+            limit = next(fact.most for fact, _ in plan.claims if isinstance(fact, Charged) and fact.nurse == "Grace")
+            self.assertEqual(limit, most)
+            # Only an eleventh shift is above the limit.
+            self.assertEqual(bool([line for line in not_kept_lines(plan) if "Grace has" in line]), more in rosters)
 
     def test_days_off_beside_days_away_cost_more(self):
         # Grace is off on both weekends, and ill on Friday: her weekend costs more, and days on which she is always off do not count.

@@ -7,12 +7,14 @@ import re
 import threading
 import time
 import unittest
+from unittest import mock
 from urllib.parse import urlencode, urlsplit
 
 from test_plans import DATES, FolderTest
 from ward import HAS_CBC
 
 from inrc2pb.commands.plan import read_sheet
+from inrc2pb.plans.local_forms import verb_of
 from inrc2pb.plans.local_jobs import Jobs
 from inrc2pb.plans.local_server import LocalServer
 from inrc2pb.plans.ward_folder import WardFolder
@@ -25,7 +27,7 @@ class Page(FolderTest):
         stack = contextlib.ExitStack()
         self.addCleanup(stack.close)
         signals = stack.enter_context(interrupts())
-        self.jobs = Jobs(WardFolder(self.ward), read_sheet, signals)
+        self.jobs = Jobs(WardFolder(self.ward), read_sheet, signals, 7.0)
         server = LocalServer(self.jobs, "127.0.0.1", 0)
         self.site = urlsplit(server.address)
         thread = threading.Thread(target=server.run, args=(signals,))
@@ -100,10 +102,54 @@ class Page(FolderTest):
         self.assertRegex(self.sends(**fields), '<pre role="alert" class="fault">[^<]*' + re.escape(says))
 
     def test_a_fault_of_the_spreadsheet(self):
-        (self.ward / "needs.csv").write_text("nothing\n")
+        self.write_plan()
+        self.sends(verb="page")
+        self.rows["plan"][1][1] = "wihs"
+        self.write()
+        says = "sheet plan, row 2, column B: &#x27;wihs&#x27; is no shift type: did you mean wish?"
         status, page = self.asks()
         self.assertEqual(status, 200)
-        self.assertIn("sheet needs: no row has the head", page)
+        # The forms that need no plan stay: the spreadsheet is read again, and the last verb undone.
+        self.assertRegex(page, '<pre role="alert" class="fault">[^<]*' + re.escape(says))
+        self.assertEqual(re.findall('name="verb" value="([a-z]+)"', page), ["check", "undo"])
+        self.assertIn(f'href="{self.site.path}roster.html">The roster as it was last written</a>', page)
+        self.assertIn("<table", self.asks(path=f"{self.site.path}roster.html")[1])
+        self.assertIn(says, self.sends(verb="check"))
+        self.sends(verb="undo")
+        page = self.sends(verb="undo")
+        self.assertTrue(says in page and "there is no plan any more" in page)
+        self.rows["plan"][1][1] = "wish"
+        self.write()
+        page = self.sends(verb="check")
+        self.assertTrue("Amara would rather be off on Mon." in page and 'class="fault"' not in page)
+
+    def test_what_is_wrong_is_said_before_the_question(self):
+        self.write_plan()
+        for fields, says in (
+            ("verb=away&nurse=Chen&first=2026-12-04&last=2026-12-02&reason=ill", "Wed 2 Dec is before Fri 4 Dec"),
+            ("verb=back&nurse=Chen&first=2026-12-04", "Chen is not away on Fri 4 Dec"),
+            ("verb=over&corrections=Chen+Fri", "a shift type is missing"),
+            ("verb=plan&seconds=0", "&#x27;0&#x27; is no number of seconds from 1 to 3600"),
+            ("verb=swap&nurse=Finn&first=2026-11-30&other=Finn&write+it=yes", "Finn cannot swap with herself"),
+            # Dilek works Night on Monday, which Finn never does.
+            ("verb=swap&nurse=Dilek&first=2026-11-30&other=Finn&write+it=yes", "not possible: Finn never works Night"),
+        ):
+            with self.subTest(fields):
+                self.assertEqual(self.asks("POST", form=fields)[0], 303)
+                self.assertRegex(self.asks()[1], '<pre role="alert" class="fault">[^<]*' + re.escape(says))
+        self.assertEqual(self.asks("POST", form="verb=undo")[0], 200)
+        self.sends(verb="undo")
+        self.assertEqual(self.asks("POST", form="verb=undo")[0], 303)
+        self.assertIn("there is nothing to undo", self.asks()[1])
+
+    def test_the_seconds_of_a_search(self):
+        self.assertIn('name="seconds" type="number" min="1" max="3600" placeholder="7"', self.asks()[1])
+        verbs = mock.Mock()
+        for seconds, fields in ((7.0, {"verb": "plan"}), (3.0, {"verb": "plan", "seconds": "3"})):
+            verb_of(fields, self.jobs.seconds)(verbs)
+            verbs.plan.assert_called_with([], seconds, False)
+        verb_of({"verb": "back", "nurse": "Chen"}, self.jobs.seconds)(verbs)
+        verbs.back.assert_called_with(["Chen"], 7.0)
 
     def test_a_verb_that_writes_asks_first(self):
         self.write_plan()

@@ -107,11 +107,11 @@ class Values(HelperTest):
     def test_few_changes_are_requests_against_all_other_shifts(self):
         scenario = files.read_scenario(HELPERS.parent / "examples" / "ward" / "ward.txt")
         data, old = WeekData("ward", {}, ()), [Cell("Chen", 4, "Late", "Nurse")]
-        asked = [one for one in with_few_changes(scenario, data, old, [4], points=20).requests if one.nurse in ("Chen", "Grace")]
+        asked = [one for one in with_few_changes(scenario, data, old, [4]).requests if one.nurse in ("Chen", "Grace")]
         chen = [Request("Chen", shift, 4) for shift in ("Day", "Night") for _ in range(2)]
         self.assertEqual(asked, [*chen, *[Request("Grace", None, 4)] * 2])
         # A nurse who has just come may have any shift.
-        asked = with_few_changes(scenario, data, old, [4], points=20, new=["Grace"]).requests
+        asked = with_few_changes(scenario, data, old, [4], new=["Grace"]).requests
         self.assertEqual({one.nurse for one in asked}, set(scenario.nurses) - {"Grace"})
 
     def test_a_nurse_who_keeps_her_shift_keeps_her_skill(self):
@@ -199,13 +199,20 @@ class Verbs(FolderTest):
         before, old = self.cells(), self.texts()
         status, printed, said = run("plan", self.ward, "ill", "Gra", "Wed", "Fri", "--time", "10")
         self.assertEqual(status, 0, said)
-        counted = "also 20 points for a changed shift, 60 more if it is on a day off beside days away, and "
-        self.assertIn(f"penalties of the search have {counted}the bound has also 20 for a nurse to call; ", said)
-        self.assertIn(f"the search counted {counted}20 for a nurse to call; they are not in this sum\n", printed)
+        counted = "also 20 points for a new shift of a nurse (60 more on a day off beside days away), 20 for a nurse to call; "
+        self.assertIn(f"penalties and the bound of the search have {counted}", said)
+        self.assertIn(f"the search counted {counted}they are not in this sum\n", printed)
         now = self.cells()
         self.assertFalse({("Grace", day) for day in (2, 3, 4)} & set(now))
         self.assertEqual([item for item in before.items() if item[0][1] < 2], [item for item in now.items() if item[0][1] < 2])
         self.assertIn(f"2 weeks: {sum(self.points())} points\n", printed)
+        # The last penalty of the search has also the new shifts, those on days off beside the illness, and the calls, as the bound has.
+        other = {key for key in {*before, *now} if before.get(key, "-")[0] != now.get(key, "-")[0]}
+        beside = {("Grace", day) for day in (0, 1, 5, 6)} - set(before)
+        called = {nurse for nurse, day in other if (nurse, day) not in {("Grace", 2), ("Grace", 3), ("Grace", 4)}}
+        counted = sum(self.points()) + sum(80 if key in beside else 20 for key in other if key in now) + 20 * len(called)
+        self.assertLessEqual(counted, int(re.findall("penalty ([0-9]+)", said)[-1]), said)
+        self.assertFalse([said for penalty, bound in re.findall("penalty ([0-9]+)  bound ([0-9]+)", said) if int(bound) > int(penalty)])
         self.assertEqual({path: text for path, text in self.texts().items() if path in old}, old)
         self.assertIn("the plan of plan, ", self.does("undo"))
         self.assertEqual((self.cells(), self.texts()), (before, old))
@@ -220,9 +227,6 @@ class Verbs(FolderTest):
 
     def test_a_plan_that_hangs_on_the_wall_changes_little(self):
         self.begin()
-        for row, times in zip(self.rows["shifts"], ("times", "7:00-15:30", "14:30-23:00", "22:30-7:15")):
-            row.append(times)
-        self.write()
         self.does("page")
         calendars = [path.read_text() for path in (self.ward / "calendars").glob("*.ics")]
         self.assertEqual(len(calendars), 7)
@@ -448,7 +452,7 @@ class Refused(FolderTest):
 
     def test_times_of_some_shifts_only(self):
         for row, times in zip(self.rows["shifts"], ("times", "7:00-15:30", "", "22:30-25:00")):
-            row.append(times)
+            row[4] = times
         self.write()
         status, _, said = run("plan", self.ward, "check")
         self.assertEqual(status, 1)

@@ -4,6 +4,7 @@ import copy
 import csv
 import io
 import os
+import re
 import unittest
 from pathlib import Path
 
@@ -16,9 +17,9 @@ from inrc2pb.judging.given import with_given
 from inrc2pb.judging.rules import charges
 from inrc2pb.week.facts import Charged, Claim, read_facts
 from inrc2pb.week.faults import FileFault, FileFaults
-from inrc2pb.sheets.plan_sheets import read_days
+from inrc2pb.sheets.plan_sheets import AWAY, read_days
 from inrc2pb.week.records import Absence, Place, Requirement, Week
-from inrc2pb.sheets.sheet_files import Book
+from inrc2pb.sheets.sheet_files import Book, read_book
 
 NAMES = ["ward.txt", "history-0.txt", "facts.txt", "reasons.txt", "week-0.txt", "fix-0.txt", "week-1.txt", "fix-1.txt"]
 
@@ -101,13 +102,15 @@ class Contents(unittest.TestCase):
         for sheet, row, column, text, said in (
             ("shifts", 1, 1, "min in row", "row 1, column B: 'min in row' is no column of this sheet: did you mean 'min in a row'?"),
             ("shifts", 1, 0, "type", "no row has the head 'shift': write shift into the first row"),
-            ("shifts", 2, 0, "Any", "row 2, column A: 'Any' has a meaning of its own in the ward's files: use another name"),
+            *(("shifts", 2, 0, text, f"row 2, column A: '{text}' has a meaning of its own in the ward's files: use another name")
+              for text in ("Any", "Off", "wish", *AWAY)),
             ("shifts", 3, 0, "day", "row 3, column A: the shift type 'day' is there already: use another name"),
             ("shifts", 2, 0, "", "row 2, column A: the cell is empty: write the name of the shift type, or delete the row"),
             ("shifts", 2, 0, "D (long)", "row 2, column A: 'D (long)' has one of the signs ( ) , =: write the name without it"),
             ("shifts", 3, 3, "Dya", "row 3, column D: 'Dya' is no shift type: did you mean Day?"),
             ("shifts", 2, 1, "7", "row 2, column B: the minimum 7 is above the maximum 5: correct one of the two"),
             ("contracts", 2, 1, "9.5", "row 2, column B: '9.5' is no whole number: shifts are counted, not hours"),
+            ("contracts", 2, 1, "50.00%", "row 2, column B: '50.00%' is no whole number: write the number itself, not a part of another one"),
             ("contracts", 2, 1, "O", "row 2, column B: 'O' is no whole number: write the digit 0"),
             ("contracts", 2, 8, "maybe", "row 2, column I: 'maybe' is neither yes nor no: write yes or no"),
             ("nurses", 2, 1, "Ful", "row 2, column B: 'Ful' is no contract: did you mean Full?"),
@@ -138,6 +141,9 @@ class Contents(unittest.TestCase):
             ("needs", 4, 1, "Day", "row 4, column B: Day Nurse has a row already: delete one, or write its week"),
             ("needs", 2, 0, "2", "row 2, column A: 2 is more than 1: weeks are counted from 0, so write 1 for the last one"),
             ("plan", 2, 0, "Amara", "row 2, column A: 'Amara' is no nurse of the sheet nurses: did you mean Amara Koch?"),
+            ("plan", 3, 0, "Legend: x", "row 3, column A: 'Legend: x' is no nurse of the sheet nurses: "
+             "write one of Amara Koch, Bruno, Chen, Dilek, Ewa, Finn, Grace, Hana, or delete the row"),
+            ("needs", 3, 1, "Total", "row 3, column B: 'Total' is no shift type: write one of Day, Late, Night, or delete the row"),
             ("plan", 3, 0, "Amara Koch", "row 3, column A: Amara Koch has a row already: put everything into one row"),
             ("plan", 2, 1, "Dya", "row 2, column B: 'Dya' is no shift type: did you mean Day?"),
             ("plan", 2, 1, "trainin", "row 2, column B: 'trainin' is no shift type: did you mean training?"),
@@ -151,6 +157,7 @@ class Contents(unittest.TestCase):
             ("plan", 1, 13, "# Sat", "row 1, column O: the column before this one is no day: delete it, or move it after the last day"),
             ("plan", 1, 1, "Sun 0", "row 1, column B: 'Sun 0' should be a Mon: the plan begins on a Monday, and has each day once"),
             ("plan", 1, 1, "2026-12-01", "row 1, column B: '2026-12-01' should be a Mon: the plan begins on a Monday, and has each day once"),
+            ("plan", 1, 1, "46357", "row 1, column B: '2026-12-01' should be a Mon: the plan begins on a Monday, and has each day once"),
             ("plan", 1, 1, "2026-02-30", "row 1, column B: there is no day 2026-02-30: write a date such as 2026-11-30"),
             ("plan", 1, 1, "30.11.", "row 1, column B: '30.11.' is no day of the week: write one of Mon,Tue,Wed,Thu,Fri,Sat,Sun, or whole dates such as 2026-11-30, or begin the head with #"),
             *(("plan", 1, 1, text, f"row 1, column B: '{text}' may have the day or the month first: write {dates}")
@@ -158,6 +165,7 @@ class Contents(unittest.TestCase):
             ("plan", 1, 1, "1900-01-29",
              "row 1, column B: a spreadsheet makes 1900-01-29 of the number of a day: write whole dates, such as 2026-11-30"),
             ("contracts", 2, 2, "1,000", "row 2, column C: '1,000' is no whole number: write 1 or 1000"),
+            ("needs", 2, 0, "46381", "row 2, column A: '2026-12-25' is a date: write the number, its week from 0"),
             ("needs", 2, 0, "25.12.2026", "row 2, column A: '25.12.2026' is a date: write the number, its week from 0"),
             *(("contracts", 2, 2, text, f"row 2, column C: '{text}' is no whole number: write a number such as 2, or leave the cell empty") for text in ("-", "n/a")),
             ("contracts", 2, 2, "0",
@@ -319,9 +327,9 @@ class Contents(unittest.TestCase):
         missing = copy.deepcopy(SHEETS)
         del missing["plan"][3]
         for sheets, line in (
-            (changed("nurses", 7, 3, "Day, Late, Night"), "sheet nurses: Finn never works: nobody can plan her"),
+            (changed("nurses", 7, 3, "Day, Late, Night"), "sheet nurses: Finn never works: correct what she never works, or when she is always off"),
             (night, "sheet shifts: Night may not follow Day, and each shift type may follow Night: is 'not followed by' the other way round?"),
-            (missing, "sheet plan: Chen has no row: she has no wishes and no absences"),
+            (missing, "sheet plan: Chen has no row: she has no wishes and no absences; if she has some, add a row"),
         ):
             self.assertIn(line, made(sheets).warnings)
             self.assertNotIn(line, made(SHEETS).warnings)
@@ -353,6 +361,17 @@ class Command(HelperTest):
         words = ("--sce", out / "ward.txt", "--his", out / "history-0.txt", "--week", out / "week-0.txt", "--fix", out / "fix-0.txt")
         status, printed, _ = run("check", *words)
         self.assertEqual((status, printed.splitlines()[-1]), (0, "No mistake found."))
+        # Its notes are not read. A maximum with the sign, and the row of a bank holiday, are as they say.
+        sheets = read_book(book).sheets
+        self.assertEqual([row[4] for row in sheets["shifts"]], ["times", "07:00-15:30", "14:30-23:00", "22:30-07:15"])
+        contracts, needs = sheets["contracts"], sheets["needs"]
+        self.assertEqual((contracts[0][9], needs[0][10]), ("note", "note"))
+        example, words = texts(sheets, weeks=4), re.search("with (.+) for week, (.+) for shift, (.+) for skill, and (.+) for Fri", needs[2][10])
+        contracts[1][2] = contracts[1][9].split(" ")[0]
+        needs.append([*words.groups()[:3], "", "", "", "", words[4]])
+        found = texts(sheets, weeks=4)
+        self.assertEqual([name for name in found if found[name] != example[name]], ["facts.txt", "week-3.txt"])
+        self.assertIn("Day Nurse (1,2) (1,2) (1,2) (1,2) (0,1) (0,1) (0,1)\n", found["week-3.txt"])
         again = f"inrc2pb-ward: --template {book}: there is such a file, perhaps with your ward: give another name"
         self.assert_fault(run("ward", "--template", book), again)
 

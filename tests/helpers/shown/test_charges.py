@@ -132,18 +132,18 @@ class Swaps(HelperTest):
     def test_a_swap_and_the_same_change_by_hand(self):
         status, printed, said = run("table", *WEEK_OPTIONS, "--swap", "Chen Mon", "Grace Mon", ROSTER)
         self.assertEqual((status, said), (0, ""))
-        self.assertEqual(printed.splitlines()[:2], ["Chen Mon: Day Nurse, before off", "Grace Mon: off, before Day Nurse"])
+        self.assertEqual(printed.splitlines()[:2], ["Chen Mon: Day Nurse instead of off", "Grace Mon: off instead of Day Nurse"])
         self.assertIn("  +60  S2  Chen, Mon: only 1 day with work, at least 3\n", printed)
         other = self.changed(ROSTER, "Grace Mon Day Nurse", "Chen Mon Day Nurse")
         self.assertEqual(run("table", *WEEK_OPTIONS, "--why", "--old", ROSTER, other)[1], printed)
         before, now = (program.penalty_of(WEEK_FILES, roster) for roster in (ROSTER, other))
-        self.assertTrue(printed.splitlines()[-1].endswith(f"; penalty {now}, before {before}"), printed)
+        self.assertTrue(printed.splitlines()[-1].endswith(f"; penalty {now} instead of {before}"), printed)
         changed = sum(int(line.split()[0]) for line in printed.splitlines()[2:-1])
         self.assertEqual(changed, now - before)
 
     def test_a_swap_back_changes_nothing(self):
         words = ("--swap", "Chen Mon", "Grace Tue")
-        self.assertEqual(run("table", *WEEK_OPTIONS, *words, *words, ROSTER), (0, "   +0  in all; penalty 20, before 20\n", ""))
+        self.assertEqual(run("table", *WEEK_OPTIONS, *words, *words, ROSTER), (0, "   +0  in all; penalty 20 instead of 20\n", ""))
 
     def test_a_swap_that_breaks_a_hard_rule(self):
         for pair, rule in (
@@ -188,7 +188,7 @@ class Older(HelperTest):
     def test_the_changes_below_a_table(self):
         other = self.changed(ROSTER, "Grace Mon Day Nurse", "Chen Mon Late Nurse")
         lines = run("table", "--old", ROSTER, other)[1].splitlines()
-        self.assertEqual(lines[-2:], ["changed: Chen Mon: Late Nurse, before off", "changed: Grace Mon: off, before Day Nurse"])
+        self.assertEqual(lines[-2:], ["changed: Chen Mon: Late Nurse instead of off", "changed: Grace Mon: off instead of Day Nurse"])
         self.assertEqual(Counter(line.startswith("changed") for line in run("table", "--old", ROSTER, ROSTER)[1].splitlines())[True], 0)
 
     def test_two_weeks(self):
@@ -197,7 +197,7 @@ class Older(HelperTest):
         other = self.changed(ROSTER, "Grace Mon Day Nurse", "Chen Mon Day Nurse", "other.txt")
         status, printed, said = run("table", *two, "--why", other, later, "--old", ROSTER, "--old", later)
         self.assertEqual((status, said), (0, ""))
-        self.assertIn("week 0: Chen Mon: Day Nurse, before off\n", printed)
+        self.assertIn("week 0: Chen Mon: Day Nurse instead of off\n", printed)
         self.assertIn("  +60  S2  week 0: Chen, Mon: only 1 day with work, at least 3\n", printed)
         printed = run("table", *two, "--why", ROSTER, later)[1]
         self.assertIn("   10  S4  week 0: Chen, Sat: on Night, and asked to be off\n", printed)

@@ -110,7 +110,7 @@ class Page(PageTest):
         page = self.page(*MONDAY, "--old", ROSTER, other)
         self.assertEqual(self.caption(page, "2 changes")[1:], [["Chen", "Mon 30 Nov", "off", "Late Nurse"], ["Grace", "Mon 30 Nov", "Day Nurse", "off"]])
         grace = next(row for row in self.caption(page, "Shifts") if row[0] == "Grace")
-        self.assertEqual(grace[1], "off\u0394 changed since the older roster, before: Day Nurse")
+        self.assertEqual(grace[1], "off\u0394 changed since the older roster, instead of Day Nurse")
         self.assertIn("Nothing is changed since the older roster.", [words(part) for part in self.page("--old", ROSTER, ROSTER).iter("p")])
 
     def test_only_the_table(self):
