@@ -147,7 +147,7 @@ docs/promises.md 629
 docs/proved.md 1355
 docs/reading.md 2729
 docs/rules.md 1354
-docs/solvers.md 1049
+docs/solvers.md 1102
 docs/tested.md 715
 docs/trusted.md 775
 docs/your_ward.md 1278

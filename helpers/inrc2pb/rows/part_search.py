@@ -14,11 +14,14 @@ from .pricing import NurseWeek, Pricing
 from .row_generation import NoRow
 from .row_search import Known, RowSearch, Take
 from .skills import staffed
+from .week_dives import WeekDives
 
 # The most work of a neighborhood of two weeks or less, in steps of the simplex method, and the most nodes of an integer program.
 MOST_WORK, MOST_NODES = 10_000, 50
 # From the first of these gaps on, in thousandths, a neighborhood is worth a dive, and up to the second an integer program.
 DIVE_GAP, CHOOSE_GAP = STEP * POINT, 20 * POINT
+# Of neighborhoods of so many days, this share of the open weeks is fixed at once.
+LONG_DAYS, WEEKS_SHARE = 3 * WEEK_DAYS, 0.1
 # The known rows of each nurse with which a neighborhood begins.
 MOST_KNOWN = 20
 # The share of the time of a dive for fixing rows. In the rest the other rows are chosen if that has not ended.
@@ -81,7 +84,9 @@ class PartSearch:
         try:
             part = clock.part(clock.left() * FIXING_SHARE)
             search.generate(part)
-            found = search.dive(part, task.share, None if task.seed is None else random.Random(task.seed))
+            chance = None if task.seed is None else random.Random(task.seed)
+            is_week = len(search.plan.weeks) == 1
+            found = search.dive(part, task.share, chance) if is_week else search.dive_by_weeks(part, task.share, chance)
             if found:
                 search.keep(found, "fixing rows")
             return Done(True, search.program.iterations)
@@ -90,13 +95,13 @@ class PartSearch:
         finally:
             search.program.close()
 
-    def _search(self, pricing: Pricing, clock: Clock, take: Take) -> RowSearch:
+    def _search(self, pricing: Pricing, clock: Clock, take: Take) -> WeekDives:
         """A search that begins with the prices of the whole plan."""
 
         def offer(found: List[NurseWeek], finder: str) -> Optional[Points]:
             return search.value_of(found) if take(found, finder) else None
 
-        search = RowSearch(pricing, self._solver, clock, offer, lambda: None)
+        search = WeekDives(pricing, self._solver, clock, offer, lambda: None)
         search.begin_at(self._pricing.crews.places, self._known.prices)
         return search
 
@@ -117,7 +122,7 @@ class PartSearch:
         is_better = search.penalty is not None and before is not None and search.penalty < before
         return Done(ended, search.program.iterations, is_better)
 
-    def _improve(self, search: RowSearch, part: Part, own: List[NurseWeek], clock: Clock) -> bool:
+    def _improve(self, search: WeekDives, part: Part, own: List[NurseWeek], clock: Clock) -> bool:
         """The same by a search over the rows of the neighborhood."""
         self._begin(search, part, own)
         try:
@@ -128,7 +133,7 @@ class PartSearch:
         if search.is_proved:
             return True
         if search.penalty is None or search.gap() > DIVE_GAP:
-            found = search.dive(clock)
+            found = search.dive(clock) if len(part.days) < LONG_DAYS else search.dive_by_weeks(clock, WEEKS_SHARE)
             if found and search.keep(found, f"{name}, fixing rows"):
                 return True
         if part.limited and search.penalty is not None and search.gap() > CHOOSE_GAP:

@@ -1,7 +1,7 @@
 """Rows and bounds at prices: what nurses of places earn, each nurse's cheapest row, and what no roster can cost less than."""
 
 import copy
-from typing import Any, Dict, List, NamedTuple, Optional, Sequence, Tuple, Union
+from typing import Any, Dict, Iterable, List, NamedTuple, Optional, Sequence, Tuple, Union
 
 from .plan import FREE, POINT, STEP, Plan, Points, Thousandths
 from ..judging.runs import NEVER, Beside, Runs, RunState
@@ -126,14 +126,24 @@ class Pricing:
         """The same for rows that are the given ones, except on these days."""
         part = copy.copy(self)
         part.wishes, part._days, part._rows, part._batch = [], days, list(rows), None
-        for crews, wishes, row in zip(self.crews.of, self.wishes, rows):
-            kept = {}
-            for day in range(self.plan.days):
-                if day not in days:
-                    costs = wishes.get(day, [0] * len(crews[day]))
-                    kept[day] = [cost if choice == row[day] else NEVER for choice, cost in enumerate(costs)]
-            part.wishes.append({**wishes, **kept})
+        others = [day for day in range(self.plan.days) if day not in days]
+        for nurse, row in enumerate(rows):
+            part.wishes.append({**self.wishes[nurse], **{day: self._only(nurse, day, row[day]) for day in others}})
         return part
+
+    def keeping(self, kept: Iterable[Tuple[int, range, Sequence[int]]]) -> "Pricing":
+        """The same for rows that have these choices of nurses on these days."""
+        part = copy.copy(self)
+        part.wishes = list(self.wishes)
+        for nurse, days, choices in kept:
+            only = {day: self._only(nurse, day, choice) for day, choice in zip(days, choices)}
+            part.wishes[nurse] = {**part.wishes[nurse], **only}
+        return part
+
+    def _only(self, nurse: int, day: int, kept: int) -> List[int]:
+        """What each choice of a nurse costs on a day if she has this one only."""
+        costs = self.wishes[nurse].get(day, [0] * len(self.crews.of[nurse][day]))
+        return [cost if choice == kept else NEVER for choice, cost in enumerate(costs)]
 
     def forbid(self, nurse: int, day: int, choice: int) -> None:
         """Forbids a nurse a choice on a day, before any pricing."""

@@ -12,7 +12,7 @@ from ..solvers.linear_solvers import LinearSolver
 from .part_search import Dive, Done, Part, PartSearch
 from .plan import POINT, STEP, WEEK_DAYS
 from .pricing import NurseWeek
-from .row_search import SHARES_OF_PERIOD, RowSearch
+from .row_search import RowSearch
 from .workers import PartWorker, workers
 
 # The nurses of the first neighborhood of one week, and the fewest of any.
@@ -27,9 +27,9 @@ WEEK_SHARES, PERIOD_SHARES = (0.35, 0.5, 0.75, 1.0), (0.125, 0.25, 0.5, 0.75, 1.
 CHANGED_SHARE, MOST_CHANGED = 0.4, 2
 # Above this gap, in thousandths, dives are made in a week, too.
 WIDE_GAP = 6 * STEP * POINT
-# The share of the time that is left for a dive in a period, the part of the rows that the first one fixes at once, and the seeds of the
-# others. After the first one their work is about this part of the work of neighborhoods that was in vain.
-DIVE_SHARE, FIRST_SHARE, MOST_SEED, DIVES = 0.5, 0.09, 1 << 30, 0.2
+# The share of the time that is left for a dive, the shares that dives fix at once, and their seeds. After the first ones their work in
+# vain is about this part of that of neighborhoods.
+DIVE_SHARE, FIXED_SHARES, MOST_SEED, DIVES = 0.5, (0.08, 0.06, 0.1), 1 << 30, 0.2
 # Up to this part of the bound a gap is small. The share of the time that is left for an integer program over the known rows of all
 # nurses then.
 SMALL_GAP, WHOLE_SHARE = 0.03, 0.3
@@ -51,9 +51,12 @@ class RowParts:
             self._searches[solver] = PartWorker(self._workers[number], own) if apart else own
         shares = PERIOD_SHARES if len(search.plan.weeks) > 1 else WEEK_SHARES
         lengths = dict.fromkeys(math.ceil(share * search.plan.days) for share in shares)
-        # For each number of days the number of nurses of the next neighborhood, and the work of those that were in vain; the work of dives.
+        # For each number of days the number of nurses of the next neighborhood, and the work of those that were in vain; that of dives.
         self._sizes = {length: min(len(search.plan.nurses), FIRST_SIZE * (WEEK_DAYS / length) ** 0.5) for length in lengths}
-        self._spent, self._dived, self._is_diving = dict.fromkeys(lengths, 0), 0.0, False
+        self._spent, self._dived = dict.fromkeys(lengths, 0), 0.0
+        # How many dives have begun, and how many run. In a period each solver begins with one.
+        self._begun = self._diving = 0
+        self._firsts = len(solvers) if len(search.plan.weeks) > 1 else 1
         # The days on which new choices of all nurses do not make the best roster better.
         self._closed: Set[range] = set()
         # Guards all that the threads share: the search, the chance and the lines above.
@@ -111,20 +114,29 @@ class RowParts:
         return len(self._search.plan.weeks) > 1 or (self._search.bound is not None and self._search.gap() > WIDE_GAP)
 
     def _next_dive(self) -> Optional[Dive]:
-        """The next dive, if it is time for one. The first one is without chance; one that its time ends is the last."""
+        """The next dive, if it is time for one. The first one is without chance; one that its time ends in vain is the last."""
         with self._lock:
-            if not self._dives or self._is_diving or self._dived > DIVES * sum(self._spent.values()):
+            is_next = self._begun < self._firsts or not (self._diving or self._dived > DIVES * sum(self._spent.values()))
+            if not (self._dives and is_next):
                 return None
-            self._is_diving = True
-            share, seed = self._chance.choice(SHARES_OF_PERIOD), self._chance.randrange(MOST_SEED)
-            return Dive(share, seed, self._search.penalty) if self._dived else Dive(FIRST_SHARE, None, self._search.penalty)
+            self._begun, self._diving = self._begun + 1, self._diving + 1
+            share, seed = self._chance.choice(FIXED_SHARES), self._chance.randrange(MOST_SEED)
+            return Dive(share, seed, self._search.penalty) if self._begun > 1 else Dive(FIXED_SHARES[0], None, self._search.penalty)
 
     def _dive(self, solver: LinearSolver, clock: Clock, dive: Dive) -> None:
         """A dive over all nurses and days."""
-        done = self._searches[solver].dive(clock.part(clock.left() * DIVE_SHARE), self._search.keep, dive)
+        is_better = False
+
+        def take(rows: List[NurseWeek], finder: str) -> bool:
+            nonlocal is_better
+            is_better = self._search.keep(rows, finder) or is_better
+            return is_better
+
+        done = self._searches[solver].dive(clock.part(clock.left() * DIVE_SHARE), take, dive)
         with self._lock:
-            self._is_diving = False
-            self._dived += max(1, done.work) if done.ended else math.inf
+            self._diving -= 1
+            if not is_better:
+                self._dived += done.work if done.ended else math.inf
 
     def improve(self, part: Part, solver: LinearSolver, clock: Clock) -> Done:
         """Looks for better rows of a neighborhood."""

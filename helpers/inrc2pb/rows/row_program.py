@@ -48,10 +48,10 @@ class RowProgram:
         self._crews, self._nurses, self._program = crews, len(plan.nurses), program
         self.below = BELOW_MINIMUM if plan.charging else 1
         self._known: Dict[Tuple[int, NurseWeek, Tuple[int, ...]], int] = {}
-        # The columns of each nurse, those that are not in use, and those that are out because another row of the nurse is held.
+        # The columns of each nurse, those that are not in use, and those that are shut.
         self._numbers: List[List[int]] = [[] for _ in plan.nurses]
         self._dropped: Dict[int, None] = {}
-        self._held: Dict[int, int] = {}
+        self._shut: Dict[int, None] = {}
         # The row of each crew that has several places.
         self._links: Dict[int, int] = {}
         # The steps of the simplex method until now, and at most.
@@ -115,16 +115,19 @@ class RowProgram:
 
     def hold(self, column: int) -> None:
         """Lets a nurse have the row of this column only."""
-        nurse = self.columns[column].nurse
-        self._held[nurse] = column
-        self._program.bound_columns({self.columns[other].number: _OUT for other in self._numbers[nurse] if other != column})
+        self.shut(other for other in self._numbers[self.columns[column].nurse] if other != column)
+
+    def shut(self, columns: Iterable[int]) -> None:
+        """Lets no nurse have these rows."""
+        new = [column for column in columns if column not in self._shut]
+        self._shut.update(dict.fromkeys(new))
+        self._program.bound_columns({self.columns[column].number: _OUT for column in new})
 
     def free(self) -> None:
         """Lets all nurses have any row in use again."""
-        for nurse, column in self._held.items():
-            back = (other for other in self._numbers[nurse] if other != column and other not in self._dropped)
-            self._program.bound_columns({self.columns[other].number: _FREE for other in back})
-        self._held.clear()
+        back = (column for column in self._shut if column not in self._dropped)
+        self._program.bound_columns({self.columns[column].number: _FREE for column in back})
+        self._shut.clear()
 
     def raise_below(self, below: int) -> None:
         """Changes the cost of a nurse below a minimum."""

@@ -19,9 +19,8 @@ from .row_generation import EXACT, WORTH, RowGeneration
 from .row_program import Solved
 from .skills import staffed
 
-# The share of the nurses whose rows are fixed at once: at first, at least, and at most. In a period it is one of the last ones.
+# The share of the nurses whose rows are fixed at once: at first, at least, and at most.
 FIRST_SHARE, LEAST_SHARE, MOST_SHARE = 0.06, 0.02, 0.5
-SHARES_OF_PERIOD = (0.06, 0.12, 0.04, 0.09)
 # How many times the part of the time that a step takes is fixed in it, if the time is short.
 HURRY = 1.5
 # The most rounds of new rows between two fixings, and if the time is short.

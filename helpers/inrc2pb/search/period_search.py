@@ -27,6 +27,8 @@ from ..rows.skills import rows_of, staffed
 LARGE = 400
 # The most of the time that goes to a first plan, week after week.
 FIRST_SHARE = 0.1
+# The part of the time that is kept for the proof, at most so many seconds, and the seconds of the proof beyond the end of the time.
+PROOF_SHARE, MOST_KEPT, BEYOND = 0.05, 20.0, 10.0
 
 # Writes the rosters of all weeks to their places; their days count from the first week.
 Keep = Callable[[Sequence[Cell]], None]
@@ -44,7 +46,8 @@ class PeriodSearch:
         self, weeks: PlannedWeeks, keep: Keep, clock: Clock, progress: Progress, proof: Optional[Path] = None,
         start: Optional[Sequence[Cell]] = None, seed: int = 1,
     ) -> None:
-        self._weeks, self._keep, self._clock, self._progress = weeks, keep, clock, progress
+        self._weeks, self._keep, self._whole, self._progress = weeks, keep, clock, progress
+        self._clock = clock.part(clock.left() - min(MOST_KEPT, PROOF_SHARE * clock.left()))
         self._processes = Processes()
         self._bounds = Bounds(weeks.options(), weeks.scenario.name, proof, progress.warn)
         self._start, self._seed = start, seed
@@ -59,7 +62,7 @@ class PeriodSearch:
 
     def interrupt(self) -> None:
         """Ends the search now: the best plan was kept. If a proof of its bound runs already, it is ended, too."""
-        self._clock.stop()
+        self._whole.stop()
         self._processes.stop()
         if self._proves:
             self._bounds.stop()
@@ -105,7 +108,7 @@ class PeriodSearch:
         if keeping == STRICT and (self._weeks.beside.training or self._weeks.beside.free) and not self._weeks.calls.points:
             self.bound_beside = runs[0].lower_bound
         self._proves = True
-        seconds = STOPPED_SECONDS if self._clock.stopped else PROOF_SECONDS
+        seconds = STOPPED_SECONDS if self._whole.stopped else min(PROOF_SECONDS, self._whole.left() + BEYOND)
         self.bound = self._bounds.of(runs[0] if keeping == STRICT else runs[-1], keeping, seconds)
         if self.bound and not self.bound.is_believed(self.penalty):
             self._progress.warn(f"the lower bound {self.bound.points} ({self.bound.by}) is above the penalty of a plan: it is wrong")

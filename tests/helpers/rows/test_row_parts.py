@@ -167,6 +167,9 @@ class Dives(HelperTest):
         before, parts = search.penalty, RowParts(search, [self.solver])
         parts._dive(self.solver, search.clock, Dive(0.12, None, before))
         self.assertLess(search.penalty, before)
+        self.assertEqual(parts._dived, 0)
+        search.penalty = search.lower_bound
+        parts._dive(self.solver, search.clock, Dive(0.12, None, search.penalty))
         self.assertGreater(parts._dived, 0)
         self.assertTrue(parts._dives)
         week = search_of(1)

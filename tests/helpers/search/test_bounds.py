@@ -21,6 +21,7 @@ from inrc2pb.rows.pricing import Crews, Pricing, plain_bound
 from inrc2pb.rows.row_arrays import numpy
 from inrc2pb.search import bounds
 from inrc2pb.search.bounds import PLAIN, PROVER, Bound, Bounds, week_options
+from inrc2pb.search.period_search import BEYOND
 from inrc2pb.search.planned_weeks import PeriodFiles, PlannedWeeks
 from inrc2pb.week.facts import Charged, Choice, Claim, Even, facts_text
 from inrc2pb.week.records import Absence, KeptLimit
@@ -203,6 +204,14 @@ class Commands(FakeProver):
         self.assertRegex(printed.splitlines()[-1], f"^lower bound 5 of the sum \\({PROVER}\\): the gap is ")
         self.assertEqual(self.given()["texts"]["--proof"], self.proof.read_text())
         self.assertTrue(self.proof.read_text().startswith("CERTIFICATE ward\nWEEKS = 2\n"))
+
+    def test_the_end_of_the_time_ends_the_program_some_seconds_later(self):
+        self.prover("hang")
+        began = time.monotonic()
+        status, printed, said = run("period", *self.words, 1, environment=self.environment)
+        self.assertEqual(status, 0, said)
+        self.assertRegex(printed.splitlines()[-1], f"^lower bound [0-9]+ of the sum \\({PLAIN}\\): ")
+        self.assertLess(time.monotonic() - began, 2 * 1 + BEYOND + 10)
 
     def test_a_stop_ends_the_program(self):
         self.prover("hang")

@@ -1,0 +1,119 @@
+"""Dives of a period: the weeks of nurses are fixed a few at a time, those first that most shares of a solution have in common. A nurse
+still gets new rows with her fixed weeks."""
+
+import math
+import random
+from typing import Dict, List, NamedTuple, Optional
+
+from ..programs.clock import Clock, TimeIsOver
+from .plan import POINT, STEP, WEEK_DAYS
+from .pricing import NurseWeek
+from .row_generation import EXACT, WORTH
+from .row_program import Solved
+from .row_search import HURRY, SHORT_ROUNDS, WHOLE, RowSearch
+
+# The most rounds of new rows between two fixings, and how near the value of the program, in points, must be to what its prices prove.
+MOST_ROUNDS, NEAR = 40, STEP / 2
+# The factors of shares in a dive by chance.
+BY_CHANCE = (0.8, 1.0)
+
+
+class _Week(NamedTuple):
+    """A week of a nurse."""
+
+    nurse: int
+    number: int
+
+    @property
+    def days(self) -> range:
+        """Its days in the plan."""
+        return range(WEEK_DAYS * self.number, WEEK_DAYS * (self.number + 1))
+
+    def of(self, row: NurseWeek) -> NurseWeek:
+        """The choices of a row in it."""
+        return row[WEEK_DAYS * self.number : WEEK_DAYS * (self.number + 1)]
+
+
+class WeekDives(RowSearch):
+    """A search that also dives by weeks."""
+
+    def dive_by_weeks(self, clock: Clock, share: float, chance: Optional[random.Random] = None) -> Optional[List[NurseWeek]]:
+        """Fixes this share of the open weeks of nurses at once, by chance not only those of the greatest shares. Returns a row of each
+        nurse, None if they cannot be better than the best. At the end of the time the rows are those of the greatest shares, made better
+        one after another."""
+        pricing = self.pricing
+        try:
+            return self._dive_by_weeks(clock, share, chance)
+        except TimeIsOver:
+            self.pricing = pricing
+            self.clock.check()
+            self._round({})
+            return None
+        finally:
+            self.pricing = pricing
+            self.program.free()
+
+    def _dive_by_weeks(self, clock: Clock, share: float, chance: Optional[random.Random]) -> Optional[List[NurseWeek]]:
+        left = [_Week(nurse, number) for nurse in range(len(self.plan.nurses)) for number in range(len(self.plan.weeks))]
+        fixed: Dict[_Week, NurseWeek] = {}
+        last, hurry = -math.inf, 0.0
+        while left:
+            before = clock.left()
+            nurses = sorted({week.nurse for week in left}) if fixed else []
+            now = self.solved = self._relaxed_with(nurses, last, clock, SHORT_ROUNDS if hurry > share else MOST_ROUNDS)
+            if self.penalty is not None and now.value > self.penalty - STEP + EXACT:
+                return None
+            # So many at once that the time is enough.
+            last, hurry = now.value, HURRY * (before - clock.left()) / max(EXACT, clock.left())
+            new = self._chosen(now, left, max(share, hurry), chance)
+            fixed.update(new)
+            left = [week for week in left if week not in new]
+            self._keep_weeks(new)
+        weeks = range(len(self.plan.weeks))
+        return [b"".join(fixed[_Week(nurse, number)] for number in weeks) for nurse in range(len(self.plan.nurses))]
+
+    def _relaxed_with(self, nurses: List[int], last: float, clock: Clock, rounds: int) -> Solved:
+        """The linear program with the fixed weeks. While its value is above the last one, and above what its prices prove, these nurses get
+        new rows."""
+        now, bound = self.program.solve(clock), -math.inf
+        for _ in range(rounds if nurses else 0):
+            if now.value <= last + EXACT:
+                break
+            found = self._priced(now.prices, nurses, clock)
+            gains = {nurse: now.nurses[nurse] - priced.value for nurse, priced in found.items()}
+            bound = max(bound, now.value - sum(gains.values()) / POINT)
+            better = [priced for priced in found.items() if gains[priced[0]] > WORTH]
+            new = sum(self._add(nurse, priced.row, priced.cost, now.prices) for nurse, priced in better)
+            if not new or now.value - bound <= NEAR:
+                break
+            now = self.program.solve(clock)
+        return now
+
+    def _chosen(self, now: Solved, left: List[_Week], share: float, chance: Optional[random.Random]) -> Dict[_Week, NurseWeek]:
+        """The weeks to fix: all that have no other choices in the solution, and this share of the others, of different nurses."""
+        shares: Dict[_Week, Dict[NurseWeek, float]] = {week: {} for week in left}
+        for number, part in now.shares.items():
+            nurse, row, *_ = self.program.columns[number]
+            for week in (_Week(nurse, number) for number in range(len(self.plan.weeks))):
+                if week in shares:
+                    shares[week][week.of(row)] = shares[week].get(week.of(row), 0.0) + part
+        best = {week: max(of_week, key=of_week.__getitem__) for week, of_week in shares.items() if of_week}
+        weights = {week: shares[week][choices] * (chance.uniform(*BY_CHANCE) if chance else 1) for week, choices in best.items()}
+        new = {week: choices for week, choices in best.items() if shares[week][choices] > WHOLE}
+        others: Dict[int, _Week] = {}
+        most = max(1, int(share * (len(best) - len(new))))
+        for week in sorted((week for week in best if week not in new), key=weights.__getitem__, reverse=True):
+            if len(others) < most:
+                others.setdefault(week.nurse, week)
+        return {**new, **{week: best[week] for week in others.values()}}
+
+    def _keep_weeks(self, new: Dict[_Week, NurseWeek]) -> None:
+        """Lets rows have these weeks only."""
+        self.pricing = self.pricing.keeping([(week.nurse, week.days, choices) for week, choices in new.items()])
+        of_nurse: Dict[int, List[_Week]] = {}
+        for week in new:
+            of_nurse.setdefault(week.nurse, []).append(week)
+        columns = enumerate(self.program.columns)
+        self.program.shut(
+            [number for number, (nurse, row, *_) in columns if any(week.of(row) != new[week] for week in of_nurse.get(nurse, ()))]
+        )

@@ -1,0 +1,119 @@
+"""Tests of dives that fix the weeks of nurses."""
+
+import itertools
+import random
+import unittest
+from unittest import mock
+
+from test_row_parts import CHOICES, HISTORY, LONG, SCENARIO, WEEKS, search_of
+from ward import HAS_CBC, HelperTest
+
+from inrc2pb.programs.clock import Clock, TimeIsOver
+from inrc2pb.programs.processes import Processes
+from inrc2pb.rows.first_rows import matched_rows
+from inrc2pb.rows.plan import POINT, Plan
+from inrc2pb.rows.pricing import Crews, Pricing
+from inrc2pb.rows.row_parts import RowParts
+from inrc2pb.rows.week_dives import WeekDives
+from inrc2pb.solvers.linear_solvers import LinearSolvers
+
+
+class Kept(unittest.TestCase):
+    def test_the_cheapest_rows_with_choices_that_are_kept(self):
+        whole, chance = search_of(1), random.Random(3)
+        gains = whole.pricing.crews.gains([chance.choice((0, 7_123, 30_000)) for _ in whole.pricing.crews.places])
+        row = whole.rows[4]
+        kept = whole.pricing.keeping([(4, range(0, 4), row[:4]), (4, range(6, 7), row[6:])])
+        values = []
+        for two in itertools.product(CHOICES, repeat=2):
+            other = row[:4] + bytes(two) + row[6:]
+            cost = whole.pricing.cost(4, other)
+            if cost is not None:
+                values.append(POINT * cost - sum(gains[whole.pricing.crews.of[4][day][choice]] for day, choice in enumerate(other)))
+        found = kept.cheapest(4, gains)
+        self.assertEqual((found.value, found.row[:4], found.row[6:]), (min(values), row[:4], row[6:]))
+        self.assertEqual(kept.cheapest_of(range(30), gains), [kept.cheapest(nurse, gains) for nurse in range(30)])
+        self.assertEqual(kept.cheapest(5, gains), whole.pricing.cheapest(5, gains))
+
+
+@unittest.skipUnless(HAS_CBC, "needs cbc")
+class Dives(HelperTest):
+    def setUp(self):
+        super().setUp()
+        self.solver = LinearSolvers(["cbc"], Processes(), self.folder, self.fail, resident=True)
+        self.addCleanup(self.solver.close)
+
+    def generated(self):
+        """A search over two weeks of the month that knows all rows of its linear program."""
+        plan = Plan.of(SCENARIO, HISTORY, WEEKS)
+        pricing = Pricing(plan, Crews(plan), lambda: None)
+        search = WeekDives(pricing, self.solver, Clock(LONG), lambda rows, _finder: search.value_of(rows), lambda: None)
+        search.generate(search.clock)
+        return search
+
+    def test_dives_end_near_the_bound_and_the_same_chance_at_the_same_roster(self):
+        search = self.generated()
+        lower, value, pricing = search.lower_bound, search.solved.value, search.pricing
+        for share, seed in ((0.08, None), (0.3, 3)):
+            rows = search.dive_by_weeks(search.clock, share, seed and random.Random(seed))
+            # A linear program that is not held back by any weeks again has its value.
+            self.assertLessEqual(search.program.solve(search.clock).value, value + 1e-6)
+            self.assertIs(search.pricing, pricing)
+            self.assertLessEqual(lower, search.value_of(rows))
+            self.assertLess(search.value_of(rows), lower + 100)
+        one, other = (self.generated().dive_by_weeks(Clock(LONG), 0.2, random.Random(5)) for _ in range(2))
+        self.assertEqual(one, other)
+
+    def test_a_dive_that_cannot_be_better_has_no_rows(self):
+        search = self.generated()
+        search.penalty = search.lower_bound
+        self.assertIsNone(search.dive_by_weeks(search.clock, 0.5))
+
+    def test_a_dive_that_its_time_ends(self):
+        search = self.generated()
+        search.begin(matched_rows(search.plan, search.pricing.crews, lambda: None), None)
+        before, pricing, fix = search.penalty, search.pricing, search._keep_weeks
+
+        def end(weeks):
+            fix(weeks)
+            raise TimeIsOver
+
+        with mock.patch.object(search, "_keep_weeks", end):
+            self.assertIsNone(search.dive_by_weeks(Clock(LONG), 0.2))
+        self.assertLess(search.penalty, before)
+        self.assertEqual(search.penalty, search.value_of(search.rows))
+        self.assertIs(search.pricing, pricing)
+
+    def test_no_row_without_the_fixed_weeks(self):
+        search, fixed = self.generated(), {}
+        keep = search._keep_weeks
+
+        def see(weeks):
+            keep(weeks)
+            fixed.update(weeks)
+            for number in search.program.solve(search.clock).shares:
+                column = search.program.columns[number]
+                for week, choices in fixed.items():
+                    self.assertTrue(week.nurse != column.nurse or week.of(column.row) == choices)
+
+        with mock.patch.object(search, "_keep_weeks", see):
+            rows = search.dive_by_weeks(search.clock, 0.2)
+        self.assertEqual(len(fixed), 60)
+        self.assertTrue(all(week.of(rows[week.nurse]) == choices for week, choices in fixed.items()))
+
+
+class FirstDives(unittest.TestCase):
+    def test_each_solver_begins_a_period_with_a_dive(self):
+        for weeks, firsts in ((2, 2), (1, 1)):
+            search = search_of(weeks)
+            search.bound = 0
+            parts = RowParts(search, [])
+            self.assertEqual(parts._firsts, 0 if weeks == 2 else 1)
+            parts._firsts = firsts
+            dives = [parts._next_dive() for _ in range(3)]
+            self.assertEqual([dive is None for dive in dives], [number >= firsts for number in range(3)])
+            self.assertEqual([dive.seed is None for dive in dives if dive], [True, False][:firsts])
+
+
+if __name__ == "__main__":
+    unittest.main()
