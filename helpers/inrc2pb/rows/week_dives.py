@@ -10,12 +10,14 @@ from .plan import POINT, STEP, WEEK_DAYS
 from .pricing import NurseWeek
 from .row_generation import EXACT, WORTH
 from .row_program import Solved
-from .row_search import HURRY, SHORT_ROUNDS, WHOLE, RowSearch
+from .row_search import SHORT_ROUNDS, WHOLE, RowSearch
 
 # The most rounds of new rows between two fixings, and how near the value of the program, in points, must be to what its prices prove.
 MOST_ROUNDS, NEAR = 40, STEP / 2
 # The factors of shares in a dive by chance.
 BY_CHANCE = (0.8, 1.0)
+# How many times the part of the time that a step takes is fixed in it, if the time is short. The later ones take less.
+HURRY = 0.8
 
 
 class _Week(NamedTuple):
@@ -66,6 +68,8 @@ class WeekDives(RowSearch):
             # So many at once that the time is enough.
             last, hurry = now.value, HURRY * (before - clock.left()) / max(EXACT, clock.left())
             new = self._chosen(now, left, max(share, hurry), chance)
+            if not new:
+                return None
             fixed.update(new)
             left = [week for week in left if week not in new]
             self._keep_weeks(new)
@@ -82,8 +86,8 @@ class WeekDives(RowSearch):
             found = self._priced(now.prices, nurses, clock)
             gains = {nurse: now.nurses[nurse] - priced.value for nurse, priced in found.items()}
             bound = max(bound, now.value - sum(gains.values()) / POINT)
-            better = [priced for priced in found.items() if gains[priced[0]] > WORTH]
-            new = sum(self._add(nurse, priced.row, priced.cost, now.prices) for nurse, priced in better)
+            better = {nurse: priced for nurse, priced in found.items() if gains[nurse] > WORTH}
+            new = sum(self._add(nurse, priced.row, priced.cost, now.prices) for nurse, priced in better.items())
             if not new or now.value - bound <= NEAR:
                 break
             now = self.program.solve(clock)
@@ -92,11 +96,11 @@ class WeekDives(RowSearch):
     def _chosen(self, now: Solved, left: List[_Week], share: float, chance: Optional[random.Random]) -> Dict[_Week, NurseWeek]:
         """The weeks to fix: all that have no other choices in the solution, and this share of the others, of different nurses."""
         shares: Dict[_Week, Dict[NurseWeek, float]] = {week: {} for week in left}
-        for number, part in now.shares.items():
-            nurse, row, *_ = self.program.columns[number]
+        for column, taken in now.shares.items():
+            nurse, row, *_ = self.program.columns[column]
             for week in (_Week(nurse, number) for number in range(len(self.plan.weeks))):
                 if week in shares:
-                    shares[week][week.of(row)] = shares[week].get(week.of(row), 0.0) + part
+                    shares[week][week.of(row)] = shares[week].get(week.of(row), 0.0) + taken
         best = {week: max(of_week, key=of_week.__getitem__) for week, of_week in shares.items() if of_week}
         weights = {week: shares[week][choices] * (chance.uniform(*BY_CHANCE) if chance else 1) for week, choices in best.items()}
         new = {week: choices for week, choices in best.items() if shares[week][choices] > WHOLE}
