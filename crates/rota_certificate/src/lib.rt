@@ -1,7 +1,8 @@
 //! The lower bound that a certificate proves: a tree of cases of plans, with prices for each case.
 //!
 //! `lower_bound` is the bound of the cost, and `no_plan_exists` the one without the soft rules.
-//! `first_unmet` finds the first condition that a plan does not meet.
+//! `repeats_fact` says whether a fact is on a path of the tree more than once, and `first_unmet`
+//! finds the first condition that a plan does not meet.
 #![tactic(auto, using(crate::proofs::Sums::looping))]
 
 // The charges and costs of a nurse's days, her rebates, and the choices that a case allows her.
