@@ -33,12 +33,12 @@ same_left false false now before same silent = refl
 same_left true false now before same silent = cc
 same_left false true now before same silent = cc
 
-pub same_state : {W Kept : Type 0} (t u : ℕ) (b c : KnownBytes) (p q : Kept) (f g h i : Bool) (l m : Option W) →
-    t ≡ u → b ≡ c → p ≡ q → f ≡ g → h ≡ i → l ≡ m →
+pub same_state : {W Kept : Type 0} (t u : ℕ) (x y b c : KnownBytes) (p q : Kept) (f g h i : Bool) (l m : Option W) →
+    t ≡ u → x ≡ y → b ≡ c → p ≡ q → f ≡ g → h ≡ i → l ≡ m →
     ◌≡◌ {A = SinkState W Kept}
-    (record { target_name = t; bytes = b; kept = p; has_failed = f; target_has_failed = h; left_target = l })
-    (record { target_name = u; bytes = c; kept = q; has_failed = g; target_has_failed = i; left_target = m })
-same_state t u b c p q f g h i l m one two three four five six = cc
+    (record { target_name = t; sent_before = x; bytes = b; kept = p; has_failed = f; target_has_failed = h; left_target = l })
+    (record { target_name = u; sent_before = y; bytes = c; kept = q; has_failed = g; target_has_failed = i; left_target = m })
+same_state t u x y b c p q f g h i l m one two three four five six seven = cc
 
 module _ {E Kept : Type 0} (texts : EventTexts E Kept) where
   -- the text of events and of the events after them
@@ -71,10 +71,11 @@ module _ {E Kept : Type 0} (texts : EventTexts E Kept) where
         (λ _. FailedAt texts (sink_state old kept) event new)
     event_put {old} {new} kept next event (Ok u) takes same =
         let failed : sink_failed new ≡ sink_failed old = takes.failure ∙ or_false _ in
-        same_state _ _ _ _ _ _ _ _ _ _ _ _ takes.same_target takes.bytes same failed (takes.target_failure ∙ or_false _)
+        same_state _ _ _ _ _ _ _ _ _ _ _ _ _ _ takes.same_target takes.same_before takes.bytes same failed (takes.target_failure ∙ or_false _)
         (same_left (sink_failed new) (sink_failed old) (target_of new) (target_of old) failed takes.silent)
     event_put {old} {new} kept next event (Err fault) takes same = record {
       same_target = takes.same_target;
+      same_before = takes.same_before;
       failed = takes.failure ∙ or_true _;
       target_failed = takes.target_failure ∙ or_true _;
       begins = takes.bytes;
@@ -111,6 +112,7 @@ module _ {Self W E Kept : Type 0} {target : Ghosts W} (sink_of : Self → Sink W
       let left_is : (state new).left_target ≡ (state old).left_target = ap (λ (w : SinkState W Kept). w.left_target) is in
       record {
         same_target = ap (λ (w : SinkState W Kept). w.target_name) is;
+        same_before = ap (λ (w : SinkState W Kept). w.sent_before) is;
         failure = failed_is ∙ sym (or_false (sink_failed (sink_of old)));
         target_failure = ap (λ (w : SinkState W Kept). w.target_has_failed) is ∙ sym (or_false (target.has_failed (target_of (sink_of old))));
         silent = λ failed.
@@ -143,6 +145,7 @@ module _ {Self W E Kept : Type 0} {target : Ghosts W} (sink_of : Self → Sink W
       ap (joined_texts texts kept) refused.are ∙ joined_texts-append texts kept refused.taken (refused.event ∷ refused.rest) in
       record {
         same_target = leaves.same_target;
+        same_before = leaves.same_before;
         failure = leaves.failed ∙ sym (or_true (sink_failed (sink_of old)));
         target_failure = leaves.target_failed ∙ sym (or_true (target.has_failed (target_of (sink_of old))));
         silent = λ failed. leaves.silent (target_of (sink_of old)) (failed_before old failed);

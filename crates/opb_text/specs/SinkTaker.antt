@@ -6,7 +6,7 @@ use Rattle.rota_core.specs.declared.ports.PortFault.{PortFault}
 use Rattle.rota_core.specs.declared.ports.Target.{Ghosts}
 use Rattle.rota_items.specs.Events.{Event}
 use Rattle.rota_items.specs.declared.takers.Taker.{Ghosts as TakerGhosts}
-use Rattle.text_sink.specs.Sink.{bytes_put, sent_by, sink_failed, target_name, target_of}
+use Rattle.text_sink.specs.Sink.{bytes_put, sent_before, sent_by, sink_failed, target_name, target_of}
 use Rattle.text_sink.specs.declared.sink.Sink.{Sink}
 
 -- the text of each event, with a state that is kept from one event to the next
@@ -22,6 +22,8 @@ joined_texts texts kept (event ∷ events) = texts.text kept event ++ joined_tex
 -- the bytes so far, the target that they go to, and the kept state
 pub record SinkState (W Kept : Type 0) : Type 0 where
   pub target_name : ℕ
+  -- the bytes that were sent before the sink was made
+  pub sent_before : KnownBytes
   pub bytes : KnownBytes
   pub kept : Kept
   pub has_failed : Bool
@@ -41,6 +43,7 @@ module _ {W Kept : Type 0} {target : Ghosts W} where
   abbrev pub sink_state : Sink W target → Kept → SinkState W Kept
   sink_state sink kept = record {
     target_name = target_name sink;
+    sent_before = sent_before sink;
     bytes = bytes_put sink;
     kept = kept;
     has_failed = sink_failed sink;
@@ -52,6 +55,7 @@ module _ {W Kept : Type 0} {target : Ghosts W} where
   -- followed by the text of the event; a sink that had failed before left its target unchanged
   pub record FailedAt {E : Type 0} (texts : EventTexts E Kept) (before : SinkState W Kept) (event : E) (sink : Sink W target) : Type 0 where
     pub same_target : target_name sink ≡ before.target_name
+    pub same_before : sent_before sink ≡ before.sent_before
     pub failed : sink_failed sink ≡ true
     pub target_failed : target.has_failed (target_of sink) ≡ true
     pub begins : Begins (sent_by sink) (append_known before.bytes (texts.text before.kept event))

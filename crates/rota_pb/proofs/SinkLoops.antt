@@ -22,6 +22,7 @@ module _ {W : Type 0} {target : Ghosts W} where
   pub puts_nothing : (sink : Sink W target) → PutsText sink (Ok tt) [] sink
   puts_nothing sink = record {
     same_target = refl;
+    same_before = refl;
     failure = sym (or_false (sink_failed sink));
     target_failure = sym (or_false (target.has_failed (target_of sink)));
     silent = λ _. refl;

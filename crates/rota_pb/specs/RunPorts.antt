@@ -85,8 +85,9 @@ pub record WritesText (writer : Writer) (text : List ℕ) : Type 0 where
   pub flushed : writer.port.flushed writer.new ≡ known_len (writer.port.sent writer.new)
   pub sound : writer.port.has_failed writer.new ≡ writer.port.has_failed writer.old
 
--- The writer has failed, and all that it was sent is a prefix of the bytes sent before the run with the text after them. The bytes sent
--- before are still sent, since no call of a target takes any back.
+-- The writer has failed. The bytes sent before the run are still sent, and all that it was sent is a prefix of them with the text after
+-- them.
 pub record WritesBeginning (writer : Writer) (text : List ℕ) : Type 0 where
+  pub kept : Begins (writer.port.sent writer.old) (writer.port.sent writer.new)
   pub begun : Begins (writer.port.sent writer.new) (append_known (writer.port.sent writer.old) text)
   pub failure : writer.port.has_failed writer.new ≡ true

@@ -1,14 +1,15 @@
 -- Words of the logic: how the texts that a sink takes one after another join, and their prefixes.
 use Rattle.std.proofs.Common.{◌≡◌, ℕ, Bool, true, false, ◌||◌, refl, sym, ap, ◌∙◌, subst, append_assoc}
-use Rattle.std.proofs.Common.{List, [], ◌++◌, None, Some, Ok, Err}
+use Rattle.std.proofs.Common.{List, [], ◌++◌, length, take, drop, None, Some, Ok, Err}
 use Rattle.std.specs.Prelude.{Result, is_err, MatchResult, IsErr}
 use Rattle.std.specs.Io.KnownBytes.{append_known}
-use Rattle.std.proofs.lemmas.List.{append-nil}
+use Rattle.std.proofs.lemmas.List.{append-nil, take-append-drop, take_at}
 use Rattle.rota_core.specs.Ports.{KnownBytes, Begins}
 use Rattle.rota_core.specs.declared.ports.PortFault.{PortFault}
 use Rattle.rota_core.specs.declared.ports.Target.{Ghosts}
 use Rattle.text_sink.specs.declared.sink.Sink.{Sink}
-use Rattle.text_sink.specs.Sink.{FinishesSink, PutsText, bytes_put, sink_failed, sent_by, target_of}
+use Rattle.text_sink.specs.Sink.{FinishesSink, PutsText, bytes_put, sink_failed, sent_before, sent_by, target_of}
+use Rattle.text_sink.specs.KnownFront.{known_front}
 
 pub append_known-nil : (known : KnownBytes) → append_known known [] ≡ known
 append_known-nil None = refl
@@ -28,6 +29,35 @@ Begins-longer part known xs ys begins = record {
       ∙ ap (λ known. append_known known ys) begins.joined
       ∙ append_known-append known xs ys;
 }
+
+-- ---- bytes that are at the front of others
+
+-- they are at the front of others that grow
+pub begins_grown : (part known new : KnownBytes) (bytes : List ℕ) → Begins part known → new ≡ append_known known bytes → Begins part new
+begins_grown part known new bytes begins grown = record {
+  rest = begins.rest ++ bytes;
+  joined = sym (append_known-append part begins.rest bytes) ∙ ap (λ whole. append_known whole bytes) begins.joined ∙ sym grown;
+}
+
+begins_front : (part whole : KnownBytes) → known_front part whole ≡ part → Begins part whole
+begins_front None whole same = record { rest = []; joined = sym same }
+begins_front (Some part) None same = cc
+begins_front (Some part) (Some whole) same =
+    let front : take (length part) whole ≡ part = cc in
+    record {
+      rest = drop (length part) whole;
+      joined = ap (λ bytes. Some (bytes ++ drop (length part) whole)) (sym front) ∙ ap Some (take-append-drop (length part) whole);
+    }
+
+front_begins : (part whole : KnownBytes) → Begins part whole → known_front part whole ≡ part
+front_begins None whole begins = sym begins.joined
+front_begins (Some part) whole begins =
+    ap (known_front (Some part)) (sym begins.joined) ∙ ap Some (take_at part begins.rest (length part) refl)
+
+-- the front of bytes that have others at their front
+pub front_of_more : (part known new : KnownBytes) → known_front part known ≡ part → Begins known new → known_front part new ≡ part
+front_of_more part known new front begins =
+    front_begins part new (begins_grown part known new begins.rest (begins_front part known front) (sym begins.joined))
 
 -- ---- the texts that a sink takes
 
@@ -50,6 +80,7 @@ module _ {W : Type 0} {target : Ghosts W} where
       PutsText old (Err d) (xs ++ ys) new
   puts_stop {old} {new} {e} {d} {xs} ys takes = record {
     same_target = takes.same_target;
+    same_before = takes.same_before;
     failure = takes.failure;
     target_failure = takes.target_failure;
     silent = takes.silent;
@@ -61,6 +92,7 @@ module _ {W : Type 0} {target : Ghosts W} where
       PutsText old (Ok u) xs middle → PutsText middle r ys new → PutsText old r (xs ++ ys) new
   puts_then {old} {middle} {new} {u} {r} {xs} {ys} first second = record {
     same_target = second.same_target ∙ first.same_target;
+    same_before = second.same_before ∙ first.same_before;
     failure = second.failure ∙ ap (λ b. b || is_err r) (first.failure ∙ or_false (sink_failed old));
     target_failure =
         second.target_failure ∙ ap (λ b. b || is_err r) (first.target_failure ∙ or_false (target.has_failed (target_of old)));
@@ -72,10 +104,16 @@ module _ {W : Type 0} {target : Ghosts W} where
         subst P (ap (λ known. append_known known ys) first.bytes ∙ append_known-append (bytes_put old) xs ys) second.bytes;
   }
 
+  -- a sink keeps the bytes that were sent before it was made
+  pub keeps_sent : (known : KnownBytes) (sink : Sink W target) → sent_before sink ≡ known → Begins known (sent_by sink)
+  keeps_sent known sink same =
+      begins_front known (sent_by sink) (subst (λ part. known_front part (sent_by sink) ≡ part) same sink.keeps_sent)
+
   -- a sink that failed accepts nothing more
   pub puts_none : (sink : Sink W target) (e : PortFault) (xs : List ℕ) → sink_failed sink ≡ true → PutsText sink (Err e) xs sink
   puts_none sink e xs failed = record {
     same_target = refl;
+    same_before = refl;
     failure = failed ∙ sym (or_true (sink_failed sink));
     target_failure = sink.fails_with_target failed ∙ sym (or_true (target.has_failed (target_of sink)));
     silent = λ _. refl;
@@ -87,6 +125,7 @@ module _ {W : Type 0} {target : Ghosts W} where
       PutsText old (Err e) xs new → PutsText old r xs new
   puts_exit {old} {new} {e} {xs} (Err d) failed takes = record {
     same_target = takes.same_target;
+    same_before = takes.same_before;
     failure = takes.failure;
     target_failure = takes.target_failure;
     silent = takes.silent;

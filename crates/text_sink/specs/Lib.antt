@@ -1,3 +1,4 @@
+pub mod KnownFront
 pub mod Pieces
 pub mod Sink
 pub mod TermText

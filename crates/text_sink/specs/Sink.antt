@@ -1,6 +1,7 @@
 -- The abstract value of a sink, and the effects of writing a text into it and of finishing it.
 use Rattle.std.specs.Prelude.{◌≡◌, ℕ, List, Bool, true, ◌||◌, Result, is_err, IsErr, MatchResult, OnOk}
 use Rattle.std.specs.Io.KnownBytes.{append_known}
+use Rattle.std.specs.Mem.{manually_drop_value}
 use Rattle.rota_core.specs.Ports.{KnownBytes, known_len, Begins}
 use Rattle.rota_core.specs.declared.ports.PortFault.{PortFault}
 use Rattle.rota_core.specs.declared.ports.Target.{Ghosts}
@@ -23,6 +24,10 @@ module _ {W : Type 0} {target : Ghosts W} where
   abbrev pub sent_by : Sink W target → KnownBytes
   sent_by sink = target.sent sink.target.now
 
+  -- the bytes that were sent before the sink was made. They are still sent: the sink's field `keeps_sent` says so.
+  abbrev pub sent_before : Sink W target → KnownBytes
+  sent_before sink = target.sent (manually_drop_value sink.before).value
+
   -- the bytes that were sent, and then the bytes in the buffer
   abbrev pub bytes_put : Sink W target → KnownBytes
   bytes_put sink = append_known (sent_by sink) sink.buffer
@@ -31,6 +36,7 @@ module _ {W : Type 0} {target : Ghosts W} where
   -- before with the text after them. A sink that had failed leaves its target unchanged.
   pub record PutsText (old : Sink W target) (result : Result (Unit {0}) PortFault) (text : List ℕ) (new : Sink W target) : Type 0 where
     pub same_target : new.target.ghost_name ≡ old.target.ghost_name
+    pub same_before : sent_before new ≡ sent_before old
     pub failure : sink_failed new ≡ (sink_failed old || is_err result)
     pub target_failure : target.has_failed (target_of new) ≡ (target.has_failed (target_of old) || is_err result)
     pub silent : sink_failed old ≡ true → target_of new ≡ target_of old

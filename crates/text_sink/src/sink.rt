@@ -1,12 +1,16 @@
 //! A buffer of fixed size in front of a target.
 ghost use Rattle.std.specs.Prelude.{◌≡◌, true, false, [], ◌++◌, OnOk, IsErr};
+ghost use Rattle.std.specs.Mem.{manually_drop_value};
 ghost use Rattle.rota_core.specs.Numeral.{numeral, signed_numeral};
+ghost use Rattle.text_sink.specs.KnownFront.{known_front};
 ghost use Rattle.text_sink.specs.Pieces.{piece_text, pieces_text};
 ghost use Rattle.text_sink.specs.TermText.{unit_text};
 
 use crate::text_buffer::{CAPACITY, MAX_DIGITS, MAX_TERM_LEN, TextBuffer, send};
 use itoa::Buffer;
 use rota_core::{PortFault, Target};
+use std::mem::ManuallyDrop;
+use std::snapshot::Snapshot;
 
 /// A piece of a text.
 #[derive(Clone, Copy)]
@@ -20,17 +24,21 @@ pub enum Piece<'a> {
 }
 
 /// A buffer of 4096 bytes in front of a target. The bytes that were sent are at every moment a prefix of the
-/// text that was written. After the first failure every call fails, and the target is not called again.
+/// text that was written, and those that were sent before the sink was made stay sent. After the first
+/// failure every call fails, and the target is not called again.
 #[derive(Drop)]
 pub struct Sink<'a, W: Target> {
     target: &'a mut W,
+    // the target before the sink was made: it takes no bytes, and only the proofs read it
+    before: ManuallyDrop<Snapshot<W>>,
     buffer: TextBuffer,
     failed: bool,
     ghost fails_with_target: { failed ≡ true → W.has_failed target.now ≡ true },
+    ghost keeps_sent: { known_front (W.sent (manually_drop_value before).value) (W.sent target.now) ≡ W.sent (manually_drop_value before).value },
 }
 
 impl<'a, W: Target> Sink<'a, W> {
-    ghost use Rattle.text_sink.specs.Sink.{bytes_put, sink_failed, target_name, target_of, FinishesSink, PutsText};
+    ghost use Rattle.text_sink.specs.Sink.{bytes_put, sent_before, sink_failed, target_name, target_of, FinishesSink, PutsText};
 
     /// A sink over the target. Its text so far is the bytes that were sent to the target.
     ///
@@ -44,11 +52,14 @@ impl<'a, W: Target> Sink<'a, W> {
     pub fn new(target: &'a mut W) -> Sink<'a, W>
         ensures same_target { target_name result ≡ target.entry.ghost_name }
         ensures target { target_of result ≡ target.old }
+        ensures before { sent_before result ≡ W.sent target.old }
         ensures bytes { bytes_put result ≡ W.sent target.old }
         ensures sound { sink_failed result ≡ false }
     {
+        let before = ManuallyDrop::new(Snapshot::of(target));
         Sink {
             target,
+            before,
             buffer: TextBuffer::new(),
             failed: false,
         }

@@ -64,6 +64,7 @@ impl TextBuffer {
     pub fn send_to<W: Target>(&mut self, target: &mut W) -> Result<(), PortFault>
         ensures ok { OnOk result (W.sent target.new ≡ append_known (W.sent target.old) self.old) }
         ensures err { OnErr result (Begins (W.sent target.new) (append_known (W.sent target.old) self.old)) }
+        ensures kept { Begins (W.sent target.old) (W.sent target.new) }
         ensures failure { W.has_failed target.new ≡ (W.has_failed target.old || is_err result) }
         ensures empty { self.new ≡ [] }
     {
@@ -147,6 +148,7 @@ fn copy_in(bytes: &mut [u8], start: usize, piece: &[u8])
 pub fn send<W: Target>(target: &mut W, piece: &[u8]) -> Result<(), PortFault>
     ensures ok { OnOk result (W.sent target.new ≡ append_known (W.sent target.old) piece.now) }
     ensures err { OnErr result (Begins (W.sent target.new) (append_known (W.sent target.old) piece.now)) }
+    ensures kept { Begins (W.sent target.old) (W.sent target.new) }
     ensures failure { W.has_failed target.new ≡ (W.has_failed target.old || is_err result) }
 {
     let mut rest = piece;
