@@ -135,7 +135,7 @@ CONTRIBUTING.md 901
 examples/README.md 302
 bench/README.md 659
 README.md 694
-docs/DECISIONS.md 1021
+docs/DECISIONS.md 1043
 docs/answers.md 1540
 docs/changing.md 785
 docs/embedding.md 1477
@@ -143,7 +143,7 @@ docs/formats.md 1311
 docs/helpers.md 838
 docs/layers.md 532
 docs/model.md 1686
-docs/promises.md 629
+docs/promises.md 632
 docs/proved.md 1355
 docs/reading.md 2729
 docs/rules.md 1354
