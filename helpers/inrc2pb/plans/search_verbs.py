@@ -109,7 +109,7 @@ def _search(store: PlanStore, verb: str, old: WardPlan, asked: Asked) -> List[st
             found = found._replace(plan=without_needless_changes(old, found.plan))
         works, before = found.plan.works, old.works
         new = replace(found.plan, agreed=tuple(one for one in old.agreed if works.get(one) == before.get(one)))
-        lines = _result(store, old, found._replace(plan=new), asked.few_changes)
+        lines = _result(store, old, found._replace(plan=new), asked)
         return [*lines, *store.save(verb, new, old if old.is_planned else None)]
 
 
@@ -120,7 +120,7 @@ def _found(store: PlanStore, old: WardPlan, asked: Asked) -> Found:
     firm: Optional[Found] = None
     try:
         firm = search_plan(old, asked, store.means.progress)
-        if firm.stopped or not not_kept_lines(firm.plan):
+        if firm.stopped or not not_kept_lines(firm.plan.allowing(asked.first)):
             return firm
     except ProgramFault as fault:
         if fault.status != NO_ROSTER or "stopped" in fault.message:
@@ -130,11 +130,13 @@ def _found(store: PlanStore, old: WardPlan, asked: Asked) -> Found:
     return firm if firm and len(not_kept_lines(firm.plan)) <= len(not_kept_lines(free.plan)) else free
 
 
-def _result(store: PlanStore, old: WardPlan, found: Found, few_changes: bool) -> List[str]:
+def _result(store: PlanStore, old: WardPlan, found: Found, asked: Asked) -> List[str]:
     """What the plan does not keep, what it changes, and what it costs."""
-    before, new = (old if old.is_planned else None), found.plan
+    before, new, few_changes = (old if old.is_planned else None), found.plan, asked.few_changes
     lines = not_kept_lines(new)
     is_kept = not lines
+    is_older = len(lines) > len(not_kept_lines(new.allowing(asked.first)))
+    lines += [f"shifts before {new.days.text(asked.first)} stay: plan from an earlier day can take some of them away"] * is_older
     changes = shift_changes(before.cells(), new.cells()) if before else []
     if before and (before.published or few_changes):
         called = call_lines(changes, new.away) or ["nobody to call"]

@@ -156,18 +156,34 @@ class Words(KeptTest):
         self.assertEqual(list(leave_lines(plan)), [f"30 points: Grace, {says}"])
         self.assertEqual(list(leave_lines(self.plan)), [])
 
-    def test_a_nurse_who_leaves_may_have_the_shifts_until_then(self):
+    def test_the_limit_of_a_nurse_who_leaves_is_told_and_keeps_her_shifts_of_days_before_a_search(self):
         # Grace has five shifts from Monday to Friday. Her limit is that of the part of the plan before she leaves, rounded up.
         self.rows["contracts"][1][1:3] = ["0", "8!"]
-        for first, most in ((8, 1), (6, 2), (3, 0)):
+        for first, most in ((8, 4), (6, 3), (3, 2)):
             self.rows["plan"][7][1:] = [""] * (first - 1) + ["away"] * (15 - first)
             self.write()
-            sheet = read_sheet(self.ward, None, ())
-            plan = replace(self.plan, sheet=sheet)
-            limit = next(fact.most for fact, _ in plan.claims if isinstance(fact, Charged) and fact.nurse == "Grace")
-            self.assertEqual(limit, most, first)
+            plan = replace(self.plan, sheet=read_sheet(self.ward, None, ()))
             gone = plan.with_cells(cell for cell in plan.cells() if cell.nurse != "Grace" or cell.day < first - 1)
-            self.assertFalse([line for line in not_kept_lines(gone) if "Grace" in line])
+            shifts = min(first - 1, 5)
+            for day, above in ((0, 0), (3, max(0, 3 - most)), (first - 1, shifts - most)):
+                claims = gone.allowing(day).claims
+                limit = next(fact.most for fact, _ in claims if isinstance(fact, Charged) and fact.nurse == "Grace")
+                self.assertEqual(limit, min(above, max(0, shifts - most)), (first, day))
+            says = [line for line in not_kept_lines(gone) if f"Grace has {shifts} shifts of at most {most}" in line]
+            self.assertEqual(bool(says), shifts > most, first)
+            self.assertFalse([line for line in not_kept_lines(gone.allowing(first - 1)) if "Grace has" in line])
+
+    @unittest.skipUnless(HAS_CBC, "cbc is not installed")
+    def test_who_leaves_with_too_many_shifts_is_named_and_an_earlier_day_takes_one(self):
+        self.rows["contracts"][1][1:3] = ["0", "8!"]
+        self.write()
+        status, out, _ = run("plan", self.ward, "away", "Grace", "Sat", "Sun", "1", "--time", "10")
+        self.assertIn("Grace has 5 shifts of at most 3, above on Thu 3 Dec and Fri 4 Dec", out)
+        self.assertIn("shifts before Sat 5 Dec stay: plan from an earlier day can take some of them away", out)
+        self.assertEqual(status, 6)
+        status, out, _ = run("plan", self.ward, "plan", "--time", "10")
+        self.assertNotIn("Grace has", out)
+        self.assertEqual(status, 0)
 
     def test_an_illness_takes_no_shifts_of_other_days(self):
         # Grace has five shifts in both weeks, and her limit is ten. Two days of 14 count as 8 * 2 / 14 shifts, rounded up.
