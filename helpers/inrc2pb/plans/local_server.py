@@ -13,7 +13,7 @@ from ..programs.interrupts import Interrupts
 from ..shown.calendars import file_names
 from ..shown.page import page_text
 from ..week.faults import Misuse
-from .local_forms import SURE, Fields, verb_of, writes
+from .local_forms import STAMP, SURE, Fields, verb_of, writes
 from .local_jobs import Jobs, Said, fault_lines
 from .local_page import Place, Shown, calendars_markup, page_markup
 from .pages import CALENDARS, roster_content
@@ -72,12 +72,14 @@ class Site:
     def post(self, fields: Dict[str, str]) -> bool:
         """Does what a form asks for. What cannot be done is a fault, which the next page shows. Returns whether the user has to be asked
         first, since the verb writes."""
-        self.kept = fields
+        self.kept = fields if writes(fields) else {**fields, STAMP: self.jobs.folder.stamp}
         try:
             if fields.get("verb") == "stop":
                 self.jobs.stop()
                 return False
             verb = verb_of(fields, self.jobs.seconds)
+            if writes(fields):
+                verb = self.jobs.stamped(verb, fields.get(STAMP, ""))
             if writes(fields) and SURE not in fields and not self.jobs.runs:
                 self.fault = self.jobs.refused(verb)
                 return self.fault is None
@@ -106,6 +108,8 @@ class _Handler(BaseHTTPRequestHandler):
         running = self.site.jobs.said()
         if not path and running.runs:
             return self._answer(page_markup(None, Shown(running, name=self.site.name), self.site.base))
+        # A plan that is written meanwhile has another stamp.
+        stamp = self.site.jobs.folder.stamp
         plan, said = self.site.plan()
         worked = self.site.jobs.verbs().worked_pages(plan)
         if path in worked:
@@ -117,7 +121,7 @@ class _Handler(BaseHTTPRequestHandler):
         else:
             kept = self.site.fields(said)
             place = _place(plan, query) or _looked(plan, kept, said)
-            shown = Shown(said, place, {}, kept, self.site.spreadsheet, worked, self.site.name, self.site.jobs.seconds)
+            shown = Shown(said, place, {}, kept, self.site.spreadsheet, worked, self.site.name, self.site.jobs.seconds, stamp)
             self._answer(page_markup(plan, shown, self.site.base))
 
     def _page(self, path: str, plan: WardPlan) -> None:
