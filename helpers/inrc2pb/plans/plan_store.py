@@ -65,11 +65,7 @@ class PlanStore:
 
     def fitting(self) -> WardPlan:
         """The same; that the spreadsheet does not have its names any more is a Misuse."""
-        plan = self.planned()
-        if plan.unknown:
-            names = f"the plan has '{plan.unknown[0].row()}', and the spreadsheet has not all of these names"
-            raise Misuse(f"{names}: the verb plan makes a plan that fits, undo goes back to the plan before it")
-        return plan
+        return fitted(self.planned())
 
     def save(self, verb: str, plan: WardPlan, old: Optional[WardPlan] = None) -> List[str]:
         """Writes the plan and its pages. Returns the lines that name them."""
@@ -113,6 +109,14 @@ class PlanStore:
             self.status = READ_OR_WRITE
             return [f"the plan holds, but its pages are not written: {fault_line(fault)}"]
         return [f"written: {', '.join(map(str, written))}"] * bool(written)
+
+
+def fitted(plan: WardPlan) -> WardPlan:
+    """The plan; that the spreadsheet does not have its names any more is a Misuse."""
+    if plan.unknown:
+        names = f"the plan has '{plan.unknown[0].row()}', and the spreadsheet has not all of these names"
+        raise Misuse(f"{names}: the verb plan makes a plan that fits, undo goes back to the plan before it")
+    return plan
 
 
 def _ends_period(folder: Path) -> bool:

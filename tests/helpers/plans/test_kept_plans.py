@@ -285,6 +285,28 @@ class Weeks(KeptTest):
         self.does("page")
         self.assertIn(f"{self.ward}/wall.html is as it was: take it down\n", self.does("undo"))
 
+    def test_a_page_of_a_plan_on_the_wall_is_undone_alone(self):
+        self.does("page")
+        self.does("over")
+        cells = self.cells()
+        wall = (self.ward / "wall.html").read_text().split("<table")[1:]
+        self.does("page")
+        printed = self.does("undo")
+        self.assertRegex(printed, "^undone: page, [0-9: -]+\nthe plan of over 0, [0-9: -]+ holds again, with the same shifts\n")
+        self.assertEqual(self.cells(), cells)
+        self.assertEqual((self.ward / "wall.html").read_text().split("<table")[1:], wall)
+        self.assertRegex(self.does("undo"), "^undone: over 0, [0-9: -]+\nthe plan of page, [0-9: -]+ holds again\n")
+
+    def test_undo_writes_no_page_of_a_plan_that_has_other_names(self):
+        self.does("page")
+        roster = self.last() / "roster-1.txt"
+        self.does("over")
+        roster.write_text(roster.read_text().replace("Grace Mon Day", "Grcae Mon Day"))
+        wall = (self.ward / "wall.html").read_bytes()
+        printed = self.does("undo")
+        self.assertIn("its pages are not written: the plan has 'Grcae Mon Day Nurse', and the spreadsheet has not all of these names", printed)
+        self.assertEqual((self.ward / "wall.html").read_bytes(), wall)
+
     def test_the_weeks_as_they_were_worked(self):
         self.does("over", "Finn", "Fri", "off")
         page = ElementTree.parse(self.ward / "worked-2026-11-30.html")
