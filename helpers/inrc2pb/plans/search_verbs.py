@@ -14,9 +14,10 @@ from .days_beside import beside_lines
 from .few_changes import BESIDE_POINTS, CALL_POINTS, POINTS
 from .leave_words import leave_lines
 from .needless_changes import without_needless_changes
+from .not_kept import not_kept_lines
 from .plan_days import WEEK_DAYS
 from .plan_search import MOST, NONE, Asked, Found, search_plan, why_no_plan
-from .plan_store import PlanStore, cost_lines, not_kept_lines, wording_of
+from .plan_store import PlanStore, cost_lines, wording_of
 from .shift_changes import call_lines, cell_text, change_lines, shift_changes
 from .ward_plan import WardPlan
 from .wish_words import wish_lines

@@ -19,8 +19,8 @@ from inrc2pb.plans.days_beside_absences import days_off_beside_absences
 from inrc2pb.plans.few_changes import with_few_changes
 from inrc2pb.plans.leave_words import leave_lines
 from inrc2pb.plans.needless_changes import without_needless_changes
+from inrc2pb.plans.not_kept import not_kept_lines
 from inrc2pb.plans.plan_days import PlanDays
-from inrc2pb.plans.plan_store import not_kept_lines
 from inrc2pb.plans.shift_changes import call_lines, change_lines, shift_changes
 from inrc2pb.plans.ward_plan import read_stored
 from inrc2pb.plans.wish_words import wish_lines
@@ -181,8 +181,13 @@ class Words(KeptTest):
         self.assertIn("Grace has 5 shifts of at most 3, above on Thu 3 Dec and Fri 4 Dec", out)
         self.assertIn("shifts before Sat 5 Dec stay: plan from an earlier day can take some of them away", out)
         self.assertEqual(status, 6)
+        # The page with costs says it also later, and that for the wall does not.
+        self.does("page")
+        self.assertIn("Grace has 5 shifts of at most 3", (self.ward / "roster.html").read_text())
+        self.assertNotIn("Grace has", (self.ward / "wall.html").read_text())
+        self.does("undo")
         status, out, _ = run("plan", self.ward, "plan", "--time", "10")
-        self.assertNotIn("Grace has", out)
+        self.assertNotIn("Grace has", out + (self.ward / "roster.html").read_text())
         self.assertEqual(status, 0)
 
     def test_an_illness_takes_no_shifts_of_other_days(self):
