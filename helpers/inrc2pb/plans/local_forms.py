@@ -105,8 +105,8 @@ def form_markup(
     return element("form", *inside, method="post", action=address)
 
 
-def sure_markup(fields: Fields, plan: Optional[WardPlan], address: str) -> Markup:
-    """The question before a verb writes. Without a plan, which the spreadsheet may not give now, it is undo."""
+def sure_markup(fields: Fields, plan: Optional[WardPlan], address: str, told: Sequence[str] = ()) -> Markup:
+    """The question before a verb writes, with these lines. Without a plan, which the spreadsheet may not give now, it is undo."""
     form = next(form for form in FORMS if form.verb == fields["verb"])
     named = [plan.days.span([plan.first, plan.first + WEEK_DAYS - 1])] if plan and form.verb == "over" else []
     known = [(name, value) for name, value in fields.items() if name not in ("verb", STAMP) and value]
@@ -117,6 +117,7 @@ def sure_markup(fields: Fields, plan: Optional[WardPlan], address: str) -> Marku
     return element(
         "section",
         element("h2", f"{form.heading or form.button}{f': {given}' if given else ''}?"),
+        *[element("pre", "\n".join(told))] * bool(told),
         element("p", f"This writes {form.writes}." + " Undo takes it back." * (form.verb != "undo")),
         element("form", *hidden, yes, " ", element("a", "No", href=address), method="post", action=address),
     )

@@ -40,14 +40,18 @@ class Jobs:
         means = Means(self._read, Progress(text), lambda line: print(line, file=text), "", "the button below writes it")
         return Verbs(self.folder, means, only_reads)
 
-    def refused(self, verb: Callable[[Verbs], List[str]]) -> Optional[Said]:
-        """Why a verb would write nothing, if it would not."""
+    def tried(self, verb: Callable[[Verbs], List[str]]) -> Said:
+        """What a verb says before it writes; it is a fault if the verb would write nothing."""
         verbs = self.verbs(only_reads=True)
         try:
             lines = verb(verbs)
         except Exception as fault:
             return Said(fault_lines(fault), True)
-        return Said(lines, True) if verbs.status else None
+        return Said(lines, bool(verbs.status))
+
+    def forget(self) -> None:
+        """What the last verb has said is said no more."""
+        self._said = Said([])
 
     def stamped(self, verb: Callable[[Verbs], List[str]], stamp: str) -> Callable[[Verbs], List[str]]:
         """The verb, if the plan that holds has this stamp; otherwise a Misuse."""

@@ -52,7 +52,7 @@ class Place(NamedTuple):
 class Shown(NamedTuple):
     """What a page shows beside the plan: what was said, the cell that was clicked, the form that asks whether to write, the fields of the
     last form, the path of the spreadsheet, the pages of weeks that are over with their texts, the name of the ward, the seconds of a search,
-    if they are not the usual ones, and the stamp of the plan."""
+    if they are not the usual ones, the stamp of the plan, and the lines that are told with a question."""
 
     said: Said
     place: Optional[Place] = None
@@ -63,6 +63,7 @@ class Shown(NamedTuple):
     name: str = "Ward"
     seconds: Optional[float] = None
     stamp: str = ""
+    told: Sequence[str] = ()
 
 
 def page_markup(plan: Optional[WardPlan], shown: Shown, address: str) -> str:
@@ -72,7 +73,7 @@ def page_markup(plan: Optional[WardPlan], shown: Shown, address: str) -> str:
     is_old = bool(shown.asks) or (shown.place is not None and not said.is_fault and not said.runs)
     parts: List[Markup] = [element("h1", name), *([] if is_old else _said(said, shown.kept, address))]
     if shown.asks:
-        parts.append(sure_markup(shown.asks, plan, address))
+        parts.append(sure_markup(shown.asks, plan, address, shown.told))
     elif plan and not said.runs:
         if shown.place and plan.is_planned:
             parts.append(_cell(plan, shown.place, address, shown.stamp))

@@ -140,7 +140,7 @@ def _result(store: PlanStore, old: WardPlan, found: Found, asked: Asked) -> List
     lines += [f"shifts before {new.days.text(asked.first)} stay: plan from an earlier day can take some of them away"] * is_older
     changes = shift_changes(before.cells(), new.cells()) if before else []
     if before and (before.published or few_changes):
-        called = call_lines(changes, new.away) or ["nobody to call"]
+        called = call_lines(changes, new.away) or ["no nurse has to be called"]
         lines += [*change_lines(changes, new.days, new.away), *called] if changes else ["no shift changes"]
     elif before:
         # Nobody has seen the older plan.

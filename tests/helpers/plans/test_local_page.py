@@ -1,6 +1,7 @@
 """Tests of the local page of `inrc2pb-plan`: its requests, and what it refuses."""
 
 import fcntl
+import html
 import re
 import time
 import unittest
@@ -9,7 +10,7 @@ from urllib.parse import urlencode
 
 from served_page import ServedPage
 from test_plans import DATES
-from ward import HAS_CBC
+from ward import HAS_CBC, run
 
 from inrc2pb.plans.local_forms import verb_of
 
@@ -82,6 +83,37 @@ class Page(ServedPage):
         self.write()
         page = self.sends(verb="check")
         self.assertTrue("Amara would rather be off on Mon." in page and 'class="fault"' not in page)
+
+    def test_a_fault_that_was_corrected_is_said_no_more(self):
+        self.write_plan()
+        self.rows["plan"][1][1] = "wihs"
+        self.write()
+        self.assertIn("did you mean wish?", self.sends(verb="check"))
+        self.assertIn("did you mean wish?", self.asks()[1])
+        self.rows["plan"][1][1] = "wish"
+        self.write()
+        for _ in range(2):
+            page = self.asks()[1]
+            self.assertFalse("did you mean wish?" in page or 'class="fault"' in page)
+            self.assertIn("End the week</button>", page)
+        # A fault of a form stays.
+        self.sends(verb="back", nurse="Chen", first="2026-12-04")
+        for _ in range(2):
+            self.assertIn("Chen is not away on Fri 4 Dec", self.asks()[1])
+
+    def test_the_question_of_a_swap_has_what_it_costs(self):
+        self.write_plan()
+        nurse, day = next(key for key in sorted(self.cells()) if key[1] >= 7)
+        form = re.search("<form[^>]*>(?:(?!</form>).)* takes it.*?</form>", self.asks(path=f"{self.site.path}?nurse={nurse}&day={day}")[1])[0]
+        other = re.search('name="other" value="([^"]*)"', form)[1]
+        words = re.search('name="other day" value="([^"]*)"', form)
+        fields = {"nurse": nurse, "first": DATES[day], "other": other, **({"other day": words[1]} if words else {})}
+        says = run("plan", self.ward, "swap", *fields.values())[1].split("nothing is written")[0].splitlines()
+        page = html.unescape(self.asks("POST", form=urlencode({"verb": "swap", **fields, "write it": "yes"}))[1])
+        self.assertIn("Yes, write it", page)
+        self.assertIn(f"<pre>{chr(10).join(says)}</pre>", page)
+        self.assertTrue(any(" to call: " in line for line in says))
+        self.assertEqual([path.name[:4] for path in (self.ward / "plans").glob("0*")], ["0001"])
 
     def test_what_is_wrong_is_said_before_the_question(self):
         self.write_plan()
