@@ -16,8 +16,8 @@ Fields = Mapping[str, str]
 _MOST_SECONDS = 3600.0
 _NEW_PLAN = "a new plan, and its pages"
 _AWAY_TEXT = "on one day, or to the last day; who leaves the ward is away to the end of the plan; plans from the first day on"
-# The field of a form that writes, after the user was asked.
-SURE = "sure"
+# The field of a form that writes, after the user was asked, and the one that says for which plan it was shown.
+SURE, STAMP = "sure", "stamp"
 
 
 class Form(NamedTuple):
@@ -89,24 +89,27 @@ def _reason(fields: Fields) -> str:
     return reason
 
 
-def form_markup(form: Form, plan: Optional[WardPlan], address: str, kept: Fields = {}, seconds: Optional[float] = None) -> Markup:
-    """A form of the page, with these values in its fields, and this time of a search. With the choice `-` a field is left out. One without
-    fields needs no plan."""
+def form_markup(
+    form: Form, plan: Optional[WardPlan], address: str, stamp: str, kept: Fields = {}, seconds: Optional[float] = None
+) -> Markup:
+    """A form of the page, with the stamp of the plan, these values in its fields, and this time of a search. With the choice `-` a field is
+    left out. One without fields needs no plan."""
+    hidden = [element("input", type="hidden", name=STAMP, value=stamp)] * bool(form.writes)
     fields = [_field(name, plan, kept.get(name, ""), seconds) for name in form.fields if plan]
     button = element("button", form.button, name="verb", value=form.verb)
     text = f"{form.text}; writes {form.writes}" if form.writes else form.text
     text = f"{form.text}; writes nothing, but with 'write it' {_NEW_PLAN}" if form.verb == "swap" else text
-    inside = [*fields, button, " ", element("small", text)]
+    inside = [*hidden, *fields, button, " ", element("small", text)]
     if form.heading:
         inside = [element("fieldset", element("legend", form.heading), *inside)]
     return element("form", *inside, method="post", action=address)
 
 
-def sure_markup(fields: Fields, plan: Optional[WardPlan], address: str) -> Markup:
-    """The question before a verb writes. Without a plan, which the spreadsheet may not give now, it is undo."""
+def sure_markup(fields: Fields, plan: Optional[WardPlan], address: str, told: Sequence[str] = ()) -> Markup:
+    """The question before a verb writes, with these lines. Without a plan, which the spreadsheet may not give now, it is undo."""
     form = next(form for form in FORMS if form.verb == fields["verb"])
     named = [plan.days.span([plan.first, plan.first + WEEK_DAYS - 1])] if plan and form.verb == "over" else []
-    known = [(name, value) for name, value in fields.items() if name != "verb" and value]
+    known = [(name, value) for name, value in fields.items() if name not in ("verb", STAMP) and value]
     named += [readable(f"{_LABELS.get(name, name)} {_shown(plan, value) if plan else value}") for name, value in known]
     given = ", ".join(named)
     hidden = [element("input", type="hidden", name=name, value=value) for name, value in {**fields, SURE: "yes"}.items()]
@@ -114,6 +117,7 @@ def sure_markup(fields: Fields, plan: Optional[WardPlan], address: str) -> Marku
     return element(
         "section",
         element("h2", f"{form.heading or form.button}{f': {given}' if given else ''}?"),
+        *[element("pre", "\n".join(told))] * bool(told),
         element("p", f"This writes {form.writes}." + " Undo takes it back." * (form.verb != "undo")),
         element("form", *hidden, yes, " ", element("a", "No", href=address), method="post", action=address),
     )

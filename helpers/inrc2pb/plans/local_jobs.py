@@ -11,6 +11,9 @@ from .plan_store import Means, Reader
 from .verbs import Verbs
 from .ward_folder import WardFolder
 
+# What a form says that was shown for an older plan.
+CHANGED = "the plan has changed since this form was shown, so nothing was written: look at the plan below, and press the button again"
+
 
 class Said(NamedTuple):
     """What a verb has said: its lines, whether they are a fault, and whether it still runs."""
@@ -37,14 +40,28 @@ class Jobs:
         means = Means(self._read, Progress(text), lambda line: print(line, file=text), "", "the button below writes it")
         return Verbs(self.folder, means, only_reads)
 
-    def refused(self, verb: Callable[[Verbs], List[str]]) -> Optional[Said]:
-        """Why a verb would write nothing, if it would not."""
+    def tried(self, verb: Callable[[Verbs], List[str]]) -> Said:
+        """What a verb says before it writes; it is a fault if the verb would write nothing."""
         verbs = self.verbs(only_reads=True)
         try:
             lines = verb(verbs)
         except Exception as fault:
             return Said(fault_lines(fault), True)
-        return Said(lines, True) if verbs.status else None
+        return Said(lines, bool(verbs.status))
+
+    def forget(self) -> None:
+        """What the last verb has said is said no more."""
+        self._said = Said([])
+
+    def stamped(self, verb: Callable[[Verbs], List[str]], stamp: str) -> Callable[[Verbs], List[str]]:
+        """The verb, if the plan that holds has this stamp; otherwise a Misuse."""
+
+        def checked(verbs: Verbs) -> List[str]:
+            if self.folder.stamp != stamp:
+                raise Misuse(CHANGED)
+            return verb(verbs)
+
+        return checked
 
     @property
     def runs(self) -> bool:

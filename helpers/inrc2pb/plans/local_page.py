@@ -11,7 +11,7 @@ from ..shown.markup import Markup, element, joined
 from ..shown.page import page_style
 from ..shown.page_tables import Content, RosterTable
 from ..week.dates import day_names
-from .local_forms import FORMS, Fields, form_markup, sure_markup, swap_markup
+from .local_forms import FORMS, STAMP, Fields, form_markup, sure_markup, swap_markup
 from .local_jobs import Said
 from .pages import CALENDARS, roster_content
 from .plan_days import WEEK_DAYS
@@ -51,8 +51,8 @@ class Place(NamedTuple):
 
 class Shown(NamedTuple):
     """What a page shows beside the plan: what was said, the cell that was clicked, the form that asks whether to write, the fields of the
-    last form, the path of the spreadsheet, the pages of weeks that are over with their texts, the name of the ward, and the seconds of
-    a search, if they are not the usual ones."""
+    last form, the path of the spreadsheet, the pages of weeks that are over with their texts, the name of the ward, the seconds of a search,
+    if they are not the usual ones, the stamp of the plan, and the lines that are told with a question."""
 
     said: Said
     place: Optional[Place] = None
@@ -62,6 +62,8 @@ class Shown(NamedTuple):
     worked: Mapping[str, str] = {}
     name: str = "Ward"
     seconds: Optional[float] = None
+    stamp: str = ""
+    told: Sequence[str] = ()
 
 
 def page_markup(plan: Optional[WardPlan], shown: Shown, address: str) -> str:
@@ -71,16 +73,16 @@ def page_markup(plan: Optional[WardPlan], shown: Shown, address: str) -> str:
     is_old = bool(shown.asks) or (shown.place is not None and not said.is_fault and not said.runs)
     parts: List[Markup] = [element("h1", name), *([] if is_old else _said(said, shown.kept, address))]
     if shown.asks:
-        parts.append(sure_markup(shown.asks, plan, address))
+        parts.append(sure_markup(shown.asks, plan, address, shown.told))
     elif plan and not said.runs:
         if shown.place and plan.is_planned:
-            parts.append(_cell(plan, shown.place, address))
+            parts.append(_cell(plan, shown.place, address, shown.stamp))
         to_roster = [element("a", "To the roster", href=f"#{_ROSTER}")] * plan.is_planned
         parts.append(element("p", _GUIDE.format(shown.spreadsheet), *to_roster))
         clicked = {"nurse": shown.place.nurse, "first": plan.days.head(shown.place.day)} if shown.place else {}
         for form in FORMS:
             kept = shown.kept if form.verb == shown.kept.get("verb") and not clicked else clicked
-            parts += [form_markup(form, plan, address, kept, shown.seconds)] * (plan.is_planned or not form.needs_plan)
+            parts += [form_markup(form, plan, address, shown.stamp, kept, shown.seconds)] * (plan.is_planned or not form.needs_plan)
     elif plan is None and not said.runs:
         parts += _without_plan(shown, address)
     if plan and (plan.is_planned and plan.weeks or shown.worked):
@@ -96,7 +98,7 @@ def _without_plan(shown: Shown, address: str) -> List[Markup]:
     begin = "Correct that in" if shown.said.is_fault else "Write the days of the next period into the sheet plan of"
     return [
         element("p", f"{begin} {shown.spreadsheet}, save it, and ", again, "."),
-        *(form_markup(form, None, address) for form in FORMS if not (form.needs_plan or form.fields)),
+        *(form_markup(form, None, address, shown.stamp) for form in FORMS if not (form.needs_plan or form.fields)),
         element("p", *_linked(_worked(shown), address), class_="links"),
     ]
 
@@ -160,7 +162,7 @@ def calendars_markup(plan: WardPlan, address: str, there: Collection[str]) -> st
     return page_of("Calendars", [style], [element("h1", "Calendars"), element("p", text), element("ul", *items), back])
 
 
-def _cell(plan: WardPlan, place: Place, address: str) -> Markup:
+def _cell(plan: WardPlan, place: Place, address: str, stamp: str) -> Markup:
     """What a nurse is charged in the week of a day, and who could take her shift on it."""
     nurse, day = place
     week = plan.view().weeks[day // WEEK_DAYS - plan.open_week]
@@ -185,6 +187,7 @@ def _cell(plan: WardPlan, place: Place, address: str) -> Markup:
                 "first": plan.days.head(day),
                 "other": offer.swap.other,
                 **({"other day": others[0]} if others else {}),
+                STAMP: stamp,
             }
             parts.append(swap_markup(words, offer_text(plan.days, swaps, offer), address))
     return element("section", *parts)

@@ -5,7 +5,7 @@ import secrets
 import threading
 from dataclasses import replace
 from http.server import BaseHTTPRequestHandler, ThreadingHTTPServer
-from typing import Dict, Optional, Tuple
+from typing import Dict, List, Optional, Tuple
 from urllib.parse import parse_qsl, quote, urlsplit
 
 from ..judging.absences import readable
@@ -13,7 +13,7 @@ from ..programs.interrupts import Interrupts
 from ..shown.calendars import file_names
 from ..shown.page import page_text
 from ..week.faults import Misuse
-from .local_forms import SURE, Fields, verb_of, writes
+from .local_forms import STAMP, SURE, Fields, verb_of, writes
 from .local_jobs import Jobs, Said, fault_lines
 from .local_page import Place, Shown, calendars_markup, page_markup
 from .pages import CALENDARS, roster_content
@@ -40,8 +40,9 @@ class Site:
         # The ward, as far as it is known.
         self.name = "Ward"
         self.fault: Optional[Said] = None
-        # The fields of the last form.
+        # The fields of the last form, and whether the spreadsheet had a fault when it was last read.
         self.kept: Dict[str, str] = {}
+        self._had_fault = False
 
     @property
     def spreadsheet(self) -> str:
@@ -66,25 +67,34 @@ class Site:
         except Exception as fault:
             # What undo has done is told also if the spreadsheet has a fault.
             done = said.lines if self.kept.get("verb") == "undo" and not said.is_fault else []
+            self._had_fault = True
             return None, said if said.runs else Said([*fault_lines(fault), *done], True)
+        if self._had_fault and said.is_fault:
+            # What a verb has said of the fault is not so any more.
+            self.jobs.forget()
+            said = Said([])
+        self._had_fault = False
         return plan, refused or said
 
-    def post(self, fields: Dict[str, str]) -> bool:
-        """Does what a form asks for. What cannot be done is a fault, which the next page shows. Returns whether the user has to be asked
-        first, since the verb writes."""
-        self.kept = fields
+    def post(self, fields: Dict[str, str]) -> Optional[List[str]]:
+        """Does what a form asks for. What cannot be done is a fault, which the next page shows. If the user has to be asked first, since the
+        verb writes, returns the lines that she is told with the question."""
+        self.kept = fields if writes(fields) else {**fields, STAMP: self.jobs.folder.stamp}
         try:
             if fields.get("verb") == "stop":
                 self.jobs.stop()
-                return False
+                return None
             verb = verb_of(fields, self.jobs.seconds)
+            if writes(fields):
+                verb = self.jobs.stamped(verb, fields.get(STAMP, ""))
             if writes(fields) and SURE not in fields and not self.jobs.runs:
-                self.fault = self.jobs.refused(verb)
-                return self.fault is None
+                tried = self.jobs.tried(verb)
+                self.fault = tried if tried.is_fault else None
+                return None if tried.is_fault else tried.lines if fields["verb"] == "swap" else []
             self.jobs.begin(verb)
         except Misuse as fault:
             self.fault = Said([str(fault)], True)
-        return False
+        return None
 
     def fields(self, said: Said) -> Dict[str, str]:
         """The values that stay in the form that was sent last: those of a look for a swap, or of a verb that failed."""
@@ -106,6 +116,8 @@ class _Handler(BaseHTTPRequestHandler):
         running = self.site.jobs.said()
         if not path and running.runs:
             return self._answer(page_markup(None, Shown(running, name=self.site.name), self.site.base))
+        # A plan that is written meanwhile has another stamp.
+        stamp = self.site.jobs.folder.stamp
         plan, said = self.site.plan()
         worked = self.site.jobs.verbs().worked_pages(plan)
         if path in worked:
@@ -117,7 +129,7 @@ class _Handler(BaseHTTPRequestHandler):
         else:
             kept = self.site.fields(said)
             place = _place(plan, query) or _looked(plan, kept, said)
-            shown = Shown(said, place, {}, kept, self.site.spreadsheet, worked, self.site.name, self.site.jobs.seconds)
+            shown = Shown(said, place, {}, kept, self.site.spreadsheet, worked, self.site.name, self.site.jobs.seconds, stamp)
             self._answer(page_markup(plan, shown, self.site.base))
 
     def _page(self, path: str, plan: WardPlan) -> None:
@@ -150,9 +162,10 @@ class _Handler(BaseHTTPRequestHandler):
             fields = dict(parse_qsl(self.rfile.read(int(length)).decode(), max_num_fields=_MOST_FIELDS))
         except ValueError:
             return self._refuse(400, "this is no form of the page")
-        if self.site.post(fields):
+        told = self.site.post(fields)
+        if told is not None:
             plan, said = self.site.plan()
-            return self._answer(page_markup(plan, Shown(said, asks=fields, name=self.site.name), self.site.base))
+            return self._answer(page_markup(plan, Shown(said, asks=fields, name=self.site.name, told=told), self.site.base))
         self.send_response(303)
         self.send_header("Location", self.site.base)
         self.send_header("Content-Length", "0")

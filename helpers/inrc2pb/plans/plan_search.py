@@ -152,7 +152,7 @@ def _later_claims(old: WardPlan, first: int) -> List[Claim]:
     def is_past(fact: Fact) -> bool:
         return isinstance(fact, Choice) and WEEK_DAYS * (fact.week - 1) + fact.day < first
 
-    return [claim for claim in old.claims if not is_past(claim.fact)]
+    return [claim for claim in old.allowing(first).claims if not is_past(claim.fact)]
 
 
 def _past_claims(old: WardPlan, first: int) -> Iterator[Claim]:

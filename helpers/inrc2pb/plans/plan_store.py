@@ -7,8 +7,6 @@ from dataclasses import replace
 from pathlib import Path
 from typing import Callable, Dict, Iterable, List, NamedTuple, Optional, Sequence, Set
 
-from ..judging.absences import absences_of, in_words, joined, readable, working_while_away
-from ..judging.limits import exceeded, limits_in_words, limits_way_out
 from ..programs.program import READ_OR_WRITE
 from ..programs.progress import Progress
 from ..week.faults import FileFault, Misuse, fault_line
@@ -65,11 +63,7 @@ class PlanStore:
 
     def fitting(self) -> WardPlan:
         """The same; that the spreadsheet does not have its names any more is a Misuse."""
-        plan = self.planned()
-        if plan.unknown:
-            names = f"the plan has '{plan.unknown[0].row()}', and the spreadsheet has not all of these names"
-            raise Misuse(f"{names}: the verb plan makes a plan that fits, undo goes back to the plan before it")
-        return plan
+        return fitted(self.planned())
 
     def save(self, verb: str, plan: WardPlan, old: Optional[WardPlan] = None) -> List[str]:
         """Writes the plan and its pages. Returns the lines that name them."""
@@ -115,6 +109,14 @@ class PlanStore:
         return [f"written: {', '.join(map(str, written))}"] * bool(written)
 
 
+def fitted(plan: WardPlan) -> WardPlan:
+    """The plan; that the spreadsheet does not have its names any more is a Misuse."""
+    if plan.unknown:
+        names = f"the plan has '{plan.unknown[0].row()}', and the spreadsheet has not all of these names"
+        raise Misuse(f"{names}: the verb plan makes a plan that fits, undo goes back to the plan before it")
+    return plan
+
+
 def _ends_period(folder: Path) -> bool:
     """Whether the verb of a plan's folder has ended a period; a folder that is damaged has not."""
     try:
@@ -146,19 +148,3 @@ def cost_lines(plan: WardPlan) -> List[str]:
         penalties = plan.penalties(Path(folder))
     lines = [f"week {number}: {points} points" for number, points in penalties.items()]
     return [*lines, f"{plural(len(lines), 'week')}: {sum(penalties.values())} points"] if len(lines) > 1 else lines
-
-
-def not_kept_lines(plan: WardPlan) -> List[str]:
-    """Who works while she is away, or above a limit that holds, and what would help."""
-    lines = []
-    for number in plan.weeks:
-        cells, week, names = plan.rosters[number], plan.week(number), plan.day_names(number)
-        broken, over = working_while_away(absences_of(week.data), cells), exceeded(week, week.data.limits, cells)
-        if broken:
-            skills = joined(dict.fromkeys(readable(cell.skill) for cell in broken))
-            lines.append(f"week {number}: no plan was found that keeps every absence: {in_words(broken, names)}")
-            lines.append(f"week {number}: lower the minimum of {skills} in the sheet needs, or give someone the skill")
-        if over:
-            lines.append(f"week {number}: no plan was found that keeps every limit: {limits_in_words(over, cells, names)}")
-            lines.append(f"week {number}: {limits_way_out(week, over, cells)}")
-    return lines

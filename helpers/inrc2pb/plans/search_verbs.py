@@ -14,9 +14,10 @@ from .days_beside import beside_lines
 from .few_changes import BESIDE_POINTS, CALL_POINTS, POINTS
 from .leave_words import leave_lines
 from .needless_changes import without_needless_changes
+from .not_kept import not_kept_lines
 from .plan_days import WEEK_DAYS
 from .plan_search import MOST, NONE, Asked, Found, search_plan, why_no_plan
-from .plan_store import PlanStore, cost_lines, not_kept_lines, wording_of
+from .plan_store import PlanStore, cost_lines, wording_of
 from .shift_changes import call_lines, cell_text, change_lines, shift_changes
 from .ward_plan import WardPlan
 from .wish_words import wish_lines
@@ -109,7 +110,7 @@ def _search(store: PlanStore, verb: str, old: WardPlan, asked: Asked) -> List[st
             found = found._replace(plan=without_needless_changes(old, found.plan))
         works, before = found.plan.works, old.works
         new = replace(found.plan, agreed=tuple(one for one in old.agreed if works.get(one) == before.get(one)))
-        lines = _result(store, old, found._replace(plan=new), asked.few_changes)
+        lines = _result(store, old, found._replace(plan=new), asked)
         return [*lines, *store.save(verb, new, old if old.is_planned else None)]
 
 
@@ -120,7 +121,7 @@ def _found(store: PlanStore, old: WardPlan, asked: Asked) -> Found:
     firm: Optional[Found] = None
     try:
         firm = search_plan(old, asked, store.means.progress)
-        if firm.stopped or not not_kept_lines(firm.plan):
+        if firm.stopped or not not_kept_lines(firm.plan.allowing(asked.first)):
             return firm
     except ProgramFault as fault:
         if fault.status != NO_ROSTER or "stopped" in fault.message:
@@ -130,14 +131,16 @@ def _found(store: PlanStore, old: WardPlan, asked: Asked) -> Found:
     return firm if firm and len(not_kept_lines(firm.plan)) <= len(not_kept_lines(free.plan)) else free
 
 
-def _result(store: PlanStore, old: WardPlan, found: Found, few_changes: bool) -> List[str]:
+def _result(store: PlanStore, old: WardPlan, found: Found, asked: Asked) -> List[str]:
     """What the plan does not keep, what it changes, and what it costs."""
-    before, new = (old if old.is_planned else None), found.plan
+    before, new, few_changes = (old if old.is_planned else None), found.plan, asked.few_changes
     lines = not_kept_lines(new)
     is_kept = not lines
+    is_older = len(lines) > len(not_kept_lines(new.allowing(asked.first)))
+    lines += [f"shifts before {new.days.text(asked.first)} stay: plan from an earlier day can take some of them away"] * is_older
     changes = shift_changes(before.cells(), new.cells()) if before else []
     if before and (before.published or few_changes):
-        called = call_lines(changes, new.away) or ["nobody to call"]
+        called = call_lines(changes, new.away) or ["no nurse has to be called"]
         lines += [*change_lines(changes, new.days, new.away), *called] if changes else ["no shift changes"]
     elif before:
         # Nobody has seen the older plan.

@@ -22,7 +22,8 @@ NOT_WRITTEN = "nothing is written"
 
 
 def swap(store: PlanStore, words: Sequence[str], do: bool) -> List[str]:
-    """What a swap costs and breaks; who else could swap. With `do` it is written, and later plans keep it."""
+    """What a swap costs and breaks; who else could swap. With `do` it is written, and later plans keep it; a verb that only reads says
+    what the swap costs and breaks."""
     old = store.fitting()
     names = [readable(nurse) for nurse in old.scenario.nurses][:2]
     wording = wording_of(old, words, f"swap {names[0]} Fri {names[-1]} Sat, or swap {names[0]} Fri for all who could")
@@ -58,7 +59,7 @@ def _swap(store: PlanStore, old: WardPlan, asked: Swap, do: bool) -> List[str]:
     if not do:
         return [*lines, f"{NOT_WRITTEN}: {store.means.write}", *offer_lines(old, swaps, *shift_of(swaps, asked))]
     if store.only_reads:
-        return []
+        return lines
     # The program has the last word on the new rosters.
     cost_lines(new)
     agreed = [AgreedDay(nurse, day) for nurse in (asked.one, asked.other) for day in asked.days]

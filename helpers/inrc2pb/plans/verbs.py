@@ -17,7 +17,7 @@ from . import search_verbs, swap_verb, week_end
 from .days_beside import beside_lines
 from .pages import WALL
 from .plan_days import WEEK_DAYS
-from .plan_store import Means, PlanStore
+from .plan_store import Means, PlanStore, fitted
 from .record import read_record
 from .ward_folder import WardFolder
 from .ward_plan import WardPlan
@@ -81,10 +81,7 @@ class Verbs:
 
     def page(self) -> List[str]:
         """Writes all pages and calendars. From now on the plan hangs on the wall."""
-        plan = self._store.fitting()
-        if not plan.published:
-            return self._store.save("page", replace(plan, published=True))
-        return self._store.pages(plan)
+        return self._store.save("page", replace(self._store.fitting(), published=True))
 
     def undo(self) -> List[str]:
         """The plan before the last verb holds again."""
@@ -96,9 +93,9 @@ class Verbs:
         last = folder.last()
         if last is None:
             return [f"undone: {undone}; there is no plan any more"]
-        lines = [f"undone: {undone}", f"the plan of {_made(last)} holds again"]
+        lines = [f"undone: {undone}", f"the plan of {_made(last)} holds again{', with the same shifts' * undone.startswith('page, ')}"]
         try:
-            plan = self.current()
+            plan = fitted(self.current())
             stale = not plan.published and (folder.top / WALL).exists()
             return [*lines, *self._store.pages(plan), *[f"{folder.top / WALL} is as it was: take it down"] * stale]
         except (FileFault, Misuse) as fault:

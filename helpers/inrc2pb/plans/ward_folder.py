@@ -53,6 +53,12 @@ class WardFolder:
         """The folder of the plan that holds, if there is one."""
         return next(reversed(self.all_plans()), None)
 
+    @property
+    def stamp(self) -> str:
+        """The name of the plan that holds, or `none`: another one since a page was shown has another stamp."""
+        last = self.last()
+        return last.name if last else "none"
+
     def add(self, verb: str, texts: Dict[str, str], now: datetime.datetime) -> Path:
         """Writes a plan with these files: its folder is there as a whole or not at all."""
         number = 1 + max((int(path.name[:4]) for path in [*self.all_plans(), *self.undone()]), default=0)

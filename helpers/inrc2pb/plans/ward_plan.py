@@ -17,14 +17,14 @@ from ..week.facts import Claim
 from ..week.faults import Misuse
 from ..week.hints import plural
 from ..week.files import history_text, read_history, read_scenario, read_solution, read_week, solution_text, write_solution
-from ..week.reasons import read_reasons
+from ..week.reasons import Reasons, read_reasons
 from ..week.records import Cell, History, Scenario, Solution, Week, WeekData
 from ..week.writing import write_text
 from . import record
 from .agreed_days import NAME as AGREED
 from .agreed_days import AgreedDay, agreed_text, read_agreed
 from .free_days import days_away_of
-from .leavers import leaving_days, with_planned_shifts
+from .leavers import leaving_days, with_shifts_of_the_ill, with_shifts_until_leaving
 from .plan_days import PERIOD_IS_OVER, WEEK_DAYS, PeriodOver, PlanDays
 from .record import Record, read_record
 from .written_absences import WrittenAbsence, read_written, written_text
@@ -119,10 +119,12 @@ class WardPlan:
     @cached_property
     def claims(self) -> Tuple[Claim, ...]:
         """The absences and the limits that hold, as facts."""
-        claims, history = read_given(FACTS, self.scenario, self.sheet.texts[FACTS]), credited(self.start, self.sheet.credit)
-        reasons = read_reasons(REASONS, self.scenario, self.sheet.texts[REASONS])
-        leaving = leaving_days(reasons, self.days.total)
-        return tuple(with_planned_shifts(claims, self.scenario, history, self.rosters, leaving, reasons, self.sheet.credit))
+        claims = read_given(FACTS, self.scenario, self.sheet.texts[FACTS])
+        return tuple(with_shifts_of_the_ill(claims, self.scenario, self.histories[0], self.rosters, self._reasons, self.sheet.credit))
+
+    @cached_property
+    def _reasons(self) -> Reasons:
+        return read_reasons(REASONS, self.scenario, self.sheet.texts[REASONS])
 
     @cached_property
     def data(self) -> List[WeekData]:
@@ -191,24 +193,28 @@ class WardPlan:
         new.__dict__.update({name: value for name, value in self.__dict__.items() if name in _OF_SHEET})
         return new
 
+    def allowing(self, first: int) -> "WardPlan":
+        """The same for a search from this day on: the shifts before it of nurses who leave are above no limit."""
+        new, leaving = replace(self), leaving_days(self._reasons, self.days.total)
+        claims = with_shifts_until_leaving(self.claims, self.scenario, self.histories[0], self.rosters, self._reasons, leaving, first)
+        new.__dict__["claims"] = tuple(claims)
+        return new
+
     def _order(self, cell: Cell) -> Tuple[int, int]:
         return list(self.scenario.nurses).index(cell.nurse), cell.day
 
     def view(self, shown: Optional[range] = None) -> RosterView:
         """Some weeks, or those that are not over, to be shown."""
-        weeks = [
-            WeekView(
-                number, self.rosters[number], self.data[number], self.week(number), self.held[number], reasons=self.reasons(number)
-            ) for number in (self.weeks if shown is None else shown)
-        ]  # fmt: skip
+        numbers = self.weeks if shown is None else shown
+        rows = ((number, self.rosters[number], self.data[number], self.week(number), self.held[number]) for number in numbers)
+        weeks = [WeekView(*row, reasons=self.reasons(row[0])) for row in rows]
         names = (list(self.scenario.nurses), list(self.scenario.shift_types), list(self.scenario.skills))
         return RosterView(self.scenario.name, *names, weeks, credit=self.sheet.credit)
 
     def reasons(self, number: int) -> Dict[Tuple[str, int], str]:
         """Why nurses are away on the days of a week: a word of the sheet plan, or `off` for days on which they are always off."""
-        known = read_reasons(REASONS, self.scenario, self.sheet.texts[REASONS])
         always = {(away.nurse, away.day): ALWAYS_OFF for away in absences_of(self.data[number]) if away.shift is None}
-        return {**always, **{(away.nurse, away.day): word for away, word in known.items() if away.week == number + 1}}
+        return {**always, **{(away.nurse, away.day): word for away, word in self._reasons.items() if away.week == number + 1}}
 
     def texts(self, of_plan: Record) -> Dict[str, str]:
         """The files of the plan's folder."""

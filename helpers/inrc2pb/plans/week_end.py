@@ -31,7 +31,7 @@ def over(store: PlanStore, words: Sequence[str]) -> List[str]:
     worked = old.with_cells(cells.values())
     changes = shift_changes(old.cells(), worked.cells())
     lines = [*change_lines(changes, old.days), *_broken_by_hand(old, worked)]
-    return [*lines, *(_next_week(store, worked) if old.open_week + 1 < old.days.weeks else _next_period(store, worked))]
+    return [*lines, *(_next_week(store, old, worked) if old.open_week + 1 < old.days.weeks else _next_period(store, worked))]
 
 
 def _correct(old: WardPlan, wording: Wording, cells: Dict[Tuple[str, int], Cell]) -> None:
@@ -62,14 +62,15 @@ def _broken_by_hand(old: WardPlan, worked: WardPlan) -> Iterator[str]:
         yield "if it was not worked so: undo, then over with other corrections"
 
 
-def _next_week(store: PlanStore, worked: WardPlan) -> List[str]:
+def _next_week(store: PlanStore, old: WardPlan, worked: WardPlan) -> List[str]:
     number = worked.open_week
     new = replace(worked, open_week=number + 1)
     new = replace(new, agreed=tuple(one for one in worked.agreed if one.day >= new.first))
     lines = [f"week {number} is over: the plan goes on from {new.days.text(new.first)}"]
     broken = [line for number in new.weeks for line in _broken_in(new, number)]
-    if broken:
-        lines += [*broken, f"after these corrections the plan does not fit any more: plan again, from {new.days.text(new.first)} on"]
+    known = [line for number in new.weeks for line in _broken_in(old, number)]
+    after = f"after these corrections the plan does not fit any more: plan again, from {new.days.text(new.first)} on"
+    lines += [*broken, *[after] * any(line not in known for line in broken)]
     return [*lines, *store.save(f"over {number}", new)]
 
 

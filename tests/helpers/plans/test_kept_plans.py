@@ -19,8 +19,8 @@ from inrc2pb.plans.days_beside_absences import days_off_beside_absences
 from inrc2pb.plans.few_changes import with_few_changes
 from inrc2pb.plans.leave_words import leave_lines
 from inrc2pb.plans.needless_changes import without_needless_changes
+from inrc2pb.plans.not_kept import not_kept_lines
 from inrc2pb.plans.plan_days import PlanDays
-from inrc2pb.plans.plan_store import not_kept_lines
 from inrc2pb.plans.shift_changes import call_lines, change_lines, shift_changes
 from inrc2pb.plans.ward_plan import read_stored
 from inrc2pb.plans.wish_words import wish_lines
@@ -156,18 +156,39 @@ class Words(KeptTest):
         self.assertEqual(list(leave_lines(plan)), [f"30 points: Grace, {says}"])
         self.assertEqual(list(leave_lines(self.plan)), [])
 
-    def test_a_nurse_who_leaves_may_have_the_shifts_until_then(self):
+    def test_the_limit_of_a_nurse_who_leaves_is_told_and_keeps_her_shifts_of_days_before_a_search(self):
         # Grace has five shifts from Monday to Friday. Her limit is that of the part of the plan before she leaves, rounded up.
         self.rows["contracts"][1][1:3] = ["0", "8!"]
-        for first, most in ((8, 1), (6, 2), (3, 0)):
+        for first, most in ((8, 4), (6, 3), (3, 2)):
             self.rows["plan"][7][1:] = [""] * (first - 1) + ["away"] * (15 - first)
             self.write()
-            sheet = read_sheet(self.ward, None, ())
-            plan = replace(self.plan, sheet=sheet)
-            limit = next(fact.most for fact, _ in plan.claims if isinstance(fact, Charged) and fact.nurse == "Grace")
-            self.assertEqual(limit, most, first)
+            plan = replace(self.plan, sheet=read_sheet(self.ward, None, ()))
             gone = plan.with_cells(cell for cell in plan.cells() if cell.nurse != "Grace" or cell.day < first - 1)
-            self.assertFalse([line for line in not_kept_lines(gone) if "Grace" in line])
+            shifts = min(first - 1, 5)
+            for day, above in ((0, 0), (3, max(0, 3 - most)), (first - 1, shifts - most)):
+                claims = gone.allowing(day).claims
+                limit = next(fact.most for fact, _ in claims if isinstance(fact, Charged) and fact.nurse == "Grace")
+                self.assertEqual(limit, min(above, max(0, shifts - most)), (first, day))
+            says = [line for line in not_kept_lines(gone) if f"Grace has {shifts} shifts of at most {most}" in line]
+            self.assertEqual(bool(says), shifts > most, first)
+            self.assertFalse([line for line in not_kept_lines(gone.allowing(first - 1)) if "Grace has" in line])
+
+    @unittest.skipUnless(HAS_CBC, "cbc is not installed")
+    def test_who_leaves_with_too_many_shifts_is_named_and_an_earlier_day_takes_one(self):
+        self.rows["contracts"][1][1:3] = ["0", "8!"]
+        self.write()
+        status, out, _ = run("plan", self.ward, "away", "Grace", "Sat", "Sun", "1", "--time", "10")
+        self.assertIn("Grace has 5 shifts of at most 3, above on Thu 3 Dec and Fri 4 Dec", out)
+        self.assertIn("shifts before Sat 5 Dec stay: plan from an earlier day can take some of them away", out)
+        self.assertEqual(status, 6)
+        # The page with costs says it also later, and that for the wall does not.
+        self.does("page")
+        self.assertIn("Grace has 5 shifts of at most 3", (self.ward / "roster.html").read_text())
+        self.assertNotIn("Grace has", (self.ward / "wall.html").read_text())
+        self.does("undo")
+        status, out, _ = run("plan", self.ward, "plan", "--time", "10")
+        self.assertNotIn("Grace has", out + (self.ward / "roster.html").read_text())
+        self.assertEqual(status, 0)
 
     def test_an_illness_takes_no_shifts_of_other_days(self):
         # Grace has five shifts in both weeks, and her limit is ten. Two days of 14 count as 8 * 2 / 14 shifts, rounded up.
@@ -268,6 +289,28 @@ class Weeks(KeptTest):
     def test_a_wall_that_is_undone(self):
         self.does("page")
         self.assertIn(f"{self.ward}/wall.html is as it was: take it down\n", self.does("undo"))
+
+    def test_a_page_of_a_plan_on_the_wall_is_undone_alone(self):
+        self.does("page")
+        self.does("over")
+        cells = self.cells()
+        wall = (self.ward / "wall.html").read_text().split("<table")[1:]
+        self.does("page")
+        printed = self.does("undo")
+        self.assertRegex(printed, "^undone: page, [0-9: -]+\nthe plan of over 0, [0-9: -]+ holds again, with the same shifts\n")
+        self.assertEqual(self.cells(), cells)
+        self.assertEqual((self.ward / "wall.html").read_text().split("<table")[1:], wall)
+        self.assertRegex(self.does("undo"), "^undone: over 0, [0-9: -]+\nthe plan of page, [0-9: -]+ holds again\n")
+
+    def test_undo_writes_no_page_of_a_plan_that_has_other_names(self):
+        self.does("page")
+        roster = self.last() / "roster-1.txt"
+        self.does("over")
+        roster.write_text(roster.read_text().replace("Grace Mon Day", "Grcae Mon Day"))
+        wall = (self.ward / "wall.html").read_bytes()
+        printed = self.does("undo")
+        self.assertIn("its pages are not written: the plan has 'Grcae Mon Day Nurse', and the spreadsheet has not all of these names", printed)
+        self.assertEqual((self.ward / "wall.html").read_bytes(), wall)
 
     def test_the_weeks_as_they_were_worked(self):
         self.does("over", "Finn", "Fri", "off")

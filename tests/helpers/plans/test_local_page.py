@@ -1,60 +1,21 @@
 """Tests of the local page of `inrc2pb-plan`: its requests, and what it refuses."""
 
-import contextlib
 import fcntl
-import http.client
+import html
 import re
-import threading
 import time
 import unittest
 from unittest import mock
-from urllib.parse import urlencode, urlsplit
+from urllib.parse import urlencode
 
-from test_plans import DATES, FolderTest
-from ward import HAS_CBC
+from served_page import ServedPage
+from test_plans import DATES
+from ward import HAS_CBC, run
 
-from inrc2pb.commands.plan import read_sheet
 from inrc2pb.plans.local_forms import verb_of
-from inrc2pb.plans.local_jobs import Jobs
-from inrc2pb.plans.local_server import LocalServer
-from inrc2pb.plans.ward_folder import WardFolder
-from inrc2pb.programs.interrupts import interrupts
 
 
-class Page(FolderTest):
-    def setUp(self):
-        super().setUp()
-        stack = contextlib.ExitStack()
-        self.addCleanup(stack.close)
-        signals = stack.enter_context(interrupts())
-        self.jobs = Jobs(WardFolder(self.ward), read_sheet, signals, 7.0)
-        server = LocalServer(self.jobs, "127.0.0.1", 0)
-        self.site = urlsplit(server.address)
-        thread = threading.Thread(target=server.run, args=(signals,))
-        thread.start()
-        self.addCleanup(thread.join)
-        self.addCleanup(signals.take, 2)
-
-    def asks(self, method="GET", path=None, form=None, **headers):
-        """The status and the text of an answer."""
-        connection = http.client.HTTPConnection(self.site.netloc, timeout=60)
-        given = {name.replace("_", "-"): value for name, value in headers.items()}
-        kind = {"Content-Type": "application/x-www-form-urlencoded"} if form is not None else {}
-        connection.request(method, self.site.path if path is None else path, form, {**kind, **given})
-        answer = connection.getresponse()
-        text = answer.read().decode()
-        connection.close()
-        return answer.status, text
-
-    def sends(self, **fields):
-        """Sends a form, and says yes if it writes, waits for the end of its verb, and returns the page."""
-        form = urlencode({name.replace("_", " "): value for name, value in {**fields, "sure": "yes"}.items()})
-        self.assertEqual(self.asks("POST", form=form)[0], 303)
-        limit = time.monotonic() + 60
-        while self.jobs.runs and time.monotonic() < limit:
-            time.sleep(0.05)
-        return self.asks()[1]
-
+class Page(ServedPage):
     def test_who_does_not_know_the_address_is_refused(self):
         before = set(self.ward.rglob("*"))
         for status, words in (
@@ -123,6 +84,37 @@ class Page(FolderTest):
         page = self.sends(verb="check")
         self.assertTrue("Amara would rather be off on Mon." in page and 'class="fault"' not in page)
 
+    def test_a_fault_that_was_corrected_is_said_no_more(self):
+        self.write_plan()
+        self.rows["plan"][1][1] = "wihs"
+        self.write()
+        self.assertIn("did you mean wish?", self.sends(verb="check"))
+        self.assertIn("did you mean wish?", self.asks()[1])
+        self.rows["plan"][1][1] = "wish"
+        self.write()
+        for _ in range(2):
+            page = self.asks()[1]
+            self.assertFalse("did you mean wish?" in page or 'class="fault"' in page)
+            self.assertIn("End the week</button>", page)
+        # A fault of a form stays.
+        self.sends(verb="back", nurse="Chen", first="2026-12-04")
+        for _ in range(2):
+            self.assertIn("Chen is not away on Fri 4 Dec", self.asks()[1])
+
+    def test_the_question_of_a_swap_has_what_it_costs(self):
+        self.write_plan()
+        nurse, day = next(key for key in sorted(self.cells()) if key[1] >= 7)
+        form = re.search("<form[^>]*>(?:(?!</form>).)* takes it.*?</form>", self.asks(path=f"{self.site.path}?nurse={nurse}&day={day}")[1])[0]
+        other = re.search('name="other" value="([^"]*)"', form)[1]
+        words = re.search('name="other day" value="([^"]*)"', form)
+        fields = {"nurse": nurse, "first": DATES[day], "other": other, **({"other day": words[1]} if words else {})}
+        says = run("plan", self.ward, "swap", *fields.values())[1].split("nothing is written")[0].splitlines()
+        page = html.unescape(self.asks("POST", form=urlencode({"verb": "swap", **fields, "write it": "yes"}))[1])
+        self.assertIn("Yes, write it", page)
+        self.assertIn(f"<pre>{chr(10).join(says)}</pre>", page)
+        self.assertTrue(any(" to call: " in line for line in says))
+        self.assertEqual([path.name[:4] for path in (self.ward / "plans").glob("0*")], ["0001"])
+
     def test_what_is_wrong_is_said_before_the_question(self):
         self.write_plan()
         for fields, says in (
@@ -186,7 +178,7 @@ class Page(FolderTest):
         page = self.asks()[1]
         self.assertIn("nothing is written: the button below writes it", page)
         form = next(form for form in re.findall("<form.*?</form>", page) if "Write this swap" in form)
-        fields = {"nurse": "Grace", "first": "2026-11-30", "other": "Chen", "write it": "yes", "verb": "swap"}
+        fields = {"nurse": "Grace", "first": "2026-11-30", "other": "Chen", "write it": "yes", "verb": "swap", "stamp": self.stamp}
         self.assertEqual({name: value for name, value in re.findall('name="([^"]*)" (?:type="[^"]*" )?value="([^"]*)"', form)}, fields)
         # A swap that cannot be has no such button: Finn never works Night.
         cells, nurses = self.cells(), [row[0] for row in self.rows["nurses"][1:]]

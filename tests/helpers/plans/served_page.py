@@ -1,0 +1,62 @@
+"""The local page of a ward's folder, served for a test."""
+
+import contextlib
+import http.client
+import threading
+import time
+from urllib.parse import urlencode, urlsplit
+
+from test_plans import FolderTest
+
+from inrc2pb.commands.plan import read_sheet
+from inrc2pb.plans.local_jobs import Jobs
+from inrc2pb.plans.local_server import LocalServer
+from inrc2pb.plans.ward_folder import WardFolder
+from inrc2pb.programs.interrupts import interrupts
+
+
+class ServedPage(FolderTest):
+    """A folder whose page is served. A form that a test sends has the stamp of the plan, if it has none of its own."""
+
+    def setUp(self):
+        super().setUp()
+        stack = contextlib.ExitStack()
+        self.addCleanup(stack.close)
+        signals = stack.enter_context(interrupts())
+        self.jobs = Jobs(WardFolder(self.ward), read_sheet, signals, 7.0)
+        server = LocalServer(self.jobs, "127.0.0.1", 0)
+        self.site = urlsplit(server.address)
+        thread = threading.Thread(target=server.run, args=(signals,))
+        thread.start()
+        self.addCleanup(thread.join)
+        self.addCleanup(signals.take, 2)
+
+    @property
+    def stamp(self):
+        """The stamp of the plan that holds."""
+        return self.jobs.folder.stamp
+
+    def asks(self, method="GET", path=None, form=None, **headers):
+        """The status and the text of an answer."""
+        form = f"{form}&stamp={self.stamp}" if form and form.startswith("verb=") and "stamp=" not in form else form
+        connection = http.client.HTTPConnection(self.site.netloc, timeout=60)
+        given = {name.replace("_", "-"): value for name, value in headers.items()}
+        kind = {"Content-Type": "application/x-www-form-urlencoded"} if form is not None else {}
+        connection.request(method, self.site.path if path is None else path, form, {**kind, **given})
+        answer = connection.getresponse()
+        text = answer.read().decode()
+        connection.close()
+        return answer.status, text
+
+    def sends(self, **fields):
+        """Sends a form, and says yes if it writes, waits for the end of its verb, and returns the page."""
+        form = urlencode({name.replace("_", " "): value for name, value in {**fields, "sure": "yes"}.items()})
+        self.assertEqual(self.asks("POST", form=form)[0], 303)
+        return self.ended()
+
+    def ended(self):
+        """Waits for the end of the verb that runs, and returns the page."""
+        limit = time.monotonic() + 60
+        while self.jobs.runs and time.monotonic() < limit:
+            time.sleep(0.05)
+        return self.asks()[1]
