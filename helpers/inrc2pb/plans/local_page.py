@@ -51,8 +51,8 @@ class Place(NamedTuple):
 
 class Shown(NamedTuple):
     """What a page shows beside the plan: what was said, the cell that was clicked, the form that asks whether to write, the fields of the
-    last form, the path of the spreadsheet, the pages of weeks that are over with their texts, the name of the ward, the seconds of a search,
-    if they are not the usual ones, the stamp of the plan, and the lines that are told with a question."""
+    last form, the path of the spreadsheet, the pages of weeks that are over with their texts, the name of the ward, the seconds of a
+    search, if they are not the usual ones, the stamp of the plan, and the lines that are shown with a question."""
 
     said: Said
     place: Optional[Place] = None

@@ -77,8 +77,8 @@ class Site:
         return plan, refused or said
 
     def post(self, fields: Dict[str, str]) -> Optional[List[str]]:
-        """Does what a form asks for. What cannot be done is a fault, which the next page shows. If the user has to be asked first, since the
-        verb writes, returns the lines that she is told with the question."""
+        """Does what a form asks for. What cannot be done is a fault, which the next page shows. If the user has to be asked first, since
+        the verb writes, returns the lines that she is shown with the question."""
         self.kept = fields if writes(fields) else {**fields, STAMP: self.jobs.folder.stamp}
         try:
             if fields.get("verb") == "stop":
