@@ -159,7 +159,7 @@ Ann 0 0 None 0 0 9993
     check_fault(&rt, rt.alloc(), &long, None, in_week(2, fault))
 }
 
-// Monday is split again after another fact, where it holds; where it does not; and in both cases of another fact.
+// The fact about Monday splits again, if another fact holds; if it does not hold; and in both cases of another fact.
 const PROOFS: [(&[u8], bool); 3] = [
     (
         b"CERTIFICATE s1 WEEKS = 1 PRICES = 1 ROWS = 0 LEAVES = 4 SPLIT CHOICE 1 Ann Mon None SPLIT EVEN

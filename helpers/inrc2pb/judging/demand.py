@@ -13,7 +13,7 @@ from ..week.records import DAYS, Absence, Cell, History, Place, Scenario, WeekDa
 
 # What warnings say of weeks whose rosters break an absence, or exceed a limit that holds.
 UNKEPT, ABOVE_LIMITS = "no roster that keeps every absence can meet it", "too many to keep the limits that hold"
-# For each week, from that of a history on, the number of each nurse's days away that count as work. The history has their shifts.
+# For each week, from the week of a history on, the number of each nurse's days away that count as work. The history has their shifts.
 Paid = Sequence[Mapping[str, int]]
 
 

@@ -12,9 +12,9 @@ from ..week.records import Cell, Request, Scenario, WeekData
 # The cost of a new shift of a nurse, in points, in addition to the charges of the rules; and on a day that she has agreed on. It is less
 # than an absence.
 POINTS, AGREED_POINTS = 20, 250
-# The cost of a nurse with another shift or day off, in addition to that of her shifts, since she has to be called.
+# The cost of a nurse with another shift or day off, in addition to the cost of her shifts, since she has to be called.
 CALL_POINTS = 20
-# The cost of a shift on a day off beside days away, in addition to that of the shift.
+# The cost of a shift on a day off next to days away, in addition to the cost of the shift.
 BESIDE_POINTS = 60
 NurseDay = Tuple[str, int]
 

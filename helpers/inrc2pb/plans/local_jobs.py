@@ -11,7 +11,7 @@ from .plan_store import Means, Reader
 from .verbs import Verbs
 from .ward_folder import WardFolder
 
-# What a form says that was shown for an older plan.
+# The answer to a form that was shown for an older plan.
 CHANGED = "the plan has changed since this form was shown, so nothing was written: look at the plan below, and press the button again"
 
 

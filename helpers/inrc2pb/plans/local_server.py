@@ -65,12 +65,12 @@ class Site:
             is_told = said.runs or any(PERIOD_IS_OVER in line for line in said.lines)
             return None, said if is_told else Said([str(fault)])
         except Exception as fault:
-            # What undo has done is told also if the spreadsheet has a fault.
+            # The page says what undo has done, even if the spreadsheet has a fault.
             done = said.lines if self.kept.get("verb") == "undo" and not said.is_fault else []
             self._had_fault = True
             return None, said if said.runs else Said([*fault_lines(fault), *done], True)
         if self._had_fault and said.is_fault:
-            # What a verb has said of the fault is not so any more.
+            # The lines of a verb about the fault no longer hold.
             self.jobs.forget()
             said = Said([])
         self._had_fault = False

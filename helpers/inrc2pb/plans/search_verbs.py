@@ -25,7 +25,7 @@ from .written_absences import BACK, with_days
 
 # The seconds of a search, for each week if it is a whole plan.
 WEEK_SECONDS, CHANGE_SECONDS = 20.0, 30.0
-# What a search for few changes counts beside the charges of the rules.
+# The costs of a search for few changes, in addition to the charges of the rules.
 _BESIDE = f"{BESIDE_POINTS} more on a day off beside days away"
 _CHANGED = f"{POINTS} points for a new shift of a nurse ({_BESIDE}), {CALL_POINTS} for a nurse to call"
 # The share at the end of a line on the bound: a few points above nothing are many per cent.

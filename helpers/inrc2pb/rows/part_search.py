@@ -20,7 +20,7 @@ from .week_dives import WeekDives
 MOST_WORK, MOST_NODES = 10_000, 50
 # From the first of these gaps on, in thousandths, a neighborhood is worth a dive, and up to the second an integer program.
 DIVE_GAP, CHOOSE_GAP = STEP * POINT, 20 * POINT
-# Of neighborhoods of so many days, this share of the open weeks is fixed at once.
+# In neighborhoods of at least this number of days, this share of the open weeks is fixed at once.
 LONG_DAYS, WEEKS_SHARE = 3 * WEEK_DAYS, 0.1
 # The known rows of each nurse with which a neighborhood begins.
 MOST_KNOWN = 20

@@ -212,7 +212,7 @@ class Words(KeptTest):
         self.assertEqual(days_off_beside_absences(plan), {("Grace", 5)})
         asked = with_few_changes(plan.scenario, replace(plan.data[0], requests=()), [], [5], beside=[("Grace", 5), ("Grace", 6)])
         self.assertEqual({nurse: asked.requests.count(Request(nurse, None, 5)) for nurse in ("Ewa", "Grace")}, {"Ewa": 2, "Grace": 8})
-        # Who is back earlier can be called.
+        # A nurse who is back earlier can be called.
         back = replace(plan, written=(WrittenAbsence("Grace", 5, "back"),))
         self.assertEqual(days_off_beside_absences(back), set())
 

@@ -56,7 +56,7 @@ class Stamps(ServedPage):
             self.assertEqual(self.asks("POST", form=form)[0], 303)
             page = self.asks()[1]
             self.assertIn(SAYS, page)
-            # The page is that of the plan that holds now.
+            # The page shows the plan that holds now.
             self.assertEqual(fields_of(page, "Publish")["stamp"], self.stamp)
         self.assertEqual(self.plans(), ["0001", "0002"])
 

@@ -129,8 +129,11 @@ class NextParts(unittest.TestCase):
             self.assertAlmostEqual(parts._sizes[7], size)
 
 
-@unittest.skipUnless(HAS_CBC, "needs cbc")
-class Dives(HelperTest):
+class DiveTest(HelperTest):
+    """Tests of dives in a search of this class."""
+
+    search_class = RowSearch
+
     def setUp(self):
         super().setUp()
         self.solver = LinearSolvers(["cbc"], Processes(), self.folder, self.fail, resident=True)
@@ -140,10 +143,13 @@ class Dives(HelperTest):
         """A search over two weeks of the month that knows all rows of its linear program."""
         plan = Plan.of(SCENARIO, HISTORY, WEEKS)
         pricing = Pricing(plan, Crews(plan), lambda: None)
-        search = RowSearch(pricing, self.solver, Clock(LONG), lambda rows, _finder: search.value_of(rows), lambda: None)
+        search = self.search_class(pricing, self.solver, Clock(LONG), lambda rows, _finder: search.value_of(rows), lambda: None)
         search.generate(search.clock)
         return search
 
+
+@unittest.skipUnless(HAS_CBC, "needs cbc")
+class Dives(DiveTest):
     def test_dives_end_near_the_bound_and_the_same_chance_at_the_same_roster(self):
         search = self.generated()
         lower, value = search.lower_bound, search.solved.value

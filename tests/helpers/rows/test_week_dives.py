@@ -5,17 +5,14 @@ import random
 import unittest
 from unittest import mock
 
-from test_row_parts import CHOICES, HISTORY, LONG, SCENARIO, WEEKS, search_of
-from ward import HAS_CBC, HelperTest
+from test_row_parts import CHOICES, LONG, DiveTest, search_of
+from ward import HAS_CBC
 
 from inrc2pb.programs.clock import Clock, TimeIsOver
-from inrc2pb.programs.processes import Processes
 from inrc2pb.rows.first_rows import matched_rows
-from inrc2pb.rows.plan import POINT, Plan
-from inrc2pb.rows.pricing import Crews, Pricing
+from inrc2pb.rows.plan import POINT
 from inrc2pb.rows.row_parts import RowParts
 from inrc2pb.rows.week_dives import WeekDives
-from inrc2pb.solvers.linear_solvers import LinearSolvers
 
 
 class Kept(unittest.TestCase):
@@ -37,19 +34,8 @@ class Kept(unittest.TestCase):
 
 
 @unittest.skipUnless(HAS_CBC, "needs cbc")
-class Dives(HelperTest):
-    def setUp(self):
-        super().setUp()
-        self.solver = LinearSolvers(["cbc"], Processes(), self.folder, self.fail, resident=True)
-        self.addCleanup(self.solver.close)
-
-    def generated(self):
-        """A search over two weeks of the month that knows all rows of its linear program."""
-        plan = Plan.of(SCENARIO, HISTORY, WEEKS)
-        pricing = Pricing(plan, Crews(plan), lambda: None)
-        search = WeekDives(pricing, self.solver, Clock(LONG), lambda rows, _finder: search.value_of(rows), lambda: None)
-        search.generate(search.clock)
-        return search
+class Dives(DiveTest):
+    search_class = WeekDives
 
     def test_dives_end_near_the_bound_and_the_same_chance_at_the_same_roster(self):
         search = self.generated()
