@@ -15,7 +15,7 @@ for program in "${programs[@]}"; do
     [ -x "$program" ] || { echo "There is no $program yet: 'make' builds it."; exit 2; }
 done
 
-# The program has the version of crates/inrc2pb_command/src/command.rt; CHANGELOG.md repeats it.
+# The program has the version of crates/inrc2pb_frame/src/arguments.rt; CHANGELOG.md repeats it.
 version=$("$PROGRAM" --version) && version=${version#inrc2pb } || exit 2
 
 # The latest version of the C library whose symbols the programs use.

@@ -4,7 +4,7 @@ use Rattle.clap.specs.Lexer.{usize_max}
 use Rattle.clap.specs.Words.{App, Rule, Text, new_app, with_rule}
 use Rattle.clap.specs.Simple.{new_shape}
 use Rattle.clap.specs.declared.builder.action.ArgAction.TheVariants.{Append}
-use Rattle.inrc2pb_command.specs.CommandLine.{file_rule, flag_rule, required_file_rule}
+use Rattle.inrc2pb_frame.specs.Arguments.{file_rule, flag_rule, required_file_rule}
 
 -- the option `--id FILE..`, which takes one or more files, and may be given again
 abbrev pub files_rule : Text → Rule

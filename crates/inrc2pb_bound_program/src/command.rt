@@ -2,11 +2,11 @@
 ghost use Rattle.std.specs.Prelude.{◌≡◌, IfOk, Some, codes, false, true};
 ghost use Rattle.clap.specs.Words.{rule_of};
 ghost use Rattle.clap.specs.declared.builder.action.ArgAction.TheVariants.{Append};
-ghost use Rattle.inrc2pb_command.specs.CommandLine.{IsCommandOf, file_rule};
+ghost use Rattle.inrc2pb_frame.specs.Arguments.{IsCommandOf, file_rule};
 ghost use Rattle.inrc2pb_bound_program.specs.CommandLine.{bare_bound_app, bound_app, files_rule};
 
 use clap::{Arg, ArgAction, Command};
-use inrc2pb_command::{VERSION, file_option, flag, required_file};
+use inrc2pb_frame::{VERSION, file_option, flag, required_file};
 use std::alloc::{AllocError, Global};
 
 /// The name of the program. Its messages begin with it.

@@ -11,7 +11,7 @@ use crate::command;
 use crate::fixes::{are_fixes, fix_named};
 use crate::job::BoundJob;
 use clap::ArgMatches;
-use inrc2pb_frame::{Stop, flag, optional_path, required_path};
+use inrc2pb_frame::{Stop, has_flag, optional_path, required_path};
 use rota_bound_run::{PeriodFiles, Question, WeekFiles};
 use rota_core::MAX_WEEKS;
 use std::alloc::{AllocError, Global};
@@ -32,8 +32,8 @@ fn job_of(alloc: Global, options: &ArgMatches<'_>) -> Result<BoundJob, Stop>
     ensures err { IfErr result (IsForMemoryOr (IsMisused (options_of options.now))) }
 {
     let question = Question {
-        early: flag(options, "early"),
-        minimums: flag(options, "minimums"),
+        early: has_flag(options, "early"),
+        minimums: has_flag(options, "minimums"),
     };
     let (weeks, rosters) = (given(options, "week"), given(options, "roster"));
     if weeks.is_empty() {

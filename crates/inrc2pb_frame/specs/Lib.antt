@@ -1,3 +1,4 @@
+pub mod Arguments
 pub mod ErrorStops
 pub mod Exits
 pub mod FaultLines

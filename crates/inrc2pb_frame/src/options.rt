@@ -9,7 +9,7 @@ use clap::ArgMatches;
 use std::alloc::{AllocError, Global};
 
 /// Whether the flag is set.
-pub fn flag(options: &ArgMatches<'_>, id: &str) -> bool
+pub fn has_flag(options: &ArgMatches<'_>, id: &str) -> bool
     ensures { HasFlag id.now (options_of options.now) result }
 {
     options.get_flag(id)

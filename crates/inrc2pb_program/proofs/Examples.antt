@@ -2,7 +2,7 @@
 use Rattle.std.proofs.Common.{◌≡◌, List, [], ◌∷◌, Some, None, true, codes, refl, option_map, Option}
 use Rattle.clap.specs.Words.{Text, first_of, one_of, subcommand_of, takes}
 use Rattle.clap.proofs.OnLiterals.{clap_on_literals}
-use Rattle.inrc2pb_command.specs.CommandLine.{inrc2pb_app}
+use Rattle.inrc2pb_program.specs.CommandLine.{inrc2pb_app}
 use Rattle.inrc2pb_program.specs.Jobs.{Matched}
 
 abbrev words : List Text

@@ -12,7 +12,7 @@ use Rattle.clap.specs.declared.error.Error.{Error}
 use Rattle.clap.specs.declared.parser.matches.ArgMatches.{ArgMatches}
 use Rattle.clap.specs.declared.parser.matches.ArgMatches.TheViews.{out-ArgMatches}
 use Rattle.clap.proofs.OnLiterals.{clap_on_literals}
-use Rattle.inrc2pb_command.specs.CommandLine.{inrc2pb_app}
+use Rattle.inrc2pb_program.specs.CommandLine.{inrc2pb_app}
 use Rattle.inrc2pb_frame.specs.Options.{options_of}
 use Rattle.inrc2pb_program.specs.Jobs.{IsJobOf, IsSubcommand, LacksPath, Matched}
 use Rattle.inrc2pb_job.specs.declared.job.Job.{Job}

@@ -7,7 +7,7 @@ use Rattle.rota_pb.specs.declared.period_fault.PeriodFault.TheVariants.{Run}
 use Rattle.inrc2pb_job.specs.Jobs.{output_path_of}
 use Rattle.inrc2pb_job.specs.OpenCalls.{Opener}
 use Rattle.inrc2pb_job.specs.JobOutcomes.{JobOutcome}
-use Rattle.inrc2pb_command.specs.CommandLine.{inrc2pb_app}
+use Rattle.inrc2pb_program.specs.CommandLine.{inrc2pb_app}
 use Rattle.inrc2pb_frame.specs.Placing.{IsPlaced, JobFile}
 use Rattle.inrc2pb_frame.specs.Exits.{PrinterState}
 use Rattle.inrc2pb_frame.specs.Given.{Given}

@@ -6,8 +6,9 @@ ghost use Rattle.inrc2pb_frame.specs.Stops.{IsForMemoryOr};
 ghost use Rattle.inrc2pb_program.specs.Jobs.{HasInputs, IsJobOf, IsSubcommand, LacksInput, LacksPath};
 ghost use Rattle.inrc2pb_program.specs.Programs.{inrc2pb};
 
+use crate::command;
 use clap::ArgMatches;
-use inrc2pb_frame::{Stop, flag, optional_path, required_path};
+use inrc2pb_frame::{Stop, has_flag, optional_path, required_path};
 use inrc2pb_job::{Inputs, Job};
 use std::alloc::Global;
 
@@ -17,7 +18,7 @@ pub fn job(alloc: Global, words: &[&str]) -> Result<Job, Stop>
     ensures ok { IfOk result (IsJobFor inrc2pb (texts words.now)) }
     ensures err { IfErr result (IsStopFor inrc2pb (texts words.now)) }
 {
-    let command = inrc2pb_command::inrc2pb(alloc)?;
+    let command = command::inrc2pb(alloc)?;
     let matches = command.try_get_matches_from(words)?;
     let Some((name, options)) = matches.subcommand() else {
         unreachable!()
@@ -58,6 +59,6 @@ fn inputs(alloc: Global, options: &ArgMatches<'_>) -> Result<Inputs, Stop>
         his: required_path(alloc, options, "his")?,
         week: required_path(alloc, options, "week")?,
         fix: optional_path(alloc, options, "fix")?,
-        early: flag(options, "early"),
+        early: has_flag(options, "early"),
     })
 }

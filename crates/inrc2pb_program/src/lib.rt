@@ -2,6 +2,7 @@
 //! and outputs, and returns the exit code.
 #![tactic(auto)]
 
+mod command;
 mod command_line;
 mod run;
 

@@ -9,8 +9,8 @@ ghost use Rattle.inrc2pb_program.specs.Programs.{IsEndOf, ProgramOutcome, RunOut
 ghost use Rattle.inrc2pb_job.specs.OpenCalls.{opener_of};
 ghost use Rattle.rota_pb.specs.RunPorts.{reader_of, writer_of};
 
+use crate::command::NAME;
 use crate::command_line;
-use inrc2pb_command::NAME;
 use inrc2pb_frame::{OutputFile, Printer, Stop, borrowed, exit_code, kept};
 use inrc2pb_job::{HasPath, Job, Opens, perform};
 use rota_core::{Source, Target};

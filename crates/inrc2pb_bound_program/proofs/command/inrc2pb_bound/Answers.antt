@@ -1,8 +1,8 @@
 use Rattle.std.proofs.Common.{Some, codes, true}
 use Rattle.clap.specs.Words.{with_rule}
 use Rattle.clap.specs.declared.builder.action.ArgAction.TheVariants.{Append}
-use Rattle.inrc2pb_command.specs.CommandLine.{file_rule, flag_rule, required_file_rule}
-use Rattle.inrc2pb_command.proofs.CommandSteps.{adds_arg, ends_with_arg}
+use Rattle.inrc2pb_frame.specs.Arguments.{file_rule, flag_rule, required_file_rule}
+use Rattle.inrc2pb_frame.proofs.CommandSteps.{adds_arg, ends_with_arg}
 use Rattle.inrc2pb_bound_program.specs.CommandLine.{bare_bound_app, files_rule}
 use Rattle.inrc2pb_bound_program.proofs.command.inrc2pb_bound.Goals as goal
 
