@@ -37,7 +37,7 @@ pub record IsFreeCertificate (s : ScenarioTables) (weeks : ℕ) (found : Certifi
 -- a fact is on a path of the certificate more than once: the fault is of the whole file
 pub record HasRepeatedFact (found : Certificate) (fault : Fault) : Type 0 where
   pub repeats : RepeatsFact found
-  pub is : fault ≡ File (refusals.Bad Repeated names.Certificate 0)
+  pub fault_is : fault ≡ File (refusals.Bad Repeated names.Certificate 0)
 
 -- the certificate is refused if a fact is on a path of it more than once, or if memory runs out
 abbrev pub check_paths : Certificate → Step Certificate
