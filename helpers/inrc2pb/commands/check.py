@@ -20,7 +20,8 @@ from ..judging.odd_values import IMPOSSIBLE, history_warnings, scenario_warnings
 from ..programs.program import BROKEN_RULE, FAULT, NO_PROGRAM, answer_with, encode
 from ..judging.rules import first_broken
 from ..week.targets import check_no_pipes
-from ..shown.telling import held_sentences, history_sentences, limit_sentences, scenario_sentences, week_sentences
+from ..shown.telling import history_sentences, limit_sentences, scenario_sentences, supply_text, ward_sentence
+from ..shown.telling_weeks import ToldWeek, held_sentences, weeks_sentences
 from ..search.why_none import why_none
 
 Contents = TypeVar("Contents")
@@ -120,9 +121,11 @@ class Check:
 
     def tell(self, scenario: Scenario, history: Optional[History], data: Optional[WeekData], held: List[Cell]) -> None:
         """Prints the files in sentences."""
-        lines = [*scenario_sentences(scenario), ""]
+        lines = [ward_sentence(scenario), *scenario_sentences(scenario), ""]
         lines += [*history_sentences(history), ""] if history else []
-        lines += [*week_sentences(scenario, history, data), *limit_sentences(scenario, data), ""] if data else []
+        if data:
+            lines.append(f"The week {supply_text(scenario, history, data)}.")
+            lines += [*weeks_sentences(scenario, [ToldWeek(0, data)]), *limit_sentences(scenario, data), ""]
         lines += [*held_sentences(held), ""] if held else []
         print(readable("\n".join(lines)))
 

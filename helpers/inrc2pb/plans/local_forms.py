@@ -105,7 +105,7 @@ def form_markup(
     return element("form", *inside, method="post", action=address)
 
 
-def sure_markup(fields: Fields, plan: Optional[WardPlan], address: str, told: Sequence[str] = ()) -> Markup:
+def sure_markup(fields: Fields, plan: Optional[WardPlan], address: str, lines: Sequence[str] = ()) -> Markup:
     """The question before a verb writes, with these lines. Without a plan, which the spreadsheet may not give now, it is undo."""
     form = next(form for form in FORMS if form.verb == fields["verb"])
     named = [plan.days.span([plan.first, plan.first + WEEK_DAYS - 1])] if plan and form.verb == "over" else []
@@ -117,7 +117,7 @@ def sure_markup(fields: Fields, plan: Optional[WardPlan], address: str, told: Se
     return element(
         "section",
         element("h2", f"{form.heading or form.button}{f': {given}' if given else ''}?"),
-        *[element("pre", "\n".join(told))] * bool(told),
+        *[element("pre", "\n".join(lines))] * bool(lines),
         element("p", f"This writes {form.writes}." + " Undo takes it back." * (form.verb != "undo")),
         element("form", *hidden, yes, " ", element("a", "No", href=address), method="post", action=address),
     )

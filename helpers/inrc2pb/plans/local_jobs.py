@@ -11,8 +11,9 @@ from .plan_store import Means, Reader
 from .verbs import Verbs
 from .ward_folder import WardFolder
 
-# The answer to a form that was shown for an older plan.
-CHANGED = "the plan has changed since this form was shown, so nothing was written: look at the plan below, and press the button again"
+# The answers to a form that was shown for an older plan, and to one that was sent while a verb ran.
+CHANGED = "this form was shown for an older plan, so nothing was written by it: look at the plan below, and press the button again"
+RUNS = "another verb was running, so this button did nothing: wait for its end, or stop it, and press the button again"
 
 
 class Said(NamedTuple):
@@ -53,12 +54,16 @@ class Jobs:
         """What the last verb has said is said no more."""
         self._said = Said([])
 
+    def check_stamp(self, stamp: str) -> None:
+        """That the plan that holds has another stamp is a Misuse."""
+        if self.folder.stamp != stamp:
+            raise Misuse(CHANGED)
+
     def stamped(self, verb: Callable[[Verbs], List[str]], stamp: str) -> Callable[[Verbs], List[str]]:
-        """The verb, if the plan that holds has this stamp; otherwise a Misuse."""
+        """The verb, which checks the stamp again when no other run writes."""
 
         def checked(verbs: Verbs) -> List[str]:
-            if self.folder.stamp != stamp:
-                raise Misuse(CHANGED)
+            self.check_stamp(stamp)
             return verb(verbs)
 
         return checked
@@ -72,11 +77,15 @@ class Jobs:
         """What the last verb has said until now."""
         return Said(self._spoken.getvalue().splitlines(), runs=True) if self.runs else self._said
 
+    def check_free(self) -> None:
+        """That a verb runs is a Misuse."""
+        if self.runs:
+            raise Misuse(RUNS)
+
     def begin(self, verb: Callable[[Verbs], List[str]]) -> None:
         """Begins a verb. That another one runs is a Misuse."""
         with self._lock:
-            if self.runs:
-                raise Misuse("another verb still runs: wait for its end, or stop it")
+            self.check_free()
             self._spoken = io.StringIO()
             self._thread = threading.Thread(target=self._run, args=(verb, self._spoken))
             self._thread.start()

@@ -16,7 +16,7 @@ from .local_jobs import Said
 from .pages import CALENDARS, roster_content
 from .plan_days import WEEK_DAYS
 from .swap_verb import NOT_WRITTEN
-from .swap_words import MOST_OFFERS, offer_text
+from .swap_words import MOST_OFFERS, offer_text, why_nobody
 from .swaps import Swaps
 from .ward_plan import WardPlan
 
@@ -52,7 +52,8 @@ class Place(NamedTuple):
 class Shown(NamedTuple):
     """What a page shows beside the plan: what was said, the cell that was clicked, the form that asks whether to write, the fields of the
     last form, the path of the spreadsheet, the pages of weeks that are over with their texts, the name of the ward, the seconds of a
-    search, if they are not the usual ones, the stamp of the plan, and the lines that are shown with a question."""
+    search, if they are not the usual ones, the stamp of the plan, the lines that are shown with a question, and those that say why a form
+    of this page was refused."""
 
     said: Said
     place: Optional[Place] = None
@@ -63,17 +64,18 @@ class Shown(NamedTuple):
     name: str = "Ward"
     seconds: Optional[float] = None
     stamp: str = ""
-    told: Sequence[str] = ()
+    lines: Sequence[str] = ()
+    refused: Sequence[str] = ()
 
 
 def page_markup(plan: Optional[WardPlan], shown: Shown, address: str) -> str:
     """The page. While a verb runs it loads itself again and again, and has no plan, which would take the time of the search."""
     name, said = shown.name, shown.said
-    # A cell that was clicked, and a question, take the place of an older verb's answer.
-    is_old = bool(shown.asks) or (shown.place is not None and not said.is_fault and not said.runs)
-    parts: List[Markup] = [element("h1", name), *([] if is_old else _said(said, shown.kept, address))]
+    # A cell that was clicked, a question, and a form that was refused take the place of an older verb's answer.
+    is_old = bool(shown.asks) or (not said.runs and (bool(plan and shown.refused) or (shown.place is not None and not said.is_fault)))
+    parts: List[Markup] = [element("h1", name), *_lines(shown.refused, True), *([] if is_old else _said(said, shown.kept, address))]
     if shown.asks:
-        parts.append(sure_markup(shown.asks, plan, address, shown.told))
+        parts.append(sure_markup(shown.asks, plan, address, shown.lines))
     elif plan and not said.runs:
         if shown.place and plan.is_planned:
             parts.append(_cell(plan, shown.place, address, shown.stamp))
@@ -111,14 +113,19 @@ def page_of(name: str, head: Sequence[Markup], parts: Sequence[Markup]) -> str:
     return f"<!DOCTYPE html>\n{element('html', element('head', *heads), body, lang='en')}\n"
 
 
+def _lines(lines: Sequence[str], is_fault: bool) -> List[Markup]:
+    """Lines, if there are some, which a screen reader reads at once."""
+    kind = "fault" if is_fault else None
+    return [element("pre", "\n".join(lines), role="alert" if is_fault else "status", class_=kind)] * bool(lines)
+
+
 def _said(said: Said, kept: Fields, address: str) -> List[Markup]:
     """The lines of the last verb, and a button that stops it, or that writes the swap of which it tells."""
-    lines = element("pre", "\n".join(said.lines), role="alert" if said.is_fault else "status", class_="fault" if said.is_fault else None)
     stop = element("form", element("button", "Stop, and keep the best plan", name="verb", value="stop"), method="post", action=address)
     is_look = not said.runs and kept.get("verb") == "swap" and any(line.startswith(f"{NOT_WRITTEN}: ") for line in said.lines)
     words = {name: value for name, value in kept.items() if value and name != "verb"}
     write = [swap_markup(words, "Write this swap", address)] if is_look else []
-    return [*[lines] * bool(said.lines), *[stop] * said.runs, *write]
+    return [*_lines(said.lines, said.is_fault), *[stop] * said.runs, *write]
 
 
 def _content(plan: WardPlan, address: str) -> Content:
@@ -179,7 +186,8 @@ def _cell(plan: WardPlan, place: Place, address: str, stamp: str) -> Markup:
     ]
     if cell:
         offers = swaps.offers(nurse, day)[:MOST_OFFERS]
-        parts.append(element("p", "Who could take it, and what it adds to the points:" if offers else "Nobody can take it."))
+        nobody = "" if offers else f"Nobody can take it: {why_nobody(swaps, nurse, day)}."
+        parts.append(element("p", nobody or "Who could take it, and what it adds to the points:"))
         for offer in offers:
             others = [plan.days.head(other) for other in offer.swap.days if other != day]
             words = {

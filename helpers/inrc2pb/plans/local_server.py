@@ -1,12 +1,13 @@
 """A server for the local page of one ward: one address with a secret, and no other origin."""
 
 import hmac
+import itertools
 import secrets
 import threading
 from dataclasses import replace
 from http.server import BaseHTTPRequestHandler, ThreadingHTTPServer
-from typing import Dict, List, Optional, Tuple
-from urllib.parse import parse_qsl, quote, urlsplit
+from typing import Dict, List, NamedTuple, Optional, Tuple
+from urllib.parse import parse_qsl, quote, urlencode, urlsplit
 
 from ..judging.absences import readable
 from ..programs.interrupts import Interrupts
@@ -14,14 +15,17 @@ from ..shown.calendars import file_names
 from ..shown.page import page_text
 from ..week.faults import Misuse
 from .local_forms import STAMP, SURE, Fields, verb_of, writes
-from .local_jobs import Jobs, Said, fault_lines
+from .local_jobs import CHANGED, RUNS, Jobs, Said, fault_lines
 from .local_page import Place, Shown, calendars_markup, page_markup
 from .pages import CALENDARS, roster_content
 from .plan_days import PERIOD_IS_OVER, PeriodOver
 from .ward_plan import WardPlan
 
-# The most bytes of a form and of its address, its most fields, and the seconds that a browser has for a request.
-_MOST_BYTES, _MOST_FIELDS, _SECONDS = 10_000, 20, 20
+# The most bytes of a form and of its address, its most fields, the seconds that a browser has for a request, and the most forms that
+# were refused of which the page still says why.
+_MOST_BYTES, _MOST_FIELDS, _SECONDS, _MOST_REFUSED = 10_000, 20, 20, 100
+# The part of an address that names a form that was refused, so that only the tab that has sent it says why.
+_REFUSED = "refused"
 _PAUSE = 0.2
 _HEADERS = {
     "Content-Security-Policy": "default-src 'none'; style-src 'unsafe-inline'; form-action 'self'; frame-ancestors 'none'; base-uri 'none'",
@@ -29,6 +33,21 @@ _HEADERS = {
     "X-Content-Type-Options": "nosniff",
     "Cache-Control": "no-store",
 }
+
+
+class Refused(NamedTuple):
+    """A form that was refused: its number, its fields, and the lines that say why."""
+
+    number: int
+    fields: Dict[str, str]
+    lines: List[str]
+
+
+class Answer(NamedTuple):
+    """What follows a form: a question with these lines, before its verb writes, or the page, at this query of its address."""
+
+    lines: Optional[List[str]] = None
+    query: str = ""
 
 
 class Site:
@@ -39,10 +58,11 @@ class Site:
         self.base = f"/{secrets.token_urlsafe(16)}/"
         # The ward, as far as it is known.
         self.name = "Ward"
-        self.fault: Optional[Said] = None
-        # The fields of the last form, and whether the spreadsheet had a fault when it was last read.
+        # The fields of the last form whose verb has begun, and whether the spreadsheet had a fault when it was last read.
         self.kept: Dict[str, str] = {}
         self._had_fault = False
+        self._refused: List[Refused] = []
+        self._numbers = itertools.count()
 
     @property
     def spreadsheet(self) -> str:
@@ -53,10 +73,8 @@ class Site:
             return str(self.jobs.folder.top.resolve())
 
     def plan(self) -> Tuple[Optional[WardPlan], Said]:
-        """The plan that holds, and what is said above it: a fault of the spreadsheet, or of a form, if there is one."""
-        said, refused = self.jobs.said(), None
-        if not said.runs:
-            refused, self.fault = self.fault, None
+        """The plan that holds, and what is said above it: a fault of the spreadsheet, if there is one."""
+        said = self.jobs.said()
         try:
             plan = self.jobs.verbs().current()
             self.name = readable(plan.scenario.name)
@@ -74,30 +92,47 @@ class Site:
             self.jobs.forget()
             said = Said([])
         self._had_fault = False
-        return plan, refused or said
+        return plan, said
 
-    def post(self, fields: Dict[str, str]) -> Optional[List[str]]:
-        """Does what a form asks for. What cannot be done is a fault, which the next page shows. If the user has to be asked first, since
-        the verb writes, returns the lines that she is shown with the question."""
-        self.kept = fields if writes(fields) else {**fields, STAMP: self.jobs.folder.stamp}
+    def post(self, fields: Dict[str, str]) -> Answer:
+        """Does what a form asks for. If the user has to be asked first, since the verb writes, the answer is the question."""
+        if fields.get("verb") == "stop":
+            self.jobs.stop()
+            return Answer()
         try:
-            if fields.get("verb") == "stop":
-                self.jobs.stop()
-                return None
-            verb = verb_of(fields, self.jobs.seconds)
+            verb, stamp = verb_of(fields, self.jobs.seconds), fields.get(STAMP, "")
             if writes(fields):
-                verb = self.jobs.stamped(verb, fields.get(STAMP, ""))
-            if writes(fields) and SURE not in fields and not self.jobs.runs:
+                self.jobs.check_stamp(stamp)
+                self.jobs.check_free()
+                verb = self.jobs.stamped(verb, stamp)
+            if writes(fields) and SURE not in fields:
                 tried = self.jobs.tried(verb)
-                self.fault = tried if tried.is_fault else None
-                return None if tried.is_fault else tried.lines if fields["verb"] == "swap" else []
+                if tried.is_fault:
+                    return self._refuse(fields, tried.lines)
+                return Answer(tried.lines if fields["verb"] in ("swap", "away", "back") else [])
             self.jobs.begin(verb)
         except Misuse as fault:
-            self.fault = Said([str(fault)], True)
-        return None
+            return self._refuse(fields, [str(fault)])
+        self.kept = fields if writes(fields) else {**fields, STAMP: self.jobs.folder.stamp}
+        return Answer()
 
-    def fields(self, said: Said) -> Dict[str, str]:
-        """The values that stay in the form that was sent last: those of a look for a swap, or of a verb that failed."""
+    def _refuse(self, fields: Dict[str, str], lines: List[str]) -> Answer:
+        """The answer to a form that is refused, for these reasons."""
+        number = next(self._numbers)
+        self._refused = [*self._refused, Refused(number, fields, lines)][-_MOST_REFUSED:]
+        return Answer(query=f"?{urlencode({_REFUSED: number})}")
+
+    def refused(self, query: Dict[str, str]) -> Optional[Refused]:
+        """The form that an address names, if it was refused. The verb that ran then may have written another plan since."""
+        found = next((one for one in self._refused if str(one.number) == query.get(_REFUSED)), None)
+        is_older = found and writes(found.fields) and found.fields.get(STAMP) != self.jobs.folder.stamp
+        return found._replace(lines=[CHANGED]) if found and is_older and found.lines == [RUNS] else found
+
+    def fields(self, said: Said, refused: Optional[Refused]) -> Dict[str, str]:
+        """The values that stay in the form that was sent last: those of one that was refused, of a look for a swap, or of a verb that
+        failed."""
+        if refused:
+            return refused.fields
         return self.kept if said.is_fault or self.kept.get("verb") == "swap" else {}
 
 
@@ -113,9 +148,10 @@ class _Handler(BaseHTTPRequestHandler):
         path, query = self._path()
         if path is None:
             return
-        running = self.site.jobs.said()
+        running, refused = self.site.jobs.said(), self.site.refused(query)
+        why = refused.lines if refused else []
         if not path and running.runs:
-            return self._answer(page_markup(None, Shown(running, name=self.site.name), self.site.base))
+            return self._answer(page_markup(None, Shown(running, name=self.site.name, refused=why), self.site.base))
         # A plan that is written meanwhile has another stamp.
         stamp = self.site.jobs.folder.stamp
         plan, said = self.site.plan()
@@ -127,9 +163,10 @@ class _Handler(BaseHTTPRequestHandler):
         elif path:
             self._refuse(404, "there is no such page")
         else:
-            kept = self.site.fields(said)
-            place = _place(plan, query) or _looked(plan, kept, said)
-            shown = Shown(said, place, {}, kept, self.site.spreadsheet, worked, self.site.name, self.site.jobs.seconds, stamp)
+            kept = self.site.fields(said, refused)
+            place = _place(plan, query) or (None if refused else _looked(plan, kept, said))
+            seconds = self.site.jobs.seconds
+            shown = Shown(said, place, {}, kept, self.site.spreadsheet, worked, self.site.name, seconds, stamp, refused=why)
             self._answer(page_markup(plan, shown, self.site.base))
 
     def _page(self, path: str, plan: WardPlan) -> None:
@@ -162,12 +199,12 @@ class _Handler(BaseHTTPRequestHandler):
             fields = dict(parse_qsl(self.rfile.read(int(length)).decode(), max_num_fields=_MOST_FIELDS))
         except ValueError:
             return self._refuse(400, "this is no form of the page")
-        told = self.site.post(fields)
-        if told is not None:
+        answer = self.site.post(fields)
+        if answer.lines is not None:
             plan, said = self.site.plan()
-            return self._answer(page_markup(plan, Shown(said, asks=fields, name=self.site.name, told=told), self.site.base))
+            return self._answer(page_markup(plan, Shown(said, asks=fields, name=self.site.name, lines=answer.lines), self.site.base))
         self.send_response(303)
-        self.send_header("Location", self.site.base)
+        self.send_header("Location", f"{self.site.base}{answer.query}")
         self.send_header("Content-Length", "0")
         self.end_headers()
 

@@ -4,13 +4,13 @@ import datetime
 import re
 from dataclasses import replace
 from pathlib import Path
-from typing import Collection, Dict, List, Mapping, Optional
+from typing import Collection, Dict, Iterator, List, Mapping, NamedTuple, Optional, Sequence
 
-from ..shown.calendars import issue_now, write_calendars
+from ..shown.calendars import file_names, issue_now, write_calendars
 from ..shown.page import page_text
 from ..shown.page_tables import Content
 from ..week.dates import DAY, date_text
-from ..week.writing import write_text
+from ..week.writing import file_at, write_text
 from .days_beside import beside_lines
 from .not_kept import not_kept_lines
 from .plan_days import WEEK_DAYS, PlanDays
@@ -20,10 +20,53 @@ ROSTER, WALL, CALENDARS = "roster.html", "wall.html", "calendars"
 _WORKED = re.compile(r"worked(?:-([0-9]+(?:-[0-9]+-[0-9]+)?))?\.html")
 
 
-def write_roster_page(top: Path, plan: WardPlan, old: Optional[WardPlan] = None) -> Path:
-    """Writes the page with costs, and with what differs from an older plan of the same weeks."""
-    write_text(top / ROSTER, page_text(roster_content(plan, old)))
-    return top / ROSTER
+class Pages(NamedTuple):
+    """The pages of a folder that were written, and those that were taken away, since they showed another plan."""
+
+    written: List[Path]
+    gone: List[Path]
+
+    def lines(self) -> Iterator[str]:
+        """The lines that name them."""
+        if self.written:
+            yield f"written: {', '.join(map(str, self.written))}"
+        if self.gone:
+            wall = ": take down what hangs on the wall" if WALL in [path.name for path in self.gone] else ""
+            yield f"taken away: {', '.join(map(str, self.gone))}{wall}"
+
+
+def write_pages(
+    top: Path, plan: WardPlan, periods: int, before: Mapping[str, Collection[int]], old: Optional[WardPlan] = None
+) -> Pages:
+    """Writes the pages of a plan, after this number of older periods. Each page of the folder then shows it, or weeks that are over.
+    `old` is an older plan of the same weeks, and `before` has the days of nurses' shifts in the calendars of this period until now."""
+    worked, contents = worked_name(plan.days, periods), {}
+    if plan.open_week:
+        contents[worked] = _worked_content(plan)
+    if plan.is_planned and plan.weeks:
+        contents[ROSTER] = roster_content(plan, old)
+        contents.update({WALL: replace(roster_content(plan), only_table=True)} if plan.published else {})
+    gone = taken_away(top, [name for name in (worked, ROSTER, WALL) if name not in contents])
+    for name, content in contents.items():
+        write_text(top / name, page_text(content))
+    written = [top / name for name in contents]
+    if not plan.published:
+        return Pages(written, [*gone, *calendars_taken_away(top, [*plan.scenario.nurses], before)])
+    return Pages([*written, *_write_calendars(top, plan, before)], gone)
+
+
+def taken_away(top: Path, names: Sequence[str]) -> List[Path]:
+    """Takes these files away. Returns those that were there."""
+    there = [top / name for name in names if (top / name).is_file()]
+    for path in there:
+        file_at(path).unlink()
+    return there
+
+
+def calendars_taken_away(top: Path, nurses: Sequence[str], before: Mapping[str, Collection[int]]) -> List[Path]:
+    """Takes the calendars of this period away, if it has some. Returns their folder, if there were any."""
+    names = file_names(dict.fromkeys((*nurses, *before))).values() if before else ()
+    return [top / CALENDARS] * bool(taken_away(top / CALENDARS, list(names)))
 
 
 def worked_name(days: PlanDays, periods: int) -> str:
@@ -49,23 +92,19 @@ def _period_text(period: Optional[str]) -> str:
         return f", period {period}"
 
 
-def write_worked_page(top: Path, plan: WardPlan, periods: int) -> Path:
-    """Writes the page of the weeks that are over, as they were worked, after this number of older periods."""
-    content = Content(plan.view(range(plan.open_week)), None, plan.days.monday, plan.sheet.times, as_of=datetime.datetime.now())
-    path = top / worked_name(plan.days, periods)
-    write_text(path, page_text(content))
-    return path
+def _worked_content(plan: WardPlan) -> Content:
+    """What the page of the weeks that are over shows: how they were worked."""
+    return Content(plan.view(range(plan.open_week)), None, plan.days.monday, plan.sheet.times, as_of=datetime.datetime.now())
 
 
-def write_all(top: Path, plan: WardPlan, before: Mapping[str, Collection[int]]) -> List[Path]:
-    """Writes the page for the wall, and a calendar for each nurse if the plan has dates. `before` has the days of their older shifts."""
-    content = roster_content(plan)
-    write_text(top / WALL, page_text(replace(content, only_table=True)))
-    if content.monday is None:
-        return [top / WALL]
-    dates = {nurse: [plan.days.date(day) for day in days if day >= plan.first] for nurse, days in before.items()}
-    write_calendars(content.view, top / CALENDARS, content.monday, content.times, issue_now(dates))
-    return [top / WALL, top / CALENDARS]
+def _write_calendars(top: Path, plan: WardPlan, before: Mapping[str, Collection[int]]) -> List[Path]:
+    """Writes a calendar of the whole period for each nurse if the plan has dates: weeks that are over as they were worked."""
+    monday = plan.days.monday
+    if monday is None or not plan.is_planned:
+        return []
+    dates = {nurse: [plan.days.date(day) for day in days] for nurse, days in before.items()}
+    write_calendars(plan.view(range(plan.days.weeks)), top / CALENDARS, monday, plan.sheet.times, issue_now(dates))
+    return [top / CALENDARS]
 
 
 def roster_content(plan: WardPlan, old: Optional[WardPlan] = None) -> Content:

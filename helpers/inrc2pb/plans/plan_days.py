@@ -1,9 +1,11 @@
 """The days of a plan, as a user writes and reads them."""
 
 import datetime
+import itertools
 import re
-from typing import NamedTuple, Optional, Sequence
+from typing import Collection, NamedTuple, Optional, Sequence
 
+from ..judging.absences import joined
 from ..week.dates import DAY, date_text
 from ..week.faults import Misuse
 from ..week.records import DAYS
@@ -54,6 +56,11 @@ class PlanDays(NamedTuple):
     def span(self, days: Sequence[int]) -> str:
         """The first and the last of these days, as `Fri 4 Dec to Sun 6 Dec`."""
         return self.text(days[0]) if days[0] == days[-1] else f"{self.text(days[0])} to {self.text(days[-1])}"
+
+    def spans(self, days: Collection[int]) -> str:
+        """Days in a sentence, those in a row together."""
+        rows = itertools.groupby(enumerate(sorted(days)), key=lambda pair: pair[1] - pair[0])
+        return joined(self.span([day for _, day in row]) for _, row in rows)
 
     def head(self, day: int) -> str:
         """The day as the head of a column, as `2026-12-04` or `Fri 0`."""

@@ -10,14 +10,16 @@ from typing import Callable, Dict, Iterable, List, NamedTuple, Optional, Sequenc
 from ..programs.program import READ_OR_WRITE
 from ..programs.progress import Progress
 from ..week.faults import FileFault, Misuse, fault_line
-from ..week.files import read_solution
+from ..week.files import read_scenario, read_solution, read_week
 from ..week.hints import plural
+from ..week.records import Cell
 from . import pages
+from .pages import Pages
 from .plan_days import WEEK_DAYS, PlanDays
 from .record import Record, read_record
 from .ward_folder import WardFolder
 from .ward_plan import Sheet, WardPlan, continued, first_plan, read_stored, roster_name
-from .week_rows import anew_lines
+from .week_rows import anew_lines, unchanged_rows
 from .wording import Wording
 from .written_absences import WrittenAbsence
 
@@ -74,39 +76,53 @@ class PlanStore:
         return self.pages(plan, old)
 
     def anew(self, plan: WardPlan) -> List[str]:
-        """Warnings of rows of the needs with a week, at the begin of a period that follows another one."""
+        """Warnings of rows of the needs that are as they were in the last period, at the begin of the next one."""
         last = self.folder.last()
-        return list(anew_lines(plan.sheet.week_rows, plan.days)) if last and _ends_period(last) else []
-
-    def periods_before(self) -> int:
-        """The number of periods that were over before the last verb."""
-        return sum(map(_ends_period, self.folder.all_plans()[:-1]))
+        if not last or not _ends_period(last):
+            return []
+        ward = read_scenario(last / "ward.txt")
+        paths = {row.week: last / f"week-{row.week}.txt" for row in plan.sheet.week_rows}
+        older = {number: read_week(path, ward).requirements for number, path in paths.items() if path.exists()}
+        return list(anew_lines(unchanged_rows(plan.sheet.week_rows, older), plan.days))
 
     def worked_pages(self, plan: Optional[WardPlan]) -> Dict[str, str]:
-        """The pages of weeks that are over, and their texts. That of the plan is an undone one if no week of it is over. If the spreadsheet
-        has a fault, so there is no plan, also the page of the roster."""
-        undone = pages.worked_name(plan.days, self.periods_before()) if plan and not plan.open_week else None
-        last, roster = self.folder.last(), self.folder.top / pages.ROSTER
-        is_left = plan is None and last is not None and not _ends_period(last) and roster.is_file()
+        """The pages of weeks that are over, and their texts; also that of the roster if the spreadsheet has a fault, so there is no plan."""
+        is_left = plan is None and (self.folder.top / pages.ROSTER).is_file()
         found = {pages.ROSTER: "The roster as it was last written"} if is_left else {}
-        return {**found, **{name: text for name, text in pages.worked_pages(self.folder.top).items() if name != undone}}
+        return {**found, **pages.worked_pages(self.folder.top)}
 
     def pages(self, plan: WardPlan, old: Optional[WardPlan] = None) -> List[str]:
-        """Writes the pages of a plan. Returns the lines that name them."""
+        """Makes the pages of the folder those of a plan. Returns the lines that name them."""
         if self.only_reads:
             return []
-        top = self.folder.top
+        is_ended = bool(plan.open_week) and not plan.weeks
+        return self._paged(lambda: pages.write_pages(self.folder.top, plan, self._periods() - is_ended, self._before(plan.days), old))
+
+    def pages_undone(self, undone: Optional[Record]) -> List[str]:
+        """Takes the pages of a plan away that was undone, which has this record, if the plan that holds cannot be read now. Returns the
+        lines that name them."""
+        top, last = self.folder.top, self.folder.last()
+        holds = known_record(last) if last else None
+        names = [pages.ROSTER, pages.WALL]
+        if undone and holds and (undone.days, undone.open_week) != (holds.days, holds.open_week):
+            names.append(pages.worked_name(holds.days, self._periods()))
+        before = {nurse: days for one in (undone, holds) if one for nurse, days in self._before(one.days).items()}
+        return self._paged(lambda: Pages([], [*pages.taken_away(top, names), *pages.calendars_taken_away(top, [], before)]))
+
+    def _paged(self, make: Callable[[], Pages]) -> List[str]:
         try:
-            written = [pages.write_worked_page(top, plan, self.periods_before())] if plan.open_week else []
-            if plan.is_planned and plan.weeks:
-                written.append(pages.write_roster_page(top, plan, old))
-            if plan.published and plan.is_planned and plan.weeks:
-                before = published_days([*self.folder.all_plans(), *self.folder.undone()], plan.days)
-                written += pages.write_all(top, plan, before)
+            return list(make().lines())
         except OSError as fault:
             self.status = READ_OR_WRITE
             return [f"the plan holds, but its pages are not written: {fault_line(fault)}"]
-        return [f"written: {', '.join(map(str, written))}"] * bool(written)
+
+    def _periods(self) -> int:
+        """The number of periods that are over."""
+        return sum(map(_ends_period, self.folder.all_plans()))
+
+    def _before(self, days: PlanDays) -> Dict[str, Set[int]]:
+        """The days of each nurse's shifts in plans of these days that hung on the wall, also in those that were undone."""
+        return published_days([*self.folder.all_plans(), *self.folder.undone()], days)
 
 
 def fitted(plan: WardPlan) -> WardPlan:
@@ -117,24 +133,36 @@ def fitted(plan: WardPlan) -> WardPlan:
     return plan
 
 
+def known_record(folder: Path) -> Optional[Record]:
+    """The record of a plan's folder, if it is not damaged."""
+    try:
+        return read_record(folder)
+    except (FileFault, OSError):
+        return None
+
+
 def _ends_period(folder: Path) -> bool:
     """Whether the verb of a plan's folder has ended a period; a folder that is damaged has not."""
-    try:
-        return not read_record(folder).days.weeks
-    except (FileFault, OSError):
-        return False
+    of_plan = known_record(folder)
+    return of_plan is not None and not of_plan.days.weeks
 
 
 def published_days(folders: Iterable[Path], days: PlanDays) -> Dict[str, Set[int]]:
-    """The days of each nurse's shifts in plans of these days that hung on the wall."""
+    """The days of each nurse's shifts in plans of these days that hung on the wall, but for damaged files."""
     found: Dict[str, Set[int]] = {}
-    for folder in folders:
-        of_plan = read_record(folder)
-        rosters = [(number, folder / roster_name(number)) for number in range(days.weeks)]
-        for number, path in rosters if of_plan.published and of_plan.days == days else ():
-            for cell in read_solution(path).cells if path.exists() else ():
-                found.setdefault(cell.nurse, set()).add(WEEK_DAYS * number + cell.day)
+    records = ((folder, known_record(folder)) for folder in folders)
+    published = [folder for folder, of_plan in records if of_plan and of_plan.published and of_plan.days == days]
+    for number, path in ((number, folder / roster_name(number)) for folder in published for number in range(days.weeks)):
+        for cell in _known_cells(path):
+            found.setdefault(cell.nurse, set()).add(WEEK_DAYS * number + cell.day)
     return found
+
+
+def _known_cells(path: Path) -> Sequence[Cell]:
+    try:
+        return read_solution(path).cells
+    except (FileFault, OSError):
+        return ()
 
 
 def wording_of(plan: WardPlan, words: Sequence[str], usage: str) -> Wording:

@@ -7,6 +7,7 @@ from typing import Iterator, List, Optional, Sequence
 from ..judging.absences import readable
 from ..programs.interrupts import interrupts
 from ..programs.program import BROKEN_RULE, NO_ROSTER
+from ..shown.telling import part_sentences
 from ..week.faults import Misuse, ProgramFault
 from ..week.hints import plural
 from .agreed_days import AgreedDay, broken_line
@@ -58,7 +59,16 @@ def away(store: PlanStore, word: str, words: Sequence[str], seconds: Optional[fl
     store.means.say(f"{readable(nurse)}: {word}, {old.days.span([first, last])}")
     named = f"{word} {nurse} {old.days.head(first)} {old.days.head(last)}"
     lifted = [line for day in range(first, last + 1) for line in _lifted(old, nurse, day, word)]
-    return [*lifted, *_search(store, named, store.current(written), Asked(first, True, seconds or CHANGE_SECONDS))]
+    new = store.current(written)
+    return [*lifted, *part_lines(old, new, nurse), *_search(store, named, new, Asked(first, True, seconds or CHANGE_SECONDS))]
+
+
+def part_lines(old: WardPlan, new: WardPlan, nurse: str) -> List[str]:
+    """What counts of the nurse's contract now, if her shifts of the period are other ones."""
+    before, now = (plan.scenario.contract_of(nurse) for plan in (old, new))
+    if before.assignments == now.assignments:
+        return []
+    return list(map(readable, part_sentences(new.scenario, [nurse]))) or [readable(f"{nurse}: contract {now.name} counts as a whole again.")]
 
 
 def _lifted(old: WardPlan, nurse: str, day: int, word: str) -> Iterator[str]:
@@ -77,9 +87,10 @@ def back(store: PlanStore, words: Sequence[str], seconds: Optional[float]) -> Li
     days = _days_away(old, nurse, first)
     if not days:
         raise Misuse(f"{readable(nurse)} is not away on {old.days.text(first)}")
-    written = with_days(old.written, nurse, days, BACK)
+    new = store.current(with_days(old.written, nurse, days, BACK))
     store.means.say(f"{readable(nurse)}: back, {old.days.span(days)}")
-    return _search(store, f"back {nurse} {old.days.head(first)}", store.current(written), Asked(first, True, seconds or CHANGE_SECONDS))
+    named = f"back {nurse} {old.days.head(first)}"
+    return [*part_lines(old, new, nurse), *_search(store, named, new, Asked(first, True, seconds or CHANGE_SECONDS))]
 
 
 def _days_away(old: WardPlan, nurse: str, first: int) -> List[int]:

@@ -20,11 +20,18 @@ def offer_lines(plan: WardPlan, swaps: Swaps, nurse: str, day: int) -> List[str]
     found = swaps.offers(nurse, day)
     shift = f"{readable(nurse)}'s {readable(cell.shift)} on {plan.days.text(day)}"
     if not found:
-        return [f"nobody can take {shift}"]
+        return [f"nobody can take {shift}: {why_nobody(swaps, nurse, day)}"]
     return [
         f"who could take {shift}, and what it adds to the points:",
         *(offer_text(plan.days, swaps, offer) for offer in found[:MOST_OFFERS]),
     ]
+
+
+def why_nobody(swaps: Swaps, nurse: str, day: int) -> str:
+    """Why nobody can take a shift, and what to do."""
+    if swaps.is_held(nurse, day):
+        return f"the sheet plan fixes it for {readable(nurse)}: empty her cell of this day, save the sheet, and look again"
+    return "each swap would break a hard rule, a limit that holds or an absence, or move a fixed shift: look at a swap with one nurse, or plan"
 
 
 def shift_of(swaps: Swaps, swap: Swap) -> Tuple[str, int]:

@@ -47,6 +47,10 @@ class Swaps:
         """The nurse's assignment on a day, if she has one."""
         return self._cells[nurse].get(day)
 
+    def is_held(self, nurse: str, day: int) -> bool:
+        """Whether the spreadsheet fixes the nurse's shift on a day."""
+        return (nurse, day) in self._held
+
     def _after(self, swap: Swap) -> Iterator[Tuple[str, Dict[int, Cell]]]:
         """The assignments of the two nurses after the swap."""
         for nurse, other in ((swap.one, swap.other), (swap.other, swap.one)):
@@ -88,7 +92,7 @@ class Swaps:
             **{day: cell.shift for day, cell in cells.items()},
         }
         for day in days:
-            if (nurse, day) in self._held and cells.get(day) != self._cells[nurse].get(day):
+            if self.is_held(nurse, day) and cells.get(day) != self._cells[nurse].get(day):
                 yield f"{readable(nurse)} has her shift on {plan.days.text(day)} for certain, by the spreadsheet"
             if day in cells:
                 yield from self._cell_faults(cells[day])

@@ -6,20 +6,15 @@ from typing import Dict, List, Optional, Sequence
 
 from ..judging.absences import readable
 from ..judging.demand import ABOVE_LIMITS, UNKEPT
-from ..judging.leave import paid_days
 from ..judging.odd_values import IMPOSSIBLE
 from ..programs.program import BROKEN_RULE, NO_ROSTER
-from ..shown.telling import held_sentences, history_sentences, limit_sentences, scenario_sentences, week_sentences
-from ..sheets.plan_sheets import COUNTED
 from ..shown.why import breach_lines
 from ..week.faults import FileFault, Misuse, fault_line
 from . import search_verbs, swap_verb, week_end
 from .days_beside import beside_lines
-from .pages import WALL
-from .plan_days import WEEK_DAYS
-from .plan_store import Means, PlanStore, fitted
-from .record import read_record
+from .plan_store import Means, PlanStore, fitted, known_record
 from .ward_folder import WardFolder
+from .told_plan import told_lines
 from .ward_plan import WardPlan
 
 
@@ -66,16 +61,9 @@ class Verbs:
         """The warnings of the spreadsheet, and the ward in sentences. That no plan can meet a minimum is in the status."""
         plan = self.current()
         self._store.status = _status_of(plan.sheet.warnings)
-        lines = [f"warning: {line}" for line in (*map(readable, plan.sheet.warnings), *self._store.anew(plan), *beside_lines(plan))]
-        limits = limit_sentences(plan.scenario, plan.data[plan.open_week]) if plan.weeks else ()
-        lines += [*scenario_sentences(plan.scenario), *limits, "", *history_sentences(plan.histories[plan.open_week], plan.sheet.credit)]
-        for number in plan.weeks:
-            data, past = plan.data[number], plan.histories[number] if number < len(plan.histories) else None
-            paid = [paid_days(plan.reasons(later), COUNTED) for later in plan.weeks if later >= number]
-            told = week_sentences(plan.scenario, past, data, plan.reasons(number), paid)
-            lines += ["", f"Week {number}, {plan.days.text(WEEK_DAYS * number)}:", *told, *held_sentences(plan.held[number])]
-        if plan.is_planned:
-            lines += ["", *breach_lines(plan.view(), "plan")]
+        lines = [f"warning: {line}" for line in (*plan.sheet.warnings, *self._store.anew(plan), *beside_lines(plan))]
+        lines += breach_lines(plan.view(), "plan") if plan.is_planned and plan.weeks else []
+        lines += [*([] if lines else ["No mistake found."]), "", *told_lines(plan)]
         lines += ["", "No plan can keep all of this: do what the warnings at the top say."] * bool(self.status)
         return [readable(line) for line in lines]
 
@@ -89,17 +77,16 @@ class Verbs:
         folder.check_undo()
         if self._store.only_reads:
             return []
-        undone = _made(folder.undo())
-        last = folder.last()
-        if last is None:
-            return [f"undone: {undone}; there is no plan any more"]
-        lines = [f"undone: {undone}", f"the plan of {_made(last)} holds again{', with the same shifts' * undone.startswith('page, ')}"]
+        path = folder.undo()
+        undone, last = _made(path), folder.last()
+        lines = [f"undone: {undone}; there is no plan any more"] if last is None else [f"undone: {undone}"]
+        lines += [f"the plan of {_made(last)} holds again{', with the same shifts' * undone.startswith('page, ')}"] if last else []
         try:
-            plan = fitted(self.current())
-            stale = not plan.published and (folder.top / WALL).exists()
-            return [*lines, *self._store.pages(plan), *[f"{folder.top / WALL} is as it was: take it down"] * stale]
+            return [*lines, *self._store.pages(fitted(self.current()))]
         except (FileFault, Misuse) as fault:
-            return [*lines, f"its pages are not written: {fault_line(fault)}"]
+            gone = self._store.pages_undone(known_record(path))
+            cure = f"its pages are not written: {fault_line(fault)}"
+            return [*lines, *gone, *[cure] * bool(last)]
 
 
 def _status_of(warnings: Sequence[str]) -> int:
@@ -111,7 +98,5 @@ def _status_of(warnings: Sequence[str]) -> int:
 
 def _made(folder: Path) -> str:
     """The verb and the time of a plan; the name of its folder if it is damaged."""
-    try:
-        return readable(read_record(folder).made)
-    except (FileFault, OSError):
-        return folder.name
+    of_plan = known_record(folder)
+    return readable(of_plan.made) if of_plan else folder.name

@@ -21,12 +21,12 @@ from ..week.reasons import Reasons, read_reasons
 from ..week.records import Cell, History, Scenario, Solution, Week, WeekData
 from ..week.writing import write_text
 from . import record
-from .agreed_days import NAME as AGREED
-from .agreed_days import AgreedDay, agreed_text, read_agreed
+from .agreed_days import NAME as AGREED, AgreedDay, agreed_text, read_agreed
 from .free_days import days_away_of
 from .leavers import leaving_days, with_shifts_of_the_ill, with_shifts_until_leaving
 from .plan_days import PERIOD_IS_OVER, WEEK_DAYS, PeriodOver, PlanDays
 from .record import Record, read_record
+from .week_rows import WeekRow
 from .written_absences import WrittenAbsence, read_written, written_text
 from .written_absences import NAME as ABSENCES
 
@@ -39,8 +39,8 @@ Cells = Tuple[Cell, ...]
 
 class Sheet(NamedTuple):
     """A spreadsheet as the texts of a ward's files by their names, warnings, the shifts as which days away count in its history, the times
-    of shift types, the days for which the needs have numbers of their own, as for a bank holiday, and the week of each row of the needs
-    that has one."""
+    of shift types, the days for which the needs have numbers of their own, as for a bank holiday, and the rows of the needs that have a
+    week."""
 
     texts: Dict[str, str]
     warnings: Sequence[str]
@@ -48,7 +48,7 @@ class Sheet(NamedTuple):
     credit: Dict[str, int]
     times: Mapping[str, Times] = {}
     holidays: FrozenSet[int] = frozenset()
-    week_rows: Mapping[int, int] = {}
+    week_rows: Sequence[WeekRow] = ()
 
 
 class Stored(NamedTuple):

@@ -88,9 +88,8 @@ def _next_period(store: PlanStore, worked: WardPlan) -> List[str]:
     monday = worked.days.monday and worked.days.monday + datetime.timedelta(days=worked.days.total)
     sheet = worked.sheet._replace(days=PlanDays(monday, 0), credit={})
     begun = replace(worked, sheet=sheet, start=past, open_week=0, rosters={}, written=(), agreed=(), published=False)
-    store.save("over period", begun)
     # The pages show the period that is over.
-    lines = store.pages(replace(worked, open_week=number + 1, published=False))
+    lines = [*store.save("over period", begun), *store.pages(replace(worked, open_week=number + 1))]
     begin = f"from {monday} on, " if monday else ""
     then = "into the sheet plan, with its wishes and absences; then plan"
     closed = f"week {number} is over, and with it the {PERIOD_IS_OVER}"

@@ -4,8 +4,9 @@ A ward's file has one contract for a whole period, so a nurse for whom another o
 """
 
 from dataclasses import replace
-from typing import List, Sequence, Set
+from typing import Sequence, Set
 
+from ..week.part_contracts import PartContract
 from ..week.records import DAYS, Contract, Limits
 from ..week.slots import MAX_CONTRACTS, MAX_NUMBER
 from .plan_sheets import NOT_EMPLOYED, WeekSheet
@@ -33,16 +34,16 @@ def _own_contract(ward: Ward, nurse: str, weeks: Sequence[WeekSheet]) -> Contrac
     contract = ward.scenario.contract_of(nurse)
     total = _WEEK * ward.scenario.weeks
     gone = sum(word in NOT_EMPLOYED for week in weeks for (who, _), word in week.reasons.items() if who == nurse)
-    words: List[str] = []
+    part = PartContract(contract.name)
     if gone:
         minimum, maximum = contract.assignments
         most = maximum if maximum >= min(total, MAX_NUMBER) else -(-maximum * (total - gone) // total)
         contract = replace(contract, assignments=Limits(minimum * (total - gone) // total, most))
-        words.append(f"{total - gone}_of_{total}_days")
+        part = part._replace(days=total - gone, total=total)
     if _longest_absence(ward, nurse, weeks) > contract.days_off.maximum:
         contract = replace(contract, days_off=Limits(contract.days_off.minimum, MAX_NUMBER))
-        words.append("any_days_off")
-    return replace(contract, name="_".join([contract.name, *words]))
+        part = part._replace(any_days_off=True)
+    return replace(contract, name=part.name)
 
 
 def _longest_absence(ward: Ward, nurse: str, weeks: Sequence[WeekSheet]) -> int:

@@ -140,15 +140,15 @@ def _read_needs(table: Table, scenario: Scenario, weeks: List[WeekSheet], monday
                     row.of("shift").fault(f"{readable(shift)} {readable(skill)} has a row already: delete one, or write its week")
                 given[asked] = [row.of(name.casefold()) for name in DAYS]
                 for cell in given[asked]:
-                    _needed(cell)
+                    needed(cell)
     for shift, skill in dict.fromkeys((asked.shift, asked.skill) for asked in given):
         of_all = given.get(_Asked(None, shift, skill))
         for number, sheet in enumerate(weeks):
             of_week = given.get(_Asked(number, shift, skill), of_all)
             for day, cell in enumerate(of_week or ()):
                 base = of_all[day] if of_all and not cell.text else cell
-                sheet.requirements[Place(day, shift, skill)] = _needed(base)
-                if of_all and _needed(base) != _needed(of_all[day]):
+                sheet.requirements[Place(day, shift, skill)] = needed(base)
+                if of_all and needed(base) != needed(of_all[day]):
                     sheet.holidays.add(day)
 
 
@@ -166,7 +166,7 @@ def _week_number(cell: SheetCell, weeks: int, monday: Optional[datetime.date]) -
     return week
 
 
-def _needed(cell: SheetCell) -> Requirement:
+def needed(cell: SheetCell) -> Requirement:
     """The numbers of a cell: `2`, `2+1` (at least two, three are best), `2..3` or nothing."""
     if cell.text in _NO_WISH:
         return Requirement(0, 0)

@@ -14,6 +14,8 @@ from ..week.writing import write_text
 
 # The maximum number of bytes of a line.
 _LINE = 75
+# The second from which the numbers of calendars count, so that they stay below the most that a calendar may have, 2,147,483,647.
+_FIRST_ISSUE = datetime.datetime(2025, 1, 1, tzinfo=datetime.timezone.utc).timestamp()
 
 
 class Issue(NamedTuple):
@@ -24,8 +26,8 @@ class Issue(NamedTuple):
 
 
 def issue_now(before: Mapping[str, Collection[datetime.date]]) -> Issue:
-    """The issue of this minute."""
-    return Issue(int(time.time() // 60), before)
+    """The issue of this second."""
+    return Issue(int(time.time() - _FIRST_ISSUE), before)
 
 
 def shift_dates(view: RosterView, monday: datetime.date) -> Dict[str, List[datetime.date]]:
@@ -123,8 +125,9 @@ def file_names(nurses: Iterable[str]) -> Dict[str, str]:
 def write_calendars(
     view: RosterView, folder: Path, monday: datetime.date, times: Mapping[str, Times], issue: Optional[Issue] = None
 ) -> None:
-    """Writes a calendar for each nurse to the folder, which is made if it does not exist."""
-    texts = {name: calendar(view, nurse, monday, times, issue) for nurse, name in file_names(view.nurses).items()}
+    """Writes a calendar for each nurse, also for those of older issues, to the folder, which is made if it does not exist."""
+    nurses = dict.fromkeys((*view.nurses, *(issue.before if issue else ())))
+    texts = {name: calendar(view, nurse, monday, times, issue) for nurse, name in file_names(nurses).items()}
     folder.mkdir(parents=True, exist_ok=True)
     for name, text in texts.items():
         write_text(folder / name, text)

@@ -8,8 +8,10 @@ from dataclasses import replace
 from ward import HAS_CBC, HAS_CLASP, HISTORY, ROOT, SCENARIO, WEEK, WEEK_OPTIONS, HelperTest, files, run
 
 from inrc2pb.judging.demand import asked_shifts, demand_warnings, supplied_shifts
-from inrc2pb.week.records import Absence, Contract, Limits, Nurse, Place, Requirement, Scenario, ShiftType, WeekData
-from inrc2pb.shown.telling import scenario_sentences, week_sentences
+from inrc2pb.week.part_contracts import PartContract, part_contract
+from inrc2pb.week.records import Absence, Contract, KeptLimit, Limits, Nurse, Place, Request, Requirement, Scenario, ShiftType, WeekData
+from inrc2pb.shown.telling import history_sentences, limit_sentences, scenario_sentences, supply_text, ward_sentence
+from inrc2pb.shown.telling_weeks import ToldWeek, weeks_sentences
 
 WARD, DATA = files.read_scenario(SCENARIO), files.read_week(WEEK, files.read_scenario(SCENARIO))
 PAST = files.read_history(HISTORY, WARD)
@@ -77,34 +79,90 @@ class Demand(unittest.TestCase):
 
 class Telling(HelperTest):
     def test_a_ward_in_sentences(self):
-        found = list(scenario_sentences(WARD))
-        for line in (
-            "ward: 7 nurses, 4 weeks in a period.", "Day: 2 to 5 days in a row.", "After Night, the next day no Day and no Late.",
-            "Contract Half: Ewa and Finn.", "Half: 8 to 11 shifts in 4 weeks; 2 to 3 days of work in a row, 2 to 5 days off.",
-            "Full: at most 2 weekends with work, on both days or none.", "Charge: Amara, Bruno and Ewa.",
-        ):  # fmt: skip
-            self.assertIn(line, found)
+        full = "17 to 21 shifts in 4 weeks; 3 to 5 days of work in a row, 2 to 3 days off; at most 2 weekends with work, on both days or none"
+        half = "8 to 11 shifts in 4 weeks; 2 to 3 days of work in a row, 2 to 5 days off; at most 2 weekends with work"
+        self.assertEqual([ward_sentence(WARD), *scenario_sentences(WARD)], [
+            "ward: 7 nurses, 4 weeks in a period.", "Day: 2 to 5 days in a row.", "Late: 2 to 4 days in a row. After Late, the next day no Day.",
+            "Night: 2 to 4 days in a row. After Night, the next day no Day and no Late.",
+            f"Contract Full (Amara, Bruno, Chen, Dilek and Grace): {full}.", f"Contract Half (Ewa and Finn): {half}.",
+            "Charge: Amara, Bruno and Ewa.", "Nurse: Amara, Bruno, Chen, Dilek, Ewa, Finn and Grace.",
+        ])  # fmt: skip
+
+    def test_equal_contracts_and_parts_of_them(self):
+        full = WARD.contracts["Full"]
+        part = replace(full, name="Full_25_of_28_days", assignments=Limits(15, 19))
+        long_off = replace(full, name="Full_any_days_off", days_off=Limits(2, 9999))
+        contracts = {one.name: one for one in (full, replace(full, name="Same"), part, long_off)}
+        given = zip(WARD.nurses, ("Full", "Same", "Full", part.name, long_off.name, long_off.name, "Full"))
+        ward = replace(WARD, contracts=contracts, nurses={name: replace(WARD.nurses[name], contract=own) for name, own in given})
+        found = list(scenario_sentences(ward))[3:6]
+        self.assertTrue(found[0].startswith("Contracts Full (Amara, Chen, Dilek, Ewa, Finn and Grace) and Same (Bruno): 17 to 21 shifts "))
+        self.assertEqual(found[1:], [
+            "Dilek is away or unpaid on 3 of 28 days: contract Full counts in proportion, 15 to 19 shifts in place of 17 to 21.",
+            "Away for longer than the contract's most days off in a row, so without such a maximum: Ewa and Finn.",
+        ])  # fmt: skip
+        limits = frozenset({KeptLimit(nurse, "SHIFTS", 0) for nurse in ward.nurses} | {KeptLimit("Bruno", "WEEKENDS", 0)})
+        self.assertEqual(list(limit_sentences(ward, replace(DATA, limits=limits))), [
+            "Amara, Chen, Ewa, Finn and Grace: never more than 21 shifts.", "Dilek: never more than 19 shifts.",
+            "Same: never more than 21 shifts and 2 weekends.",
+        ])  # fmt: skip
+
+    def test_names_of_parts_of_contracts(self):
+        for part, name in (
+            (PartContract("A_b", 3, 28), "A_b_3_of_28_days"),
+            (PartContract("A_b", any_days_off=True), "A_b_any_days_off"),
+            (PartContract("A_b", 3, 28, True), "A_b_3_of_28_days_any_days_off"),
+        ):
+            self.assertEqual((part.name, part_contract(name, ["A_b", name]), part_contract(f"{name}_", ["A_b"])), (name, part, part))
+            # A ward may have a contract with such a name.
+            self.assertEqual((part_contract(name, [name]), part_contract("A_b", ["A_b"])), (None, None))
+
+    def test_a_history_in_sentences(self):
+        self.assertEqual(list(history_sentences(PAST)), [
+            "Off on Sunday: Bruno and Grace for 2 days in a row; Chen for 1 day in a row; Ewa for 3 days in a row.",
+            "Day on Sunday: Amara for 2 days in a row, with 2 days of work.", "Night on Sunday: Dilek for 2 days in a row, with 2 days of work.",
+            "Late on Sunday: Finn for 1 day in a row, with 1 day of work.",
+        ])  # fmt: skip
+        nurses = {**PAST.nurses, **{name: replace(PAST.nurses[name], assignments=5, weekends=1) for name in ("Amara", "Chen")}}
+        nurses["Ewa"] = replace(PAST.nurses["Ewa"], assignments=2)
+        found = list(history_sentences(replace(PAST, week=1, nurses=nurses), {"Ewa": 2}))
+        self.assertEqual(found[0], "1 week of the period is over.")
+        self.assertEqual(found[-1], "In the period until now: Amara and Chen 5 shifts and 1 weekend; Ewa 2 shifts (2 for days away) and 0 weekends.")
 
     def test_a_week_in_sentences(self):
         data = replace(DATA, absences=frozenset({*(Absence("Chen", day, None) for day in (2, 3, 4)), *(Absence("Ewa", day, "Night") for day in range(7))}))
-        found = list(week_sentences(WARD, PAST, data))
-        for line in (
-            "Day Nurse: 1, better 2 on Mon to Fri; 0, better 1 on Sat and Sun.", "Late Nurse: 1 on all days.",
-            "The week asks for 26 to 33 shifts; the contracts supply 25 to 32 a week.", "Chen is away on Wed to Fri.", "Ewa never works Night.",
-            "Grace would rather not work Night on Tue.", "Dilek would rather be off on Fri.",
-        ):  # fmt: skip
-            self.assertIn(line, found)
+        self.assertEqual(supply_text(WARD, PAST, data), "asks for 26 to 33 shifts; the contracts supply 25 to 32 a week")
+        self.assertEqual(list(weeks_sentences(WARD, [ToldWeek(0, data)])), [
+            "Day Charge: 1 on all days.", "Day Nurse: 1, better 2 on Mon to Fri; 0, better 1 on Sat and Sun.", "Late Nurse: 1 on all days.",
+            "Night Nurse: 1 on all days.", "Never Night: Ewa.", "Away: Chen on Wed to Fri.",
+            "Would rather be off: Chen on Sat; Dilek on Fri; Ewa on Sun.", "Would rather not work Late: Finn on Wed.",
+            "Would rather not work Night: Grace on Tue.",
+        ])  # fmt: skip
+
+    def test_weeks_in_sentences(self):
+        # One week of three needs nobody on Friday, and one has no row for nights; a nurse is away over Sunday.
+        fewer = replace(DATA, requirements={**DATA.requirements, Place(4, "Late", "Nurse"): Requirement(0, 0)})
+        fewer = replace(fewer, absences=frozenset(Absence("Ewa", day, None) for day in (5, 6)), requests=(Request("Ewa", None, 0),) * 2)
+        nights = {place: number for place, number in DATA.requirements.items() if place.shift != "Night"}
+        other = replace(DATA, requirements=nights, absences=frozenset({Absence("Ewa", 0, None), Absence("Chen", 1, None)}), requests=())
+        weeks = [ToldWeek(3, replace(DATA, requests=())), ToldWeek(4, fewer, {("Ewa", 5): "leave", ("Ewa", 6): "leave"}),
+                 ToldWeek(5, other, {("Ewa", 0): "leave", ("Chen", 1): "off"})]  # fmt: skip
+        self.assertEqual(list(weeks_sentences(WARD, weeks, lambda days: " ".join(map(str, sorted(days)))))[2:], [
+            "Late Nurse: 1 on all days; week 4: 0 on Fri.", "Night Nurse: 1 on all days; week 5: 0 on all days.",
+            "Always off: Chen on Tue.", "Leave: Ewa on 12 13 14.", "Would rather be off: Ewa on 7 (2 requests).",
+        ])  # fmt: skip
 
     def test_check_tells_held_shifts(self):
         fix = self.solution("Grace Sat Day Nurse", "Chen Mon Late Nurse", "Grace Sun Day Nurse")
         printed = run("check", *WEEK_OPTIONS, "--fix", fix, "--tell")[1]
-        self.assertIn("\nGrace has the shift Day Nurse for certain on Sat and Sun.\nChen has the shift Late Nurse for certain on Mon.\n", printed)
-        self.assertNotIn("for certain", run("check", *WEEK_OPTIONS, "--tell")[1])
+        self.assertIn("\nFor certain: Grace Day Nurse on Sat and Sun; Chen Late Nurse on Mon.\n", printed)
+        self.assertNotIn("For certain", run("check", *WEEK_OPTIONS, "--tell")[1])
 
     def test_check_tells(self):
         status, printed, said = run("check", *WEEK_OPTIONS, "--tell")
         self.assertEqual((status, said), (0, ""))
-        for line in ("After Late, the next day no Day.", "Dilek worked Night on Sunday, 2 days in a row, with 2 days of work.", "No mistake found."):
+        after, last = "Late: 2 to 4 days in a row. After Late, the next day no Day.", "Night on Sunday: Dilek for 2 days in a row, with 2 days of work."
+        for line in (after, last, "The week asks for 26 to 33 shifts; the contracts supply 25 to 32 a week.", "No mistake found."):
             self.assertIn(line, printed.splitlines())
 
 

@@ -26,6 +26,8 @@ class ServedPage(FolderTest):
         self.jobs = Jobs(WardFolder(self.ward), read_sheet, signals, 7.0)
         server = LocalServer(self.jobs, "127.0.0.1", 0)
         self.site = urlsplit(server.address)
+        # The address that the browser shows.
+        self.shown = self.site.path
         thread = threading.Thread(target=server.run, args=(signals,))
         thread.start()
         self.addCleanup(thread.join)
@@ -37,15 +39,17 @@ class ServedPage(FolderTest):
         return self.jobs.folder.stamp
 
     def asks(self, method="GET", path=None, form=None, **headers):
-        """The status and the text of an answer."""
+        """The status and the text of an answer. Without a path the browser loads its page again; a form may lead it to another one."""
+        path = path or (self.shown if method == "GET" else self.site.path)
         form = f"{form}&stamp={self.stamp}" if form and form.startswith("verb=") and "stamp=" not in form else form
         connection = http.client.HTTPConnection(self.site.netloc, timeout=60)
         given = {name.replace("_", "-"): value for name, value in headers.items()}
         kind = {"Content-Type": "application/x-www-form-urlencoded"} if form is not None else {}
-        connection.request(method, self.site.path if path is None else path, form, {**kind, **given})
+        connection.request(method, path, form, {**kind, **given})
         answer = connection.getresponse()
         text = answer.read().decode()
         connection.close()
+        self.shown = answer.headers.get("Location", self.shown)
         return answer.status, text
 
     def sends(self, **fields):

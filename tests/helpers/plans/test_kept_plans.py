@@ -21,6 +21,7 @@ from inrc2pb.plans.leave_words import leave_lines
 from inrc2pb.plans.needless_changes import without_needless_changes
 from inrc2pb.plans.not_kept import not_kept_lines
 from inrc2pb.plans.plan_days import PlanDays
+from inrc2pb.plans.search_verbs import part_lines
 from inrc2pb.plans.shift_changes import call_lines, change_lines, shift_changes
 from inrc2pb.plans.ward_plan import read_stored
 from inrc2pb.plans.wish_words import wish_lines
@@ -73,6 +74,37 @@ class Words(KeptTest):
         new = self.plan.with_cells([*cells, Cell("Ewa", 0, "Day", "Nurse")])
         new.data[:] = self.plan.data
         self.assertEqual(wish_lines(self.plan, new), ["wish lost: Ewa, off on Mon 30 Nov"])
+
+    def test_why_nobody_can_take_a_shift(self):
+        self.rows["plan"][7][1] = "Day"
+        # Only Dilek works nights.
+        for row in self.rows["nurses"][1:]:
+            row[3] = "" if row[0] == "Dilek" else "Night"
+        self.write()
+        fixed = "the sheet plan fixes it for Grace: empty her cell of this day, save the sheet, and look again"
+        self.assertEqual(self.does("swap", "Grace", "Mon"), f"nobody can take Grace's Day on Mon 30 Nov: {fixed}\n")
+        self.assertIn("nobody can take Dilek's Night on Mon 30 Nov: each swap would break a hard rule, ", self.does("swap", "Dilek", "Mon"))
+        self.rows["plan"][7][1] = ""
+        self.write()
+        self.assertIn("who could take Grace's Day on Mon 30 Nov", self.does("swap", "Grace", "Mon"))
+
+    def test_the_part_of_a_contract_that_counts_is_told(self):
+        # Nine of 14 days: 8 * 9 / 14 shifts, rounded down, and 10 * 9 / 14, rounded up; at most three days off in a row. Ill days change
+        # nothing of the shifts.
+        self.rows["contracts"][1][1:3] = ["8", "10!"]
+        self.write()
+        begun = replace(self.plan, sheet=read_sheet(self.ward, None, ()))
+        for word, says in (
+            ("unpaid", ["Grace is away or unpaid on 5 of 14 days: contract Full counts in proportion, 5 to 7 shifts in place of 8 to 10.",
+                        "Away for longer than the contract's most days off in a row, so without such a maximum: Grace."]),
+            ("ill", []),
+        ):  # fmt: skip
+            self.rows["plan"][7][3:8] = [word] * 5
+            self.write()
+            away = replace(self.plan, sheet=read_sheet(self.ward, None, ()))
+            self.assertEqual(part_lines(begun, away, "Grace"), says)
+            self.assertEqual(part_lines(away, begun, "Grace"), ["Grace: contract Full counts as a whole again."] * bool(says))
+            self.assertEqual(part_lines(begun, away, "Chen"), [])
 
     def test_shifts_are_left_for_nobody_who_is_away(self):
         week = self.plan.week(0)
@@ -288,7 +320,8 @@ class Weeks(KeptTest):
 
     def test_a_wall_that_is_undone(self):
         self.does("page")
-        self.assertIn(f"{self.ward}/wall.html is as it was: take it down\n", self.does("undo"))
+        gone = f"taken away: {self.ward}/wall.html, {self.ward}/calendars: take down what hangs on the wall\n"
+        self.assertIn(gone, self.does("undo"))
 
     def test_a_page_of_a_plan_on_the_wall_is_undone_alone(self):
         self.does("page")
@@ -307,10 +340,11 @@ class Weeks(KeptTest):
         roster = self.last() / "roster-1.txt"
         self.does("over")
         roster.write_text(roster.read_text().replace("Grace Mon Day", "Grcae Mon Day"))
-        wall = (self.ward / "wall.html").read_bytes()
+        self.assertTrue((self.ward / "wall.html").exists())
         printed = self.does("undo")
         self.assertIn("its pages are not written: the plan has 'Grcae Mon Day Nurse', and the spreadsheet has not all of these names", printed)
-        self.assertEqual((self.ward / "wall.html").read_bytes(), wall)
+        # The pages of the plan that was undone are not left.
+        self.assertEqual(list(self.ward.glob("*.html")), [])
 
     def test_the_weeks_as_they_were_worked(self):
         self.does("over", "Finn", "Fri", "off")

@@ -82,7 +82,7 @@ class Page(ServedPage):
         self.rows["plan"][1][1] = "wish"
         self.write()
         page = self.sends(verb="check")
-        self.assertTrue("Amara would rather be off on Mon." in page and 'class="fault"' not in page)
+        self.assertTrue("Would rather be off: Amara on Mon 30 Nov and Wed 9 Dec; " in page and 'class="fault"' not in page)
 
     def test_a_fault_that_was_corrected_is_said_no_more(self):
         self.write_plan()
@@ -193,7 +193,7 @@ class Page(ServedPage):
         for row in self.rows["nurses"][1:]:
             row[3] = "" if row[0] == nurse else "Night"
         self.write()
-        self.assertIn("<p>Nobody can take it.</p>", self.asks(path=f"{self.site.path}?nurse={nurse}&day={day}")[1])
+        self.assertIn("<p>Nobody can take it: each swap would break ", self.asks(path=f"{self.site.path}?nurse={nurse}&day={day}")[1])
 
     def test_what_a_newcomer_looks_for(self):
         page = self.asks()[1]
@@ -232,7 +232,7 @@ class Page(ServedPage):
             self.asks("POST", form="verb=undo&sure=yes")
             fcntl.flock(lock, fcntl.LOCK_UN)
         self.jobs.wait()
-        self.assertIn("another verb still runs: wait for its end, or stop it", self.asks()[1])
+        self.assertIn("another verb was running, so this button did nothing: wait for its end, or stop it", self.asks()[1])
 
     def test_the_pages_that_are_linked(self):
         self.write_plan()

@@ -82,6 +82,19 @@ class NextPeriod(KeptTest):
         self.assertIn(row, self.end_period())
         self.write_next(MONDAY + datetime.timedelta(days=14))
         self.assertIn(f"warning: {row}", run("plan", self.ward, "check")[1])
+        # Numbers of all weeks that change do not make the row right.
+        self.rows["needs"][2][5] = "2+1"
+        self.write()
+        self.assertIn(f"warning: {row}", run("plan", self.ward, "check")[1])
+        # Whoever has corrected the row, its week or its days, is not told again; nor is who has emptied it.
+        right = ["1", "day", "Nurse", *[""] * 4, "1", "", ""]
+        for other in (["0", *right[1:]], [*right[:3], "1", *right[4:7], "", "", ""], [*right[:7], "2", "", ""], [*right[:7], "", "", ""]):
+            self.rows["needs"][-1] = other
+            self.write()
+            self.assertNotIn("count anew", run("plan", self.ward, "check")[1])
+        self.rows["needs"][-1] = right
+        self.write()
+        self.assertIn(f"warning: {row}", run("plan", self.ward, "check")[1])
         self.plan_next()
         self.assertNotIn("count anew", run("plan", self.ward, "check")[1])
 

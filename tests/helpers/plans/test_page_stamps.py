@@ -1,5 +1,6 @@
 """Tests of the local page: a form that was shown for an older plan writes nothing."""
 
+import fcntl
 import re
 import unittest
 from urllib.parse import urlencode
@@ -8,7 +9,8 @@ from served_page import ServedPage
 from test_plans import DATES
 from ward import run
 
-SAYS = '<pre role="alert" class="fault">the plan has changed since this form was shown, so nothing was written: look at the plan below'
+SAYS = '<pre role="alert" class="fault">this form was shown for an older plan, so nothing was written by it: look at the plan below'
+BUSY = "another verb was running, so this button did nothing"
 
 
 def fields_of(page, button):
@@ -46,6 +48,49 @@ class Stamps(ServedPage):
             self.assertIn(SAYS, page)
             self.assertIn("End the week</button>", page)
             self.assertEqual(self.plans(), after, verb)
+
+    def answers(self, verb):
+        """The question whether to do this verb, answered by yes."""
+        return urlencode(fields_of(self.asks("POST", form=f"verb={verb}")[1], "Yes, write it"))
+
+    def test_each_tab_shows_what_became_of_its_own_form(self):
+        self.write_plan()
+        first, second = self.answers("over"), self.answers("undo")
+        with open(self.ward / "plans" / "lock", "w") as lock:
+            fcntl.flock(lock, fcntl.LOCK_EX)
+            self.asks("POST", form=first)
+            of_first = self.shown
+            # The first verb waits for the lock, so it still runs.
+            self.asks("POST", form=second)
+            of_second = self.shown
+            self.assertIn(BUSY, self.asks(path=of_second)[1])
+            self.assertNotIn(BUSY, self.asks(path=of_first)[1])
+            fcntl.flock(lock, fcntl.LOCK_UN)
+        self.ended()
+        # The first one has written a plan, so the question of the second one was for an older plan.
+        for _ in range(2):
+            page = self.asks(path=of_second)[1]
+            self.assertTrue(SAYS in page and BUSY not in page and "week 0 is over" not in page)
+            page = self.asks(path=of_first)[1]
+            self.assertTrue("week 0 is over" in page and 'class="fault"' not in page)
+        self.assertEqual(self.plans(), ["0001", "0002"])
+
+    def test_a_form_that_another_verb_kept_waiting_can_be_sent_again(self):
+        self.write_plan()
+        with open(self.ward / "plans" / "lock", "w") as lock:
+            fcntl.flock(lock, fcntl.LOCK_EX)
+            self.asks("POST", form="verb=check&sure=yes")
+            # No question is asked, and nothing is written, while a verb runs.
+            self.assertEqual(self.asks("POST", form="verb=over")[0], 303)
+            fcntl.flock(lock, fcntl.LOCK_UN)
+        self.assertIn(BUSY, self.ended())
+        self.assertEqual(self.asks("POST", form="verb=over")[0], 200)
+        self.assertEqual(self.plans(), ["0001"])
+
+    def test_the_page_of_a_form_that_is_known_no_more(self):
+        self.write_plan()
+        for number in ("7", "x", "-1"):
+            self.assertEqual(self.asks(path=f"{self.site.path}?refused={number}")[0], 200)
 
     def test_an_old_button_asks_nothing(self):
         self.write_plan()

@@ -392,7 +392,7 @@ class Refused(FolderTest):
     def test_the_ward_in_sentences(self):
         printed = self.does("check")
         self.assertIn("After Late, the next day no Day.\n", printed)
-        self.assertIn("Chen would rather be off on Sat.\n", printed)
+        self.assertIn("Would rather be off: Amara on Wed 9 Dec; Chen on Sat 5 Dec; Dilek on Fri 4 Dec; Ewa on Sun 6 Dec.\n", printed)
         # The kind of each absence, and days away that count as work.
         words = {"Amara": "ill", "Bruno": "leave", "Dilek": "training", "Ewa": "unpaid", "Grace": "away"}
         for row in self.rows["plan"][1:]:
@@ -402,11 +402,26 @@ class Refused(FolderTest):
         # All who have the skill Charge are away.
         status, printed, _ = run("plan", self.ward, "check")
         self.assertEqual(status, 6)
-        says = ("Amara is ill", "Bruno has leave", "Dilek has training", "Ewa has unpaid leave", "Grace is away", "Finn is always off")
-        for line in says:
-            self.assertIn(f"{line} on Mon and Tue.\n" if line[:4] != "Finn" else f"{line} on Tue.\n", printed)
-        self.assertIn("; 3 shifts (3 for days away) and 0 weekends in this period.\n", printed)
+        for line in ("Ill: Amara", "Leave: Bruno", "Training: Dilek", "Unpaid: Ewa", "Away: Grace"):
+            self.assertIn(f"{line} on Mon 7 Dec to Tue 8 Dec.\n", printed)
+        self.assertIn("Always off: Finn on Tue.\n", printed)
+        # Two days of 14 count as 17 * 2 / 14 shifts, rounded up.
+        counted = "3 shifts (3 for days away) and 0 weekends"
+        self.assertIn(f"In the period until now: Amara, Bruno and Dilek {counted}.\n", printed)
         self.assertFalse((self.ward / "plans").exists())
+
+    def test_what_is_told_first(self):
+        lines = self.does("check").splitlines()
+        # Two weeks of 7 + 12 + 7 + 7 shifts at best, of which 7 + 5 + 7 + 7 are needed; contracts of 17 to 22 and 8 to 12, and 14 days.
+        self.assertEqual([line[: len("warning: ")] for line in lines[: lines.index("")]], ["warning: "] * lines.index(""))
+        supply = "asks for 26 to 33 shifts; the contracts supply 50 to 47 a week."
+        self.assertEqual(lines[lines.index("") + 1], "my wärd: 7 nurses, 2 weeks in a period.")
+        self.assertEqual(lines[lines.index("") + 2], f"Week 0, Mon 30 Nov: {supply}")
+
+    def test_a_ward_without_a_mistake(self):
+        self.rows["contracts"][1][1:3], self.rows["contracts"][2][1:3] = ["8", "12"], ["4", "6"]
+        self.write()
+        self.assertEqual(self.does("check").splitlines()[:2], ["No mistake found.", ""])
 
     def test_minimum_numbers_that_no_plan_meets(self):
         plain = {name: [list(row) for row in rows] for name, rows in self.rows.items()}

@@ -1,0 +1,27 @@
+"""What a plan knows of its ward, told back: first its size, and what its weeks ask for and the contracts supply."""
+
+from typing import Iterator, List
+
+from ..judging.leave import paid_days
+from ..sheets.plan_sheets import COUNTED
+from ..shown.telling import history_sentences, limit_sentences, scenario_sentences, supply_text, ward_sentence
+from ..shown.telling_weeks import ToldWeek, weeks_sentences
+from .plan_days import WEEK_DAYS
+from .ward_plan import WardPlan
+
+
+def told_lines(plan: WardPlan) -> List[str]:
+    """The ward and the weeks that are not over in sentences."""
+    limits = limit_sentences(plan.scenario, plan.data[plan.open_week]) if plan.weeks else ()
+    past = history_sentences(plan.histories[plan.open_week], plan.sheet.credit)
+    weeks = [ToldWeek(number, plan.data[number], plan.reasons(number), plan.held[number]) for number in plan.weeks]
+    told = weeks_sentences(plan.scenario, weeks, lambda days: plan.days.spans([plan.first + day for day in days]))
+    return [ward_sentence(plan.scenario), *_supplies(plan), "", *scenario_sentences(plan.scenario), *limits, "", *past, "", *told]
+
+
+def _supplies(plan: WardPlan) -> Iterator[str]:
+    """A line for each week."""
+    for number in plan.weeks:
+        past = plan.histories[number] if number < len(plan.histories) else None
+        paid = [paid_days(plan.reasons(later), COUNTED) for later in plan.weeks if later >= number]
+        yield f"Week {number}, {plan.days.text(WEEK_DAYS * number)}: {supply_text(plan.scenario, past, plan.data[number], paid)}."

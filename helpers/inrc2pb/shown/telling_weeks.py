@@ -1,0 +1,107 @@
+"""Some weeks in sentences: the numbers of nurses, absences with their reasons, wishes and held shifts. What is alike is told together."""
+
+from typing import Callable, Collection, Iterable, Iterator, Mapping, NamedTuple, Sequence, Tuple
+
+from ..judging.absences import absences_of, joined, wishes_of
+from ..week.records import DAYS, Cell, Place, Requirement, Scenario, WeekData
+from .telling import together
+
+_WEEK = len(DAYS)
+# The reason of nurses who are away without one, that of days on which they are always off, and how sentences on the others begin.
+_AWAY, _ALWAYS = "away", "off"
+_REASONS = {"ill": "Ill", "leave": "Leave", "training": "Training", "unpaid": "Unpaid", _AWAY: "Away"}
+# Days of some weeks in words.
+DaysText = Callable[[Collection[int]], str]
+
+
+class ToldWeek(NamedTuple):
+    """A week to be told: its number, its data, why nurses are away on its days, as far as that is known, and its held shifts."""
+
+    number: int
+    data: WeekData
+    reasons: Mapping[Tuple[str, int], str] = {}
+    held: Sequence[Cell] = ()
+
+
+def days_of_week(days: Collection[int]) -> str:
+    """Days of a week in words: `all days`, `Mon to Fri`, `Sat and Sun`."""
+    ordered = sorted(days)
+    if len(ordered) == _WEEK:
+        return "all days"
+    if len(ordered) > 2 and ordered[-1] - ordered[0] == len(ordered) - 1:
+        return f"{DAYS[ordered[0]]} to {DAYS[ordered[-1]]}"
+    return joined(DAYS[day] for day in ordered)
+
+
+def weeks_sentences(scenario: Scenario, weeks: Sequence[ToldWeek], days_text: DaysText = days_of_week) -> Iterator[str]:
+    """Weeks in sentences. Their days count from the Monday of the first one, and have these texts."""
+    yield from _needs_sentences(weeks)
+    order = {nurse: number for number, nurse in enumerate(scenario.nurses)}
+    away = [(one.nurse, _WEEK * index + one.day, one.shift) for index, week in enumerate(weeks) for one in absences_of(week.data)]
+    away.sort(key=lambda one: (order[one[0]], one[1]))
+    for shift in scenario.shift_types:
+        never = ((nurse, day) for nurse, day, of in away if of == shift)
+        yield from _sentence(f"Never {shift}", never, lambda days: "" if len(days) == _WEEK * len(weeks) else days_text(days))
+    whole = together((_reason(weeks, nurse, day), (nurse, day)) for nurse, day, shift in away if shift is None)
+    yield from _sentence("Always off", whole.get(_ALWAYS, ()), lambda days: days_of_week({day % _WEEK for day in days}))
+    for reason, label in _REASONS.items():
+        yield from _sentence(label, whole.get(reason, ()), days_text)
+    yield from _wishes_sentences(scenario, weeks, days_text)
+    held = [cell._replace(day=_WEEK * index + cell.day) for index, week in enumerate(weeks) for cell in week.held]
+    yield from held_sentences(held, days_text)
+
+
+def held_sentences(held: Iterable[Cell], days_text: DaysText = days_of_week) -> Iterator[str]:
+    """Held shifts."""
+    yield from _sentence("For certain", ((f"{cell.nurse} {cell.shift} {cell.skill}", cell.day) for cell in held), days_text)
+
+
+def _sentence(label: str, pairs: Iterable[Tuple[str, int]], days_text: DaysText) -> Iterator[str]:
+    """A sentence on who has what on which days, if anybody has; those with the same days are joined."""
+    alike = together((days_text(days), name) for name, days in together(pairs).items())
+    words = (f"{joined(names)}{f' on {days}' if days else ''}" for days, names in alike.items())
+    yield from [f"{label}: {'; '.join(words)}."] * bool(alike)
+
+
+def _reason(weeks: Sequence[ToldWeek], nurse: str, day: int) -> str:
+    return weeks[day // _WEEK].reasons.get((nurse, day % _WEEK), _AWAY)
+
+
+def _wishes_sentences(scenario: Scenario, weeks: Sequence[ToldWeek], days_text: DaysText) -> Iterator[str]:
+    """Wishes, and how many equal requests of a file they are."""
+    wishes = [(one.nurse, one.shift, _WEEK * index + one.day) for index, week in enumerate(weeks) for one in wishes_of(week.data)]
+
+    def days_and_requests(days: Collection[int]) -> str:
+        return f"{days_text(set(days))}{f' ({len(days)} requests)' * (len(days) > len(set(days)))}"
+
+    for shift in (None, *scenario.shift_types):
+        pairs = [(nurse, day) for nurse in scenario.nurses for who, what, day in wishes if (who, what) == (nurse, shift)]
+        yield from _sentence(f"Would rather {'be off' if shift is None else f'not work {shift}'}", pairs, days_and_requests)
+
+
+def _needs_sentences(weeks: Sequence[ToldWeek]) -> Iterator[str]:
+    """The numbers of each shift type and skill, those of most weeks first."""
+    for shift, skill in dict.fromkeys((place.shift, place.skill) for week in weeks for place in week.data.requirements):
+        numbers = [
+            [week.data.requirements.get(Place(day, shift, skill), Requirement(0, 0)) for day in range(_WEEK)] for week in weeks
+        ]
+        usual = max(numbers, key=numbers.count)
+        others = together((_other_numbers(of_week, usual), week.number) for week, of_week in zip(weeks, numbers) if of_week != usual)
+        words = [f"; week{'s' * (len(some) > 1)} {joined(map(str, some))}: {text}" for text, some in others.items()]
+        yield f"{shift} {skill}: {_numbers_by_day(enumerate(usual))}{''.join(words)}."
+
+
+def _other_numbers(numbers: Sequence[Requirement], usual: Sequence[Requirement]) -> str:
+    return _numbers_by_day((day, number) for day, number in enumerate(numbers) if number != usual[day])
+
+
+def _numbers_by_day(numbers: Iterable[Tuple[int, Requirement]]) -> str:
+    """The numbers of days; days with the same ones are joined."""
+    alike = together((number, day) for day, number in numbers)
+    return "; ".join(f"{_needed(number)} on {days_of_week(days)}" for number, days in alike.items())
+
+
+def _needed(number: Requirement) -> str:
+    if number.minimum >= number.optimal:
+        return str(number.minimum)
+    return f"{number.minimum}, better {number.optimal}"

@@ -1,0 +1,315 @@
+"""Tests of the pages of a ward's folder: each of them shows the plan that holds, or weeks that are over, whatever verbs came before."""
+
+import datetime
+import random
+import re
+import sys
+import unittest
+from dataclasses import dataclass, field, replace
+from typing import Dict, FrozenSet, Optional, Tuple
+from unittest import mock
+from xml.etree import ElementTree
+
+from test_kept_plans import KeptTest
+from test_plans import MONDAY
+from ward import ROSTER, files
+
+from inrc2pb.commands.plan import read_sheet
+from inrc2pb.plans import pages
+from inrc2pb.plans.plan_store import Means, PlanStore
+from inrc2pb.plans.verbs import Verbs
+from inrc2pb.plans.ward_folder import WardFolder
+from inrc2pb.programs.progress import Progress
+
+# A nurse, a day of the calendar, a shift type and a skill.
+Shift = Tuple[str, datetime.date, str, str]
+DAY = datetime.timedelta(days=1)
+STORED = files.read_solution(ROSTER).cells
+
+
+def shifts_from(monday):
+    """The stored roster in both weeks of a period."""
+    return frozenset((cell.nurse, monday + (7 * week + cell.day) * DAY, cell.shift, cell.skill) for week in (0, 1) for cell in STORED)
+
+
+@dataclass(frozen=True)
+class State:
+    """What a test has done until now: a period of two weeks, how many of them are over, its shifts, whether they hang on the wall, the
+    shifts of the calendars, and the pages of weeks that are over, by the Monday of their period."""
+
+    monday: datetime.date = MONDAY
+    over: int = 0
+    shifts: Optional[FrozenSet[Shift]] = None
+    is_published: bool = False
+    calendars: FrozenSet[Shift] = frozenset()
+    worked: Dict[datetime.date, FrozenSet[Shift]] = field(default_factory=dict)
+
+    @property
+    def first(self):
+        """The first day that is not over."""
+        return self.monday + 7 * self.over * DAY
+
+    @property
+    def planned(self):
+        """The shifts of weeks that are not over, if there is a plan."""
+        return self.shifts and frozenset(shift for shift in self.shifts if shift[1] >= self.first)
+
+
+class FolderPages(KeptTest):
+    """A folder on which verbs work one after another."""
+
+    def setUp(self):
+        super().setUp()
+        self.states = [State(), State(shifts=shifts_from(MONDAY))]
+        self.sheet_monday = MONDAY
+        means = Means(read_sheet, Progress(sys.stderr), lambda line: None)
+        self.verbs, self.store = Verbs(WardFolder(self.ward), means), PlanStore(WardFolder(self.ward), means)
+
+    @property
+    def state(self):
+        """What the folder should have."""
+        return self.states[-1]
+
+    def days(self, monday):
+        """The sheet plan has the two weeks from this Monday on."""
+        if monday != self.sheet_monday:
+            self.sheet_monday = monday
+            self.rows["plan"] = [["nurse", *(f"{monday + day * DAY}" for day in range(14))], *([row[0]] for row in self.rows["plan"][1:])]
+            self.write()
+
+    # ---- what a user does, and what it should lead to
+
+    def page(self):
+        self.verbs.page()
+        self.states.append(replace(self.state, is_published=True, calendars=self.state.shifts))
+
+    def change(self, chooses):
+        """Takes a shift away that is not over, as a search may."""
+        state = self.state
+        taken = chooses.choice(sorted(state.planned))
+        old = self.store.current()
+        cells = [cell for cell in old.cells() if (cell.nurse, state.monday + cell.day * DAY) != taken[:2]]
+        self.store.save("plan", old.with_cells(cells), old)
+        shifts = state.shifts - {taken}
+        self.states.append(replace(state, shifts=shifts, calendars=shifts if state.is_published else state.calendars))
+
+    def over(self, chooses):
+        """Ends a week in which a nurse has not worked a shift."""
+        state = self.state
+        last = state.first + 7 * DAY
+        taken = chooses.choice(sorted(shift for shift in state.planned if shift[1] < last))
+        self.verbs.over([taken[0], f"{taken[1]}", "off"])
+        shifts = state.shifts - {taken}
+        calendars = shifts if state.is_published else state.calendars
+        worked = {**state.worked, state.monday: frozenset(shift for shift in shifts if shift[1] < last)}
+        ended = State(state.monday, 1, shifts, state.is_published, calendars, worked)
+        self.states.append(State(last, calendars=calendars, worked=worked) if state.over else ended)
+
+    def plan_again(self):
+        """Plans a period that has just begun: both weeks are the stored roster."""
+        self.days(self.state.monday)
+        plan = replace(self.store.current(), rosters={0: STORED, 1: STORED})
+        self.store.save("plan", plan)
+        self.states.append(replace(self.state, shifts=shifts_from(self.state.monday)))
+
+    def undo(self, with_days=True):
+        if with_days:
+            self.days(self.states[-2].monday)
+        self.verbs.undo()
+        self.states.pop()
+
+    # ---- what the folder has
+
+    def shown(self, name):
+        """The shifts of a page by its words, without the older ones of changed cells."""
+        page = ElementTree.parse(self.ward / name).getroot()
+        first, found = None, set()
+        for table in page.iter("table"):
+            if table[0].text != "Shifts of each nurse":
+                continue
+            names = [" ".join("".join(head.itertext()).split()[-2:]) for head in list(table[1].iter("tr"))[-1]][1:]
+            for row in table[2]:
+                for cell, date in zip(row[1:], names):
+                    text = "".join(cell.itertext()).split(pages_changed())[0]
+                    works = re.search("(Day|Late|Night) (Charge|Nurse)", text)
+                    found |= {(row[0].text, date, *works.groups())} if works else set()
+        self.assertIsNone(first)
+        return found
+
+    def worded(self, shifts):
+        """Shifts as pages name their days."""
+        return {(nurse, f"{date.day} {date:%b}", shift, skill) for nurse, date, shift, skill in shifts}
+
+    def in_calendars(self):
+        """The shifts of all calendars that are not cancelled."""
+        found = set()
+        for path in (self.ward / "calendars").glob("*.ics"):
+            for event in path.read_text().split("BEGIN:VEVENT")[1:]:
+                words = re.search("SUMMARY:(Day|Late|Night) (Charge|Nurse)", event)
+                date = re.search("DTSTART[^:]*:([0-9]{8})", event)[1]
+                if words and "STATUS" not in event:
+                    found.add((path.stem, datetime.datetime.strptime(date, "%Y%m%d").date(), *words.groups()))
+        return found
+
+    def assert_pages(self, done):
+        """Each page shows the plan that holds, or weeks that are over."""
+        state, there = self.state, {path.name for path in self.ward.glob("*.html")}
+        is_known = state.shifts is None or self.sheet_monday == state.monday
+        wanted = {f"worked-{monday}.html": shifts for monday, shifts in state.worked.items()}
+        if is_known and state.planned:
+            wanted.update({"roster.html": state.planned, **({"wall.html": state.planned} if state.is_published else {})})
+        self.assertLessEqual(there, set(wanted), done)
+        # Without the days of the plan in the sheet its pages cannot be written.
+        self.assertTrue(there == set(wanted) or not is_known, (done, there))
+        for name in there:
+            self.assertEqual(self.shown(name), self.worded(wanted[name]), (done, name))
+        found = self.in_calendars()
+        self.assertTrue(found == state.calendars or not found and not (state.is_published and is_known), (done, found ^ state.calendars))
+
+
+def pages_changed():
+    """The sign of a changed cell."""
+    return "\u0394"
+
+
+class Sequences(FolderPages):
+    def test_pages_after_any_verbs(self):
+        for seed in range(3):
+            with self.subTest(seed):
+                self.setUp()
+                self.walk(random.Random(seed), 14)
+
+    def walk(self, chooses, steps):
+        """So many verbs as they come."""
+        done = []
+        for _ in range(steps):
+            state, has_plan = self.state, self.state.shifts is not None
+            if has_plan and self.sheet_monday != state.monday:
+                self.days(state.monday)
+            some = ["page", "change", "over", "over", "undo"] if has_plan else ["plan_again", "plan_again", "undo"]
+            verb = chooses.choice(some if len(self.states) > 2 else [one for one in some if one != "undo"])
+            done.append(verb)
+            if verb in ("change", "over"):
+                getattr(self, verb)(chooses)
+            elif verb == "undo":
+                self.undo(chooses.random() < 0.7)
+            else:
+                getattr(self, verb)()
+            self.assert_pages(done)
+
+
+class Undone(FolderPages):
+    def lines(self, *verbs):
+        """What undo says after these verbs."""
+        chooses = random.Random(1)
+        for verb in verbs:
+            getattr(self, verb)(*[chooses] * (verb in ("change", "over")))
+        said = self.verbs.undo()
+        self.states.pop()
+        self.assert_pages(verbs)
+        return said
+
+    def test_undo_of_the_end_of_a_week_takes_its_page_back(self):
+        page = self.ward / "worked-2026-11-30.html"
+        said = self.lines("over")
+        self.assertIn(f"written: {self.ward}/roster.html", said)
+        self.assertIn(f"taken away: {page}", said)
+
+    def test_undo_of_the_second_week_leaves_the_first_one_on_its_page(self):
+        self.lines("over", "over")
+        text = (self.ward / "worked-2026-11-30.html").read_text()
+        self.assertTrue("week 0" in text and "weeks 0 to 1" not in text)
+
+    def test_undo_of_the_first_plan_of_a_period_leaves_no_roster(self):
+        said = self.lines("page", "over", "over", "plan_again")
+        self.assertIn(f"taken away: {self.ward}/roster.html", said)
+        # The calendars have the period that is over.
+        self.assertEqual(self.in_calendars(), self.state.calendars)
+
+    def test_undo_of_a_page_takes_the_calendars_away(self):
+        self.lines("page")
+        self.assertEqual(list((self.ward / "calendars").iterdir()), [])
+
+    def test_undo_of_the_only_plan_leaves_nothing(self):
+        self.change(random.Random(1))
+        self.verbs.undo()
+        self.verbs.undo()
+        self.assertEqual([path.name for path in self.ward.glob("*.html")], [])
+
+    def test_undo_beside_a_fault_of_the_sheet(self):
+        chooses = random.Random(1)
+        for verbs in ((), (self.page,)):
+            for verb in verbs:
+                verb()
+            self.over(chooses)
+            self.rows["plan"][1][1] = "wihs"
+            self.write()
+            said = self.verbs.undo()
+            self.states.pop()
+            self.assertEqual([path.name for path in self.ward.glob("*.html")], [])
+            self.assertEqual(self.in_calendars(), set())
+            self.assertTrue(said[-1].startswith("its pages are not written: "), said)
+            self.rows["plan"][1][1] = ""
+            self.write()
+
+    def test_a_page_that_cannot_be_taken_away(self):
+        self.over(random.Random(1))
+        with mock.patch.object(pages.Path, "unlink", side_effect=PermissionError(13, "Permission denied", "worked")):
+            said = self.verbs.undo()
+        self.assertIn("the plan holds, but its pages are not written: worked: Permission denied", said[-1])
+        self.assertEqual(self.verbs.status, 3)
+
+    def test_other_files_stay(self):
+        self.page()
+        for name in ("notes.html", "calendars/mine.ics", "worked-2026-11-02.html"):
+            (self.ward / name).write_text("mine")
+        self.verbs.undo()
+        for name in ("notes.html", "calendars/mine.ics", "worked-2026-11-02.html"):
+            self.assertEqual((self.ward / name).read_text(), "mine")
+
+
+class Calendars(FolderPages):
+    def events(self, nurse):
+        """The events of a nurse's calendar by their dates."""
+        text = (self.ward / "calendars" / f"{nurse}.ics").read_text()
+        return {re.search("DTSTART[^:]*:([0-9]{8})", event)[1]: event for event in text.split("BEGIN:VEVENT")[1:]}
+
+    def test_a_correction_of_a_worked_day_is_cancelled(self):
+        # Finn works late on Thursday and Friday of both weeks.
+        self.page()
+        before = self.events("Finn")
+        with mock.patch("time.time", return_value=datetime.datetime.now().timestamp() + 1):
+            self.verbs.over("Finn Fri off".split())
+        now = self.events("Finn")
+        self.assertEqual(set(now), set(before))
+        numbers = [int(re.search("SEQUENCE:([0-9]+)", one["20261204"])[1]) for one in (before, now)]
+        self.assertLess(*numbers)
+        self.assertEqual([date for date, event in now.items() if "STATUS:CANCELLED" in event], ["20261204"])
+        # Later verbs keep the days that were worked, and the cancelled one.
+        self.verbs.over([])
+        self.assertEqual(["STATUS:CANCELLED" in event for event in self.events("Finn").values()].count(True), 1)
+        self.assertEqual(set(self.events("Finn")), set(before))
+
+    def test_the_shifts_of_a_nurse_who_is_no_more_in_the_sheet_are_cancelled(self):
+        self.page()
+        before = self.events("Finn")
+        self.rows["nurses"] = [row for row in self.rows["nurses"] if row[0] != "Finn"]
+        self.rows["plan"] = [row for row in self.rows["plan"] if row[0] != "Finn"]
+        self.write()
+        plan = self.store.current()
+        self.store.save("plan", plan)
+        self.assertTrue(set(before) <= set(self.events("Finn")))
+        self.assertNotIn("Finn", {shift[0] for shift in self.in_calendars()})
+
+    def test_damaged_plans_of_the_past_hinder_no_page(self):
+        self.page()
+        roster = next(path for path in sorted((self.ward / "plans").glob("0002*"))) / "roster-0.txt"
+        self.verbs.over([])
+        roster.write_text("")
+        (self.ward / "plans" / "undone").mkdir()
+        (self.ward / "plans" / "undone" / "0007-other").mkdir()
+        self.assertTrue(self.verbs.page()[-1].endswith("/calendars"))
+
+
+if __name__ == "__main__":
+    unittest.main()
