@@ -22,10 +22,10 @@ from .plan_days import PERIOD_IS_OVER, PeriodOver
 from .ward_plan import WardPlan
 
 # The most bytes of a form and of its address, its most fields, the seconds that a browser has for a request, and the most forms that
-# were refused of which the page still says why.
-_MOST_BYTES, _MOST_FIELDS, _SECONDS, _MOST_REFUSED = 10_000, 20, 20, 100
-# The part of an address that names a form that was refused, so that only the tab that has sent it says why.
-_REFUSED = "refused"
+# are kept.
+_MOST_BYTES, _MOST_FIELDS, _SECONDS, _MOST_SENT = 10_000, 20, 20, 100
+# The part of an address that names a form, so that only the tab that has sent it shows its question, or why it was refused.
+_SENT = "sent"
 _PAUSE = 0.2
 _HEADERS = {
     "Content-Security-Policy": "default-src 'none'; style-src 'unsafe-inline'; form-action 'self'; frame-ancestors 'none'; base-uri 'none'",
@@ -35,19 +35,13 @@ _HEADERS = {
 }
 
 
-class Refused(NamedTuple):
-    """A form that was refused: its number, its fields, and the lines that say why."""
+class Sent(NamedTuple):
+    """A form whose verb has not begun: its number, its fields, and lines that say why it was refused, or that go with a question."""
 
     number: int
     fields: Dict[str, str]
     lines: List[str]
-
-
-class Answer(NamedTuple):
-    """What follows a form: a question with these lines, before its verb writes, or the page, at this query of its address."""
-
-    lines: Optional[List[str]] = None
-    query: str = ""
+    is_refused: bool
 
 
 class Site:
@@ -61,7 +55,7 @@ class Site:
         # The fields of the last form whose verb has begun, and whether the spreadsheet had a fault when it was last read.
         self.kept: Dict[str, str] = {}
         self._had_fault = False
-        self._refused: List[Refused] = []
+        self._sent: List[Sent] = []
         self._numbers = itertools.count()
 
     @property
@@ -94,11 +88,11 @@ class Site:
         self._had_fault = False
         return plan, said
 
-    def post(self, fields: Dict[str, str]) -> Answer:
-        """Does what a form asks for. If the user has to be asked first, since the verb writes, the answer is the question."""
+    def post(self, fields: Dict[str, str]) -> str:
+        """Does what a form asks for, or asks the user first, since the verb writes. Returns the query of the page that follows."""
         if fields.get("verb") == "stop":
             self.jobs.stop()
-            return Answer()
+            return ""
         try:
             verb, stamp = verb_of(fields, self.jobs.seconds), fields.get(STAMP, "")
             if writes(fields):
@@ -107,32 +101,33 @@ class Site:
                 verb = self.jobs.stamped(verb, stamp)
             if writes(fields) and SURE not in fields:
                 tried = self.jobs.tried(verb)
-                if tried.is_fault:
-                    return self._refuse(fields, tried.lines)
-                return Answer(tried.lines if fields["verb"] in ("swap", "away", "back") else [])
+                has_lines = tried.is_fault or fields["verb"] in ("swap", "away", "back")
+                return self._kept(fields, tried.lines if has_lines else [], tried.is_fault)
             self.jobs.begin(verb)
         except Misuse as fault:
-            return self._refuse(fields, [str(fault)])
+            return self._kept(fields, [str(fault)], True)
         self.kept = fields if writes(fields) else {**fields, STAMP: self.jobs.folder.stamp}
-        return Answer()
+        return ""
 
-    def _refuse(self, fields: Dict[str, str], lines: List[str]) -> Answer:
-        """The answer to a form that is refused, for these reasons."""
+    def _kept(self, fields: Dict[str, str], lines: List[str], is_refused: bool) -> str:
+        """Keeps a form. Returns the query of its page."""
         number = next(self._numbers)
-        self._refused = [*self._refused, Refused(number, fields, lines)][-_MOST_REFUSED:]
-        return Answer(query=f"?{urlencode({_REFUSED: number})}")
+        self._sent = [*self._sent, Sent(number, fields, lines, is_refused)][-_MOST_SENT:]
+        return f"?{urlencode({_SENT: number})}"
 
-    def refused(self, query: Dict[str, str]) -> Optional[Refused]:
-        """The form that an address names, if it was refused. The verb that ran then may have written another plan since."""
-        found = next((one for one in self._refused if str(one.number) == query.get(_REFUSED)), None)
-        is_older = found and writes(found.fields) and found.fields.get(STAMP) != self.jobs.folder.stamp
-        return found._replace(lines=[CHANGED]) if found and is_older and found.lines == [RUNS] else found
+    def sent(self, query: Dict[str, str]) -> Optional[Sent]:
+        """The form that an address names. If there is another plan since, its question is asked no more, and if a verb ran when it was
+        refused, that one has written it."""
+        found = next((one for one in self._sent if str(one.number) == query.get(_SENT)), None)
+        if not found or not writes(found.fields) or found.fields.get(STAMP) == self.jobs.folder.stamp:
+            return found
+        return found._replace(lines=[CHANGED] if found.lines == [RUNS] else found.lines) if found.is_refused else None
 
-    def fields(self, said: Said, refused: Optional[Refused]) -> Dict[str, str]:
+    def fields(self, said: Said, sent: Optional[Sent]) -> Dict[str, str]:
         """The values that stay in the form that was sent last: those of one that was refused, of a look for a swap, or of a verb that
         failed."""
-        if refused:
-            return refused.fields
+        if sent:
+            return sent.fields
         return self.kept if said.is_fault or self.kept.get("verb") == "swap" else {}
 
 
@@ -148,8 +143,8 @@ class _Handler(BaseHTTPRequestHandler):
         path, query = self._path()
         if path is None:
             return
-        running, refused = self.site.jobs.said(), self.site.refused(query)
-        why = refused.lines if refused else []
+        running, sent = self.site.jobs.said(), self.site.sent(query)
+        why = sent.lines if sent and sent.is_refused else []
         if not path and running.runs:
             return self._answer(page_markup(None, Shown(running, name=self.site.name, refused=why), self.site.base))
         # A plan that is written meanwhile has another stamp.
@@ -163,10 +158,10 @@ class _Handler(BaseHTTPRequestHandler):
         elif path:
             self._refuse(404, "there is no such page")
         else:
-            kept = self.site.fields(said, refused)
-            place = _place(plan, query) or (None if refused else _looked(plan, kept, said))
-            seconds = self.site.jobs.seconds
-            shown = Shown(said, place, {}, kept, self.site.spreadsheet, worked, self.site.name, seconds, stamp, refused=why)
+            kept, asks = self.site.fields(said, sent), sent if sent and not sent.is_refused else None
+            place = _place(plan, query) or (None if sent else _looked(plan, kept, said))
+            shown = Shown(said, place, asks.fields if asks else {}, kept, self.site.spreadsheet, worked, self.site.name)
+            shown = shown._replace(seconds=self.site.jobs.seconds, stamp=stamp, lines=asks.lines if asks else [], refused=why)
             self._answer(page_markup(plan, shown, self.site.base))
 
     def _page(self, path: str, plan: WardPlan) -> None:
@@ -199,12 +194,9 @@ class _Handler(BaseHTTPRequestHandler):
             fields = dict(parse_qsl(self.rfile.read(int(length)).decode(), max_num_fields=_MOST_FIELDS))
         except ValueError:
             return self._refuse(400, "this is no form of the page")
-        answer = self.site.post(fields)
-        if answer.lines is not None:
-            plan, said = self.site.plan()
-            return self._answer(page_markup(plan, Shown(said, asks=fields, name=self.site.name, lines=answer.lines), self.site.base))
+        query = self.site.post(fields)
         self.send_response(303)
-        self.send_header("Location", f"{self.site.base}{answer.query}")
+        self.send_header("Location", f"{self.site.base}{query}")
         self.send_header("Content-Length", "0")
         self.end_headers()
 

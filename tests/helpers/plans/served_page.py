@@ -39,7 +39,8 @@ class ServedPage(FolderTest):
         return self.jobs.folder.stamp
 
     def asks(self, method="GET", path=None, form=None, **headers):
-        """The status and the text of an answer. Without a path the browser loads its page again; a form may lead it to another one."""
+        """The status and the text of an answer. Without a path the browser loads its page again; a form leads it to another one, which is
+        the answer if it is a question."""
         path = path or (self.shown if method == "GET" else self.site.path)
         form = f"{form}&stamp={self.stamp}" if form and form.startswith("verb=") and "stamp=" not in form else form
         connection = http.client.HTTPConnection(self.site.netloc, timeout=60)
@@ -50,7 +51,8 @@ class ServedPage(FolderTest):
         text = answer.read().decode()
         connection.close()
         self.shown = answer.headers.get("Location", self.shown)
-        return answer.status, text
+        led = self.asks() if answer.status == 303 else (303, "")
+        return led if "Yes, write it" in led[1] else (answer.status, text)
 
     def sends(self, **fields):
         """Sends a form, and says yes if it writes, waits for the end of its verb, and returns the page."""

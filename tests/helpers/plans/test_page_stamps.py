@@ -87,10 +87,27 @@ class Stamps(ServedPage):
         self.assertEqual(self.asks("POST", form="verb=over")[0], 200)
         self.assertEqual(self.plans(), ["0001"])
 
+    def test_a_question_is_a_page_that_can_be_loaded_again_until_it_is_answered(self):
+        self.write_plan()
+        answer = self.answers("over")
+        of_question = self.shown
+        for _ in range(2):
+            self.assertIn("<h2>The week is over: Mon 30 Nov to Sun 6 Dec?</h2>", self.asks(path=of_question)[1])
+        self.asks("POST", form=answer)
+        self.assertEqual(self.shown, self.site.path)
+        self.assertIn("week 0 is over", self.ended())
+        # The button back of the browser leads to it, and it asks no more.
+        page = self.asks(path=of_question)[1]
+        self.assertTrue("week 0 is over" in page and "Yes, write it" not in page and 'class="fault"' not in page)
+        # The answer that is sent again writes nothing.
+        self.asks("POST", form=answer)
+        self.assertIn(SAYS, self.asks()[1])
+        self.assertEqual(self.plans(), ["0001", "0002"])
+
     def test_the_page_of_a_form_that_is_known_no_more(self):
         self.write_plan()
         for number in ("7", "x", "-1"):
-            self.assertEqual(self.asks(path=f"{self.site.path}?refused={number}")[0], 200)
+            self.assertEqual(self.asks(path=f"{self.site.path}?sent={number}")[0], 200)
 
     def test_an_old_button_asks_nothing(self):
         self.write_plan()
