@@ -20,8 +20,9 @@ def told_lines(plan: WardPlan) -> List[str]:
 
 
 def _supplies(plan: WardPlan) -> Iterator[str]:
-    """A line for each week."""
+    """A line for each week. A plan takes nothing from what is left after the weeks that are over."""
+    paid = {number: paid_days(plan.reasons(number), COUNTED) for number in plan.weeks}
     for number in plan.weeks:
-        past = plan.histories[number] if number < len(plan.histories) else None
-        paid = [paid_days(plan.reasons(later), COUNTED) for later in plan.weeks if later >= number]
-        yield f"Week {number}, {plan.days.text(WEEK_DAYS * number)}: {supply_text(plan.scenario, past, plan.data[number], paid)}."
+        own_first = [paid[number], *(days for other, days in paid.items() if other != number)]
+        supply = supply_text(plan.scenario, plan.histories[plan.open_week], plan.data[number], own_first)
+        yield f"Week {number}, {plan.days.text(WEEK_DAYS * number)}: {supply}."

@@ -165,6 +165,14 @@ class Page(ServedPage):
         self.assertIn('<option value="Grace" selected="">', page)
         self.assertIn('<option value="2026-12-04" selected="">', page)
 
+    def test_the_question_of_unpaid_days_says_what_counts_of_the_contract(self):
+        # 17 * 13 / 14 shifts, rounded down; the maximum, 22, is more than the days of the plan.
+        self.write_plan()
+        page = self.asks("POST", form="verb=away&nurse=Chen&first=2026-12-04&reason=unpaid")[1]
+        says = "Chen is away or unpaid on 1 of 14 days: contract Full counts in proportion, at least 15 shifts in place of at least 17."
+        self.assertIn(f"<pre>{says}</pre>", page)
+        self.assertNotIn("<pre>", self.asks("POST", form="verb=away&nurse=Chen&first=2026-12-04&reason=ill")[1])
+
     def test_a_day_of_leave_that_is_clicked(self):
         self.rows["plan"][3][1] = "leave"
         self.write()

@@ -411,12 +411,22 @@ class Refused(FolderTest):
         self.assertFalse((self.ward / "plans").exists())
 
     def test_what_is_told_first(self):
-        lines = self.does("check").splitlines()
-        # Two weeks of 7 + 12 + 7 + 7 shifts at best, of which 7 + 5 + 7 + 7 are needed; contracts of 17 to 22 and 8 to 12, and 14 days.
-        self.assertEqual([line[: len("warning: ")] for line in lines[: lines.index("")]], ["warning: "] * lines.index(""))
-        supply = "asks for 26 to 33 shifts; the contracts supply 50 to 47 a week."
-        self.assertEqual(lines[lines.index("") + 1], "my wärd: 7 nurses, 2 weeks in a period.")
-        self.assertEqual(lines[lines.index("") + 2], f"Week 0, Mon 30 Nov: {supply}")
+        # Both weeks have 7 + 12 + 7 + 7 shifts at best, of which 7 + 5 + 7 + 7 are needed. Five nurses have 8 to 12 shifts, two 4 to 6. Grace
+        # has leave on the seven days of the second week, which count as four of her shifts. A plan changes nothing of it.
+        self.rows["contracts"][1][1:3], self.rows["contracts"][2][1:3] = ["8", "12"], ["4", "6"]
+        self.rows["plan"][7][8:15] = ["leave"] * 7
+        del self.rows["plan"][2]
+        self.write()
+        for begin in (lambda: None, self.write_plan):
+            begin()
+            lines = self.does("check").splitlines()
+            first = lines.index("") + 1
+            self.assertTrue(lines[0].startswith("warning: sheet plan: Bruno has no row: "), lines[0])
+            self.assertEqual(lines[first : first + 4], [
+                "my wärd: 7 nurses, 2 weeks in a period.",
+                "Week 0, Mon 30 Nov: asks for 26 to 33 shifts; the contracts supply 24 to 36 a week.",
+                "Week 1, Mon 7 Dec: asks for 26 to 33 shifts; the contracts supply 20 to 32 a week.", "",
+            ])  # fmt: skip
 
     def test_a_ward_without_a_mistake(self):
         self.rows["contracts"][1][1:3], self.rows["contracts"][2][1:3] = ["8", "12"], ["4", "6"]
