@@ -26,6 +26,8 @@ from .ward_plan import WardPlan
 _MOST_BYTES, _MOST_FIELDS, _SECONDS, _MOST_SENT = 10_000, 20, 20, 100
 # The part of an address that names a form, so that only the tab that has sent it shows its question, or why it was refused.
 _SENT = "sent"
+# The verbs that say something before they write, which goes with their questions.
+_TOLD = ("swap", "away", "back", "undo")
 _PAUSE = 0.2
 _HEADERS = {
     "Content-Security-Policy": "default-src 'none'; style-src 'unsafe-inline'; form-action 'self'; frame-ancestors 'none'; base-uri 'none'",
@@ -101,7 +103,7 @@ class Site:
                 verb = self.jobs.stamped(verb, stamp)
             if writes(fields) and SURE not in fields:
                 tried = self.jobs.tried(verb)
-                has_lines = tried.is_fault or fields["verb"] in ("swap", "away", "back")
+                has_lines = tried.is_fault or fields["verb"] in _TOLD
                 return self._kept(fields, tried.lines if has_lines else [], tried.is_fault)
             self.jobs.begin(verb)
         except Misuse as fault:

@@ -17,6 +17,8 @@ from .plan_days import WEEK_DAYS, PlanDays
 from .ward_plan import WardPlan
 
 ROSTER, WALL, CALENDARS = "roster.html", "wall.html", "calendars"
+# The name of the plan that a page shows, in its head.
+_PLAN = re.compile('<meta name="plan" content="([^"]*)"/>')
 _WORKED = re.compile(r"worked(?:-([0-9]+(?:-[0-9]+-[0-9]+)?))?\.html")
 
 
@@ -36,16 +38,16 @@ class Pages(NamedTuple):
 
 
 def write_pages(
-    top: Path, plan: WardPlan, periods: int, before: Mapping[str, Collection[int]], old: Optional[WardPlan] = None
+    top: Path, plan: WardPlan, stamp: str, periods: int, before: Mapping[str, Collection[int]], old: Optional[WardPlan] = None
 ) -> Pages:
-    """Writes the pages of a plan, after this number of older periods. Each page of the folder then shows it, or weeks that are over.
-    `old` is an older plan of the same weeks, and `before` has the days of nurses' shifts in the calendars of this period until now."""
+    """Writes the pages of a plan with this name, after this number of older periods. Each page of the folder then shows it, or weeks that
+    are over. `old` is an older plan of the same weeks, and `before` has the days of nurses' shifts in the calendars of this period."""
     worked, contents = worked_name(plan.days, periods), {}
     if plan.open_week:
         contents[worked] = _worked_content(plan)
     if plan.is_planned and plan.weeks:
-        contents[ROSTER] = roster_content(plan, old)
-        contents.update({WALL: replace(roster_content(plan), only_table=True)} if plan.published else {})
+        contents[ROSTER] = replace(roster_content(plan, old), plan=stamp)
+        contents.update({WALL: replace(roster_content(plan), only_table=True, plan=stamp)} if plan.published else {})
     gone = taken_away(top, [name for name in (worked, ROSTER, WALL) if name not in contents])
     for name, content in contents.items():
         write_text(top / name, page_text(content))
@@ -53,6 +55,14 @@ def write_pages(
     if not plan.published:
         return Pages(written, [*gone, *calendars_taken_away(top, [*plan.scenario.nurses], before)])
     return Pages([*written, *_write_calendars(top, plan, before)], gone)
+
+
+def other_plan_lines(top: Path, stamp: str) -> Iterator[str]:
+    """The pages of the folder that show another plan than the one with this name, as after a run that was killed."""
+    for path in (top / ROSTER, top / WALL):
+        found = _PLAN.search(path.read_text(encoding="utf-8", errors="replace")) if path.is_file() else None
+        if found and found[1] != stamp:
+            yield f"{path.name} shows another plan than the one that holds, as if a run was killed: the verbs plan and page write it anew"
 
 
 def taken_away(top: Path, names: Sequence[str]) -> List[Path]:

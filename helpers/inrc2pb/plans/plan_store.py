@@ -96,7 +96,8 @@ class PlanStore:
         if self.only_reads:
             return []
         is_ended = bool(plan.open_week) and not plan.weeks
-        return self._paged(lambda: pages.write_pages(self.folder.top, plan, self._periods() - is_ended, self._before(plan.days), old))
+        periods, before = self._periods() - is_ended, self._before(plan.days)
+        return self._paged(lambda: pages.write_pages(self.folder.top, plan, self.folder.stamp, periods, before, old))
 
     def pages_undone(self, undone: Optional[Record]) -> List[str]:
         """Takes the pages of a plan away that was undone, which has this record, if the plan that holds cannot be read now. Returns the

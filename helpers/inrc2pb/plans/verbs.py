@@ -12,10 +12,11 @@ from ..shown.why import breach_lines
 from ..week.faults import FileFault, Misuse, fault_line
 from . import search_verbs, swap_verb, week_end
 from .days_beside import beside_lines
+from .pages import other_plan_lines
 from .plan_store import Means, PlanStore, fitted, known_record
 from .ward_folder import WardFolder
-from .told_plan import told_lines
 from .ward_plan import WardPlan
+from .ward_words import ward_lines
 
 
 class Verbs:
@@ -61,9 +62,11 @@ class Verbs:
         """The warnings of the spreadsheet, and the ward in sentences. That no plan can meet a minimum is in the status."""
         plan = self.current()
         self._store.status = _status_of(plan.sheet.warnings)
-        lines = [f"warning: {line}" for line in (*plan.sheet.warnings, *self._store.anew(plan), *beside_lines(plan))]
+        folder = self._store.folder
+        warnings = (*other_plan_lines(folder.top, folder.stamp), *plan.sheet.warnings, *self._store.anew(plan), *beside_lines(plan))
+        lines = [f"warning: {line}" for line in warnings]
         lines += breach_lines(plan.view(), "plan") if plan.is_planned and plan.weeks else []
-        lines += [*([] if lines else ["No mistake found."]), "", *told_lines(plan)]
+        lines += [*([] if lines else ["No mistake found."]), "", *ward_lines(plan)]
         lines += ["", "No plan can keep all of this: do what the warnings at the top say."] * bool(self.status)
         return [readable(line) for line in lines]
 
@@ -74,9 +77,9 @@ class Verbs:
     def undo(self) -> List[str]:
         """The plan before the last verb holds again."""
         folder = self._store.folder
-        folder.check_undo()
+        taken_back = folder.check_undo()
         if self._store.only_reads:
-            return []
+            return [f"this takes back: {_made(taken_back)}"]
         path = folder.undo()
         undone, last = _made(path), folder.last()
         lines = [f"undone: {undone}; there is no plan any more"] if last is None else [f"undone: {undone}"]

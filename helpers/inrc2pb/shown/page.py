@@ -180,7 +180,8 @@ def page_text(page: Content) -> str:
     parts = [_roster(page), *([] if page.only_table else _details(page))]
     head = element(
         "head", element("meta", charset="utf-8"), element("meta", name="viewport", content="width=device-width"),
-        element("title", title(page)), element("style", page_style()),
+        *[element("meta", name="plan", content=page.plan)] * bool(page.plan), element("title", title(page)),
+        element("style", page_style()),
     )  # fmt: skip
     body = element("body", element("main", *(joined(part, Markup("\n")) for part in parts)))
     return f"<!DOCTYPE html>\n{element('html', head, Markup(chr(10)), body, lang='en')}\n"

@@ -35,8 +35,8 @@ class Content:
 
     `only_table` is for a wall: nothing on what the roster costs, nor on wishes and held shifts. `link` has the address of a nurse's day
     in a week of the table, if its cells are links. `holidays` are days from the first Monday on with numbers of their own, as bank holidays
-    have, `as_of` says when the page was made, `notes` are lines on what to look at, and `swapped` has the weeks of the table, nurses and
-    days of swaps that were written.
+    have, `as_of` says when the page was made, `notes` are lines on what to look at, `swapped` has the weeks of the table, nurses and
+    days of swaps that were written, and `plan` is the name of the plan of a ward's folder that the page shows.
     """
 
     view: RosterView
@@ -49,6 +49,7 @@ class Content:
     as_of: Optional[datetime.datetime] = None
     notes: Sequence[str] = ()
     swapped: Collection[Tuple[int, str, int]] = ()
+    plan: str = ""
 
     def week_name(self, week: int) -> str:
         """The name of a week: its number, and that of the calendar if its dates are known."""

@@ -259,6 +259,23 @@ class Undone(FolderPages):
         self.assertIn("the plan holds, but its pages are not written: worked: Permission denied", said[-1])
         self.assertEqual(self.verbs.status, 3)
 
+    def test_pages_of_a_run_that_was_killed_are_told(self):
+        self.page()
+        self.assertNotIn("another plan", "".join(self.verbs.check()))
+        # The plan is written, and its pages are not.
+        with mock.patch.object(pages, "write_pages", side_effect=KeyboardInterrupt), self.assertRaises(KeyboardInterrupt):
+            self.verbs.over([])
+        warnings = [line for line in self.verbs.check() if line.startswith("warning: ")]
+        for line, name in zip(warnings, ("roster.html", "wall.html")):
+            says = "shows another plan than the one that holds, as if a run was killed: the verbs plan and page write it anew"
+            self.assertEqual(line, f"warning: {name} {says}")
+        self.verbs.page()
+        self.assertNotIn("another plan", "".join(self.verbs.check()))
+        # Pages of an older release do not say which plan they show.
+        for name in ("roster.html", "wall.html"):
+            (self.ward / name).write_text("<html/>")
+        self.assertNotIn("another plan", "".join(self.verbs.check()))
+
     def test_other_files_stay(self):
         self.page()
         for name in ("notes.html", "calendars/mine.ics", "worked-2026-11-02.html"):

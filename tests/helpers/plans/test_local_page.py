@@ -173,6 +173,12 @@ class Page(ServedPage):
         self.assertIn(f"<pre>{says}</pre>", page)
         self.assertNotIn("<pre>", self.asks("POST", form="verb=away&nurse=Chen&first=2026-12-04&reason=ill")[1])
 
+    def test_the_question_of_undo_names_the_verb(self):
+        self.write_plan()
+        self.assertIn("<pre>this takes back: plan, 2026-11-28 12:00</pre>", self.asks("POST", form="verb=undo")[1])
+        self.sends(verb="over")
+        self.assertRegex(self.asks("POST", form="verb=undo")[1], "<pre>this takes back: over 0, [0-9: -]+</pre>")
+
     def test_a_day_of_leave_that_is_clicked(self):
         self.rows["plan"][3][1] = "leave"
         self.write()

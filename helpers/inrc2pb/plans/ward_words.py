@@ -10,13 +10,13 @@ from .plan_days import WEEK_DAYS
 from .ward_plan import WardPlan
 
 
-def told_lines(plan: WardPlan) -> List[str]:
+def ward_lines(plan: WardPlan) -> List[str]:
     """The ward and the weeks that are not over in sentences."""
     limits = limit_sentences(plan.scenario, plan.data[plan.open_week]) if plan.weeks else ()
     past = history_sentences(plan.histories[plan.open_week], plan.sheet.credit)
     weeks = [ToldWeek(number, plan.data[number], plan.reasons(number), plan.held[number]) for number in plan.weeks]
-    told = weeks_sentences(plan.scenario, weeks, lambda days: plan.days.spans([plan.first + day for day in days]))
-    return [ward_sentence(plan.scenario), *_supplies(plan), "", *scenario_sentences(plan.scenario), *limits, "", *past, "", *told]
+    sentences = weeks_sentences(plan.scenario, weeks, lambda days: plan.days.spans([plan.first + day for day in days]))
+    return [ward_sentence(plan.scenario), *_supplies(plan), "", *scenario_sentences(plan.scenario), *limits, "", *past, "", *sentences]
 
 
 def _supplies(plan: WardPlan) -> Iterator[str]:
