@@ -68,7 +68,8 @@ def part_lines(old: WardPlan, new: WardPlan, nurse: str) -> List[str]:
     before, now = (plan.scenario.contract_of(nurse) for plan in (old, new))
     if before.assignments == now.assignments:
         return []
-    return list(map(readable, part_sentences(new.scenario, [nurse]))) or [readable(f"{nurse}: contract {now.name} counts as a whole again.")]
+    whole = f"{nurse}: contract {now.name} counts as a whole again."
+    return [readable(line) for line in part_sentences(new.scenario, [nurse])] or [readable(whole)]
 
 
 def _lifted(old: WardPlan, nurse: str, day: int, word: str) -> Iterator[str]:

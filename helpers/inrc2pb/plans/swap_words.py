@@ -31,7 +31,8 @@ def why_nobody(swaps: Swaps, nurse: str, day: int) -> str:
     """Why nobody can take a shift, and what to do."""
     if swaps.is_held(nurse, day):
         return f"the sheet plan fixes it for {readable(nurse)}: empty her cell of this day, save the sheet, and look again"
-    return "each swap would break a hard rule, a limit that holds or an absence, or move a fixed shift: look at a swap with one nurse, or plan"
+    fault = "each swap would break a hard rule, a limit that holds or an absence, or move a fixed shift"
+    return f"{fault}: look at a swap with one nurse, which says what it breaks"
 
 
 def shift_of(swaps: Swaps, swap: Swap) -> Tuple[str, int]:

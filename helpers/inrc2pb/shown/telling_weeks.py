@@ -40,7 +40,7 @@ def weeks_sentences(scenario: Scenario, weeks: Sequence[ToldWeek], days_text: Da
     away = [(one.nurse, _WEEK * index + one.day, one.shift) for index, week in enumerate(weeks) for one in absences_of(week.data)]
     away.sort(key=lambda one: (order[one[0]], one[1]))
     for shift in scenario.shift_types:
-        never = ((nurse, day) for nurse, day, of in away if of == shift)
+        never = ((nurse, day) for nurse, day, one in away if one == shift)
         yield from _sentence(f"Never {shift}", never, lambda days: "" if len(days) == _WEEK * len(weeks) else days_text(days))
     whole = together((_reason(weeks, nurse, day), (nurse, day)) for nurse, day, shift in away if shift is None)
     yield from _sentence("Always off", whole.get(_ALWAYS, ()), lambda days: days_of_week({day % _WEEK for day in days}))
