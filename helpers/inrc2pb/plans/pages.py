@@ -49,12 +49,12 @@ def write_pages(
         contents[ROSTER] = replace(roster_content(plan, old), plan=stamp)
         contents.update({WALL: replace(roster_content(plan), only_table=True, plan=stamp)} if plan.published else {})
     gone = taken_away(top, [name for name in (worked, ROSTER, WALL) if name not in contents])
+    gone += [] if plan.published else calendars_taken_away(top, list(plan.scenario.nurses), before)
+    # The pages that say which plan they show come last, so a run that was killed before its end is known by them.
+    calendars = _write_calendars(top, plan, before) if plan.published else []
     for name, content in contents.items():
         write_text(top / name, page_text(content))
-    written = [top / name for name in contents]
-    if not plan.published:
-        return Pages(written, [*gone, *calendars_taken_away(top, [*plan.scenario.nurses], before)])
-    return Pages([*written, *_write_calendars(top, plan, before)], gone)
+    return Pages([*(top / name for name in contents), *calendars], gone)
 
 
 def other_plan_lines(top: Path, stamp: str) -> Iterator[str]:
