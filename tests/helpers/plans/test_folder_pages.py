@@ -25,6 +25,8 @@ from inrc2pb.programs.progress import Progress
 Shift = Tuple[str, datetime.date, str, str]
 DAY = datetime.timedelta(days=1)
 STORED = files.read_solution(ROSTER).cells
+# A shift on a page and in a calendar, and the sign of a changed cell, after which there is its older shift.
+SHIFT, CHANGED = "(Day|Late|Night) (Charge|Nurse)", "\u0394"
 
 
 def shifts_from(monday):
@@ -122,18 +124,14 @@ class FolderPages(KeptTest):
 
     def shown(self, name):
         """The shifts of a page by its words, without the older ones of changed cells."""
-        page = ElementTree.parse(self.ward / name).getroot()
-        first, found = None, set()
-        for table in page.iter("table"):
-            if table[0].text != "Shifts of each nurse":
-                continue
-            names = [" ".join("".join(head.itertext()).split()[-2:]) for head in list(table[1].iter("tr"))[-1]][1:]
-            for row in table[2]:
-                for cell, date in zip(row[1:], names):
-                    text = "".join(cell.itertext()).split(pages_changed())[0]
-                    works = re.search("(Day|Late|Night) (Charge|Nurse)", text)
-                    found |= {(row[0].text, date, *works.groups())} if works else set()
-        self.assertIsNone(first)
+        found = set()
+        for table in ElementTree.parse(self.ward / name).iter("table"):
+            caption, head, body = table
+            if caption.text == "Shifts of each nurse":
+                dates = [" ".join("".join(day.itertext()).split()[-2:]) for day in list(head.iter("tr"))[-1]][1:]
+                cells = ((row[0].text, date, "".join(cell.itertext())) for row in body for cell, date in zip(row[1:], dates))
+                words = ((nurse, date, re.search(SHIFT, text.split(CHANGED)[0])) for nurse, date, text in cells)
+                found |= {(nurse, date, *shift.groups()) for nurse, date, shift in words if shift}
         return found
 
     def worded(self, shifts):
@@ -145,7 +143,7 @@ class FolderPages(KeptTest):
         found = set()
         for path in (self.ward / "calendars").glob("*.ics"):
             for event in path.read_text().split("BEGIN:VEVENT")[1:]:
-                words = re.search("SUMMARY:(Day|Late|Night) (Charge|Nurse)", event)
+                words = re.search(f"SUMMARY:{SHIFT}", event)
                 date = re.search("DTSTART[^:]*:([0-9]{8})", event)[1]
                 if words and "STATUS" not in event:
                     found.add((path.stem, datetime.datetime.strptime(date, "%Y%m%d").date(), *words.groups()))
@@ -165,11 +163,6 @@ class FolderPages(KeptTest):
             self.assertEqual(self.shown(name), self.worded(wanted[name]), (done, name))
         found = self.in_calendars()
         self.assertTrue(found == state.calendars or not found and not (state.is_published and is_known), (done, found ^ state.calendars))
-
-
-def pages_changed():
-    """The sign of a changed cell."""
-    return "\u0394"
 
 
 class Sequences(FolderPages):
@@ -235,6 +228,16 @@ class Undone(FolderPages):
         self.verbs.undo()
         self.verbs.undo()
         self.assertEqual([path.name for path in self.ward.glob("*.html")], [])
+
+    def test_undo_of_the_end_of_a_period_beside_the_days_of_the_next_one(self):
+        self.lines("page", "over", "over", "plan_again")
+        self.undo(with_days=False)
+        self.assert_pages(["page", "over"])
+        self.assertEqual([path.name for path in self.ward.glob("*.html")], [])
+        # With its own days again the next verb writes the pages of the first week.
+        self.days(MONDAY)
+        self.page()
+        self.assert_pages(["page", "over", "page"])
 
     def test_undo_beside_a_fault_of_the_sheet(self):
         chooses = random.Random(1)

@@ -69,9 +69,17 @@ class NextPeriod(KeptTest):
         self.write_next(None)
         self.write_plan()
         self.end_period()
+        self.assertEqual(self.worked(), ["worked-0.html"])
+        before = (self.ward / "worked-0.html").read_text()
+        self.assertIn("weeks 0 to 1", before)
         self.plan_next()
         self.does("over")
         self.assertEqual(self.worked(), ["worked-1.html", "worked-0.html"])
+        # Undo leaves the page of the first period as it is.
+        self.does("undo")
+        self.does("undo")
+        self.assertEqual((self.worked(), (self.ward / "worked-0.html").read_text()), (["worked-0.html"], before))
+        self.assertEqual(self.linked(), ["worked-0.html"])
 
     def test_weeks_of_the_needs_count_anew(self):
         # The last row of the needs is of a bank holiday in week 1.
