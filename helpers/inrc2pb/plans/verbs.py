@@ -86,7 +86,7 @@ class Verbs:
         lines += [f"the plan of {_made(last)} holds again{', with the same shifts' * undone.startswith('page, ')}"] if last else []
         try:
             return [*lines, *self._store.pages(fitted(self.current()))]
-        except (FileFault, Misuse) as fault:
+        except (FileFault, Misuse, OSError) as fault:
             gone = self._store.pages_undone(known_record(path))
             cure = f"its pages are not written: {fault_line(fault)}"
             return [*lines, *gone, *[cure] * bool(last)]

@@ -255,6 +255,13 @@ class Undone(FolderPages):
             self.rows["plan"][1][1] = ""
             self.write()
 
+    def test_undo_beside_a_sheet_that_cannot_be_read(self):
+        self.page()
+        reader = mock.Mock(side_effect=PermissionError(13, "Permission denied", "ward.ods"))
+        said = Verbs(WardFolder(self.ward), Means(reader, Progress(sys.stderr), print)).undo()
+        self.assertIn("its pages are not written: ward.ods: Permission denied", said[-1])
+        self.assertEqual([path.name for path in self.ward.glob("*.html")], [])
+
     def test_a_page_that_cannot_be_taken_away(self):
         self.over(random.Random(1))
         with mock.patch.object(pages.Path, "unlink", side_effect=PermissionError(13, "Permission denied", "worked")):
