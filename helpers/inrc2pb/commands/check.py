@@ -20,8 +20,8 @@ from ..judging.odd_values import IMPOSSIBLE, history_warnings, scenario_warnings
 from ..programs.program import BROKEN_RULE, FAULT, NO_PROGRAM, answer_with, encode
 from ..judging.rules import first_broken
 from ..week.targets import check_no_pipes
-from ..shown.telling import history_sentences, limit_sentences, scenario_sentences, supply_text, ward_sentence
-from ..shown.telling_weeks import ToldWeek, held_sentences, weeks_sentences
+from ..shown.ward_sentences import history_sentences, limit_sentences, scenario_sentences, supply_text, ward_sentence
+from ..shown.week_sentences import DescribedWeek, held_sentences, weeks_sentences
 from ..search.why_none import why_none
 
 Contents = TypeVar("Contents")
@@ -125,7 +125,7 @@ class Check:
         lines += [*history_sentences(history), ""] if history else []
         if data:
             lines.append(f"The week {supply_text(scenario, history, data)}.")
-            lines += [*weeks_sentences(scenario, [ToldWeek(0, data)]), *limit_sentences(scenario, data), ""]
+            lines += [*weeks_sentences(scenario, [DescribedWeek(0, data)]), *limit_sentences(scenario, data), ""]
         lines += [*held_sentences(held), ""] if held else []
         print(readable("\n".join(lines)))
 

@@ -76,8 +76,8 @@ class Site:
             self.name = readable(plan.scenario.name)
         except PeriodOver as fault:
             # A period that has just ended is no fault.
-            is_told = said.runs or any(PERIOD_IS_OVER in line for line in said.lines)
-            return None, said if is_told else Said([str(fault)])
+            says_so = said.runs or any(PERIOD_IS_OVER in line for line in said.lines)
+            return None, said if says_so else Said([str(fault)])
         except Exception as fault:
             # The page says what undo has done, even if the spreadsheet has a fault.
             done = said.lines if self.kept.get("verb") == "undo" and not said.is_fault else []

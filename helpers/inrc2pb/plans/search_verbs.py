@@ -7,7 +7,7 @@ from typing import Iterator, List, Optional, Sequence
 from ..judging.absences import readable
 from ..programs.interrupts import interrupts
 from ..programs.program import BROKEN_RULE, NO_ROSTER
-from ..shown.telling import part_sentences
+from ..shown.ward_sentences import part_sentences
 from ..week.faults import Misuse, ProgramFault
 from ..week.hints import plural
 from .agreed_days import AgreedDay, broken_line

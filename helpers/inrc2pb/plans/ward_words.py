@@ -1,11 +1,11 @@
-"""What a plan knows of its ward, told back: first its size, and what its weeks ask for and the contracts supply."""
+"""What a plan knows of its ward, in sentences: first its size, and what its weeks ask for and the contracts supply."""
 
 from typing import Iterator, List
 
 from ..judging.leave import paid_days
 from ..sheets.plan_sheets import COUNTED
-from ..shown.telling import history_sentences, limit_sentences, scenario_sentences, supply_text, ward_sentence
-from ..shown.telling_weeks import ToldWeek, weeks_sentences
+from ..shown.ward_sentences import history_sentences, limit_sentences, scenario_sentences, supply_text, ward_sentence
+from ..shown.week_sentences import DescribedWeek, weeks_sentences
 from .plan_days import WEEK_DAYS
 from .ward_plan import WardPlan
 
@@ -14,7 +14,7 @@ def ward_lines(plan: WardPlan) -> List[str]:
     """The ward and the weeks that are not over in sentences."""
     limits = limit_sentences(plan.scenario, plan.data[plan.open_week]) if plan.weeks else ()
     past = history_sentences(plan.histories[plan.open_week], plan.sheet.credit)
-    weeks = [ToldWeek(number, plan.data[number], plan.reasons(number), plan.held[number]) for number in plan.weeks]
+    weeks = [DescribedWeek(number, plan.data[number], plan.reasons(number), plan.held[number]) for number in plan.weeks]
     sentences = weeks_sentences(plan.scenario, weeks, lambda days: plan.days.spans([plan.first + day for day in days]))
     return [ward_sentence(plan.scenario), *_supplies(plan), "", *scenario_sentences(plan.scenario), *limits, "", *past, "", *sentences]
 

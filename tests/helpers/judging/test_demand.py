@@ -10,8 +10,8 @@ from ward import HAS_CBC, HAS_CLASP, HISTORY, ROOT, SCENARIO, WEEK, WEEK_OPTIONS
 from inrc2pb.judging.demand import asked_shifts, demand_warnings, supplied_shifts
 from inrc2pb.week.part_contracts import PartContract, part_contract
 from inrc2pb.week.records import Absence, Contract, KeptLimit, Limits, Nurse, Place, Request, Requirement, Scenario, ShiftType, WeekData
-from inrc2pb.shown.telling import history_sentences, limit_sentences, scenario_sentences, supply_text, ward_sentence
-from inrc2pb.shown.telling_weeks import ToldWeek, weeks_sentences
+from inrc2pb.shown.ward_sentences import history_sentences, limit_sentences, scenario_sentences, supply_text, ward_sentence
+from inrc2pb.shown.week_sentences import DescribedWeek, weeks_sentences
 
 WARD, DATA = files.read_scenario(SCENARIO), files.read_week(WEEK, files.read_scenario(SCENARIO))
 PAST = files.read_history(HISTORY, WARD)
@@ -132,7 +132,7 @@ class Telling(HelperTest):
     def test_a_week_in_sentences(self):
         data = replace(DATA, absences=frozenset({*(Absence("Chen", day, None) for day in (2, 3, 4)), *(Absence("Ewa", day, "Night") for day in range(7))}))
         self.assertEqual(supply_text(WARD, PAST, data), "asks for 26 to 33 shifts; the contracts supply 25 to 32 a week")
-        self.assertEqual(list(weeks_sentences(WARD, [ToldWeek(0, data)])), [
+        self.assertEqual(list(weeks_sentences(WARD, [DescribedWeek(0, data)])), [
             "Day Charge: 1 on all days.", "Day Nurse: 1, better 2 on Mon to Fri; 0, better 1 on Sat and Sun.", "Late Nurse: 1 on all days.",
             "Night Nurse: 1 on all days.", "Never Night: Ewa.", "Away: Chen on Wed to Fri.",
             "Would rather be off: Chen on Sat; Dilek on Fri; Ewa on Sun.", "Would rather not work Late: Finn on Wed.",
@@ -145,8 +145,8 @@ class Telling(HelperTest):
         fewer = replace(fewer, absences=frozenset(Absence("Ewa", day, None) for day in (5, 6)), requests=(Request("Ewa", None, 0),) * 2)
         nights = {place: number for place, number in DATA.requirements.items() if place.shift != "Night"}
         other = replace(DATA, requirements=nights, absences=frozenset({Absence("Ewa", 0, None), Absence("Chen", 1, None)}), requests=())
-        weeks = [ToldWeek(3, replace(DATA, requests=())), ToldWeek(4, fewer, {("Ewa", 5): "leave", ("Ewa", 6): "leave"}),
-                 ToldWeek(5, other, {("Ewa", 0): "leave", ("Chen", 1): "off"})]  # fmt: skip
+        weeks = [DescribedWeek(3, replace(DATA, requests=())), DescribedWeek(4, fewer, {("Ewa", 5): "leave", ("Ewa", 6): "leave"}),
+                 DescribedWeek(5, other, {("Ewa", 0): "leave", ("Chen", 1): "off"})]  # fmt: skip
         self.assertEqual(list(weeks_sentences(WARD, weeks, lambda days: " ".join(map(str, sorted(days)))))[2:], [
             "Late Nurse: 1 on all days; week 4: 0 on Fri.", "Night Nurse: 1 on all days; week 5: 0 on all days.",
             "Always off: Chen on Tue.", "Leave: Ewa on 12 13 14.", "Would rather be off: Ewa on 7 (2 requests).",

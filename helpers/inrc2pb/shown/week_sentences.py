@@ -1,10 +1,10 @@
-"""Some weeks in sentences: the numbers of nurses, absences with their reasons, wishes and held shifts. What is alike is told together."""
+"""Some weeks in sentences: the numbers of nurses, absences with their reasons, wishes and held shifts. Equal days share a sentence."""
 
 from typing import Callable, Collection, Iterable, Iterator, Mapping, NamedTuple, Sequence, Tuple
 
 from ..judging.absences import absences_of, joined, wishes_of
 from ..week.records import DAYS, Cell, Place, Requirement, Scenario, WeekData
-from .telling import together
+from .ward_sentences import together
 
 _WEEK = len(DAYS)
 # The reason of nurses who are away without one, that of days on which they are always off, and how sentences on the others begin.
@@ -14,8 +14,8 @@ _REASONS = {"ill": "Ill", "leave": "Leave", "training": "Training", "unpaid": "U
 DaysText = Callable[[Collection[int]], str]
 
 
-class ToldWeek(NamedTuple):
-    """A week to be told: its number, its data, why nurses are away on its days, as far as that is known, and its held shifts."""
+class DescribedWeek(NamedTuple):
+    """A week to be described: its number, its data, why nurses are away on its days, as far as that is known, and its held shifts."""
 
     number: int
     data: WeekData
@@ -33,7 +33,7 @@ def days_of_week(days: Collection[int]) -> str:
     return joined(DAYS[day] for day in ordered)
 
 
-def weeks_sentences(scenario: Scenario, weeks: Sequence[ToldWeek], days_text: DaysText = days_of_week) -> Iterator[str]:
+def weeks_sentences(scenario: Scenario, weeks: Sequence[DescribedWeek], days_text: DaysText = days_of_week) -> Iterator[str]:
     """Weeks in sentences. Their days count from the Monday of the first one, and have these texts."""
     yield from _needs_sentences(weeks)
     order = {nurse: number for number, nurse in enumerate(scenario.nurses)}
@@ -63,11 +63,11 @@ def _sentence(label: str, pairs: Iterable[Tuple[str, int]], days_text: DaysText)
     yield from [f"{label}: {'; '.join(words)}."] * bool(alike)
 
 
-def _reason(weeks: Sequence[ToldWeek], nurse: str, day: int) -> str:
+def _reason(weeks: Sequence[DescribedWeek], nurse: str, day: int) -> str:
     return weeks[day // _WEEK].reasons.get((nurse, day % _WEEK), _AWAY)
 
 
-def _wishes_sentences(scenario: Scenario, weeks: Sequence[ToldWeek], days_text: DaysText) -> Iterator[str]:
+def _wishes_sentences(scenario: Scenario, weeks: Sequence[DescribedWeek], days_text: DaysText) -> Iterator[str]:
     """Wishes, and how many equal requests of a file they are."""
     wishes = [(one.nurse, one.shift, _WEEK * index + one.day) for index, week in enumerate(weeks) for one in wishes_of(week.data)]
 
@@ -79,7 +79,7 @@ def _wishes_sentences(scenario: Scenario, weeks: Sequence[ToldWeek], days_text: 
         yield from _sentence(f"Would rather {'be off' if shift is None else f'not work {shift}'}", pairs, days_and_requests)
 
 
-def _needs_sentences(weeks: Sequence[ToldWeek]) -> Iterator[str]:
+def _needs_sentences(weeks: Sequence[DescribedWeek]) -> Iterator[str]:
     """The numbers of each shift type and skill, those of most weeks first."""
     for shift, skill in dict.fromkeys((place.shift, place.skill) for week in weeks for place in week.data.requirements):
         numbers = [

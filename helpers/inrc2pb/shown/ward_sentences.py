@@ -1,4 +1,4 @@
-"""A ward and its history in sentences, to be read by whoever knows the ward. Nurses with the same numbers are told together."""
+"""A ward and its history in sentences, to be read by whoever knows the ward. Nurses with the same numbers share a sentence."""
 
 from typing import Dict, Iterable, Iterator, List, Mapping, Optional, Sequence, Tuple, TypeVar
 
