@@ -114,9 +114,12 @@ def page_of(name: str, head: Sequence[Markup], parts: Sequence[Markup]) -> str:
 
 
 def _lines(lines: Sequence[str], is_fault: bool) -> List[Markup]:
-    """Lines, if there are some, which a screen reader reads at once."""
+    """Lines, if there are some, which a screen reader reads at once; of a long text the paragraphs after the second one are folded."""
     kind = "fault" if is_fault else None
-    return [element("pre", "\n".join(lines), role="alert" if is_fault else "status", class_=kind)] * bool(lines)
+    paragraphs = "\n".join(lines).split("\n\n")
+    shown, folded = ("\n\n".join(part) for part in (paragraphs[:2], paragraphs[2:]))
+    rest = element("details", element("summary", "More"), element("pre", folded))
+    return [element("pre", shown, role="alert" if is_fault else "status", class_=kind), *[rest] * bool(folded)] if lines else []
 
 
 def _said(said: Said, kept: Fields, address: str) -> List[Markup]:

@@ -76,7 +76,10 @@ def taken_away(top: Path, names: Sequence[str]) -> List[Path]:
 def calendars_taken_away(top: Path, nurses: Sequence[str], before: Mapping[str, Collection[int]]) -> List[Path]:
     """Takes the calendars of this period away, if it has some. Returns their folder, if there were any."""
     names = file_names(dict.fromkeys((*nurses, *before))).values() if before else ()
-    return [top / CALENDARS] * bool(taken_away(top / CALENDARS, list(names)))
+    gone = taken_away(top / CALENDARS, list(names))
+    if gone and not any((top / CALENDARS).iterdir()):
+        (top / CALENDARS).rmdir()
+    return [top / CALENDARS] * bool(gone)
 
 
 def worked_name(days: PlanDays, periods: int) -> str:

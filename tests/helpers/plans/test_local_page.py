@@ -84,6 +84,12 @@ class Page(ServedPage):
         page = self.sends(verb="check")
         self.assertTrue("Would rather be off: Amara on Mon 30 Nov and Wed 9 Dec; " in page and 'class="fault"' not in page)
 
+    def test_a_long_text_begins_with_what_a_planner_looks_for(self):
+        page = self.sends(verb="check")
+        shown, folded = re.search(r'<pre role="status">([^<]*)</pre>\s*<details><summary>More</summary>\s*<pre>([^<]*)</pre>', page).groups()
+        self.assertTrue("No mistake found." in shown or "warning: " in shown)
+        self.assertTrue("7 nurses" in shown and "Would rather be off: " in folded, (shown, folded))
+
     def test_a_fault_that_was_corrected_is_said_no_more(self):
         self.write_plan()
         self.rows["plan"][1][1] = "wihs"
