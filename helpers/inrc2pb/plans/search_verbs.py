@@ -14,6 +14,7 @@ from .agreed_days import AgreedDay, broken_line
 from .days_beside import beside_lines
 from .few_changes import BESIDE_POINTS, CALL_POINTS, POINTS
 from .leave_words import leave_lines
+from .lifted_absences import lifted_absence, stays_away_lines
 from .needless_changes import without_needless_changes
 from .not_kept import not_kept_lines
 from .plan_days import WEEK_DAYS
@@ -80,28 +81,21 @@ def _lifted(old: WardPlan, nurse: str, day: int, word: str) -> Iterator[str]:
 
 
 def back(store: PlanStore, words: Sequence[str], seconds: Optional[float]) -> List[str]:
-    """A nurse is back from a day on, at the end of the days on which she is away."""
+    """A nurse is back from a day on: the absence of that day ends, and later ones for other reasons stay."""
     old = store.planned()
     wording = wording_of(old, words, f"back {readable(next(iter(old.scenario.nurses)))} Mon")
     nurse, first = wording.nurse(), wording.open_day()
     wording.end()
-    days = _days_away(old, nurse, first)
-    if not days:
-        raise Misuse(f"{readable(nurse)} is not away on {old.days.text(first)}")
-    new = store.current(with_days(old.written, nurse, days, BACK))
-    store.means.say(f"{readable(nurse)}: back, {old.days.span(days)}")
+    lifted = lifted_absence(old, nurse, first)
+    new = store.current(lifted.written)
+    same = [day for day in lifted.days if new.away.get((nurse, day)) == lifted.word]
+    # The spreadsheet has the same absence.
+    new = store.current(with_days(lifted.written, nurse, same, BACK)) if same else new
+    said = f"{readable(nurse)}: back, {old.days.span(lifted.days)} ({lifted.word})"
+    store.means.say(said)
     named = f"back {nurse} {old.days.head(first)}"
-    return [*part_lines(old, new, nurse), *_search(store, named, new, Asked(first, True, seconds or CHANGE_SECONDS))]
-
-
-def _days_away(old: WardPlan, nurse: str, first: int) -> List[int]:
-    """The days from this one on on which she is away without a break."""
-    days: List[int] = []
-    for day in range(first, old.days.total):
-        if (nurse, day) not in old.away:
-            break
-        days.append(day)
-    return days
+    lines = [*[said] * store.only_reads, *stays_away_lines(new, nurse, first), *part_lines(old, new, nurse)]
+    return [*lines, *_search(store, named, new, Asked(first, True, seconds or CHANGE_SECONDS))]
 
 
 def _search(store: PlanStore, verb: str, old: WardPlan, asked: Asked) -> List[str]:

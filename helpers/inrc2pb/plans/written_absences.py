@@ -3,7 +3,7 @@
 import csv
 import io
 from pathlib import Path
-from typing import Iterable, List, NamedTuple, Optional, Sequence, Tuple
+from typing import Collection, Dict, Iterable, List, NamedTuple, Optional, Sequence, Tuple
 
 from ..judging.absences import readable
 from ..sheets.plan_sheets import AWAY, Days
@@ -14,8 +14,10 @@ from ..week.faults import FileFault, Misuse
 from .plan_days import OtherPlan, PlanDays
 
 NAME = "absences.csv"
-# The word of a nurse who is back: it empties her cell.
-BACK = "back"
+# The words of days on which a nurse is back: the first empties her cell, with the second what the spreadsheet says holds again.
+BACK, SHEET = "back", "sheet"
+# The word that other ones stay below: who is ill on days of leave has her leave again if she is back.
+_ILL = "ill"
 
 
 class WrittenAbsence(NamedTuple):
@@ -27,10 +29,24 @@ class WrittenAbsence(NamedTuple):
 
 
 def with_days(written: Sequence[WrittenAbsence], nurse: str, days: Iterable[int], word: str) -> Tuple[WrittenAbsence, ...]:
-    """The absences with this word for these days of a nurse, in place of older ones."""
+    """The absences with this word for these days of a nurse, in place of older ones, or, if she is ill, above them."""
     new = [WrittenAbsence(nurse, day, word) for day in days]
-    taken = {(one.nurse, one.day) for one in new}
-    return (*(one for one in written if (one.nurse, one.day) not in taken), *new)
+    taken, stay = {(one.nurse, one.day) for one in new}, word == _ILL
+    kept = (one for one in written if (one.nurse, one.day) not in taken or (stay and one.word not in (_ILL, SHEET)))
+    return (*kept, *new)
+
+
+def without_last(written: Sequence[WrittenAbsence], nurse: str, days: Collection[int]) -> Tuple[WrittenAbsence, ...]:
+    """The absences without the last one of each of these days of a nurse: the one below it holds again, or else what the spreadsheet
+    says."""
+    words = {day: [one.word for one in written if (one.nurse, one.day) == (nurse, day)] for day in days}
+    others = (one for one in written if one.nurse != nurse or one.day not in words)
+    return (*others, *(WrittenAbsence(nurse, day, word) for day, found in words.items() for word in found[:-1] or [SHEET]))
+
+
+def words_of(written: Sequence[WrittenAbsence], nurse: str) -> Dict[int, str]:
+    """The word that holds on each day of a nurse for which a verb has written one."""
+    return {one.day: one.word for one in written if one.nurse == nurse}
 
 
 def written_text(written: Sequence[WrittenAbsence], days: PlanDays) -> str:
@@ -91,6 +107,8 @@ def _name(cell: SheetCell) -> str:
 
 def _cell(text: str, word: str) -> str:
     """What the word makes of the text of a cell: who is back was away."""
+    if word == SHEET:
+        return text
     if word != BACK:
         return word
     return "" if tidy(text).casefold() in AWAY else text

@@ -1,0 +1,150 @@
+"""Tests of the verb back: which absence ends, and which ones stay."""
+
+from unittest import mock
+
+from served_page import ServedPage
+from test_plans import FolderTest
+from ward import run
+
+from inrc2pb.commands.plan import read_sheet
+from inrc2pb.plans import search_verbs
+from inrc2pb.plans.plan_search import Found
+from inrc2pb.plans.ward_plan import continued, read_stored
+from inrc2pb.plans.written_absences import WrittenAbsence, with_days, without_last, words_of
+
+
+def _without_a_search(_, old, asked):
+    """The old plan without the shifts of days away, as if a search had found it."""
+    return Found(old.with_cells(cell for cell in old.cells() if (cell.nurse, cell.day) not in old.away), "", False)
+
+
+class BackTest(FolderTest):
+    """A ward whose verbs find plans without a search. Day 0 is Mon 30 Nov, and day 13 is Sun 13 Dec."""
+
+    def setUp(self):
+        super().setUp()
+        for name, stand_in in (("_found", _without_a_search), ("cost_lines", lambda _: [])):
+            patched = mock.patch.object(search_verbs, name, stand_in)
+            patched.start()
+            self.addCleanup(patched.stop)
+
+    def begin_with(self, *words):
+        """The row of Chen in the sheet plan says this, and there is a plan."""
+        self.rows["plan"][3][1:] = [*words, *[""] * (14 - len(words))]
+        self.write()
+        self.write_plan()
+
+    def lines(self, *words):
+        """The lines of a verb, those of its progress first."""
+        _, printed, said = run("plan", self.ward, *words)
+        return [*said.splitlines(), *printed.splitlines()]
+
+    def away(self):
+        """The days on which the plan that holds has Chen away, and why."""
+        stored = read_stored(self.last())
+        plan = continued(stored, read_sheet(self.ward, None, stored.written))
+        return {day: word for (nurse, day), word in sorted(plan.away.items()) if nurse == "Chen" and word != "off"}
+
+
+def _days(first, last, word):
+    return dict.fromkeys(range(first, last + 1), word)
+
+
+class Back(BackTest):
+    def test_leave_after_an_illness_stays(self):
+        self.begin_with(*[""] * 7, *["leave"] * 5)
+        self.lines("ill", "Chen", "Wed", "Sun")
+        lines = self.lines("back", "Chen", "Sat")
+        self.assertEqual(lines[0], "Chen: back, Sat 5 Dec to Sun 6 Dec (ill)")
+        self.assertIn("Chen stays away: leave, Mon 7 Dec to Fri 11 Dec", lines)
+        self.assertEqual(self.away(), {**_days(2, 4, "ill"), **_days(7, 11, "leave")})
+
+    def test_an_unpaid_day_after_an_illness_stays(self):
+        self.begin_with("", "", "", "", "unpaid")
+        self.lines("ill", "Chen", "Wed", "Thu")
+        lines = self.lines("back", "Chen", "Thu")
+        self.assertEqual(lines[0], "Chen: back, Thu 3 Dec (ill)")
+        self.assertIn("Chen stays away: unpaid, Fri 4 Dec", lines)
+        self.assertEqual(self.away(), {2: "ill", 4: "unpaid"})
+
+    def test_who_leaves_the_ward_does_not_work_after_it(self):
+        for last in ("Sun", "8.12."):
+            with self.subTest(last):
+                self.begin_with()
+                self.lines("away", "Chen", "7.12.", "13.12.")
+                self.lines("ill", "Chen", "Fri", last)
+                self.assertIn("Chen stays away: away, Mon 7 Dec to Sun 13 Dec", self.lines("back", "Chen", "Sun"))
+                self.assertEqual(self.away(), {**_days(4, 5, "ill"), **_days(7, 13, "away")})
+
+    def test_leave_below_an_illness_holds_again(self):
+        self.begin_with(*["leave"] * 5)
+        self.lines("ill", "Chen", "Wed", "Sun")
+        self.assertEqual(self.away(), {**_days(0, 1, "leave"), **_days(2, 6, "ill")})
+        lines = self.lines("back", "Chen", "Thu")
+        self.assertEqual(lines[0], "Chen: back, Thu 3 Dec to Sun 6 Dec (ill)")
+        self.assertIn("Chen stays away: leave, Thu 3 Dec to Fri 4 Dec", lines)
+        self.assertEqual(self.away(), {**_days(0, 1, "leave"), 2: "ill", **_days(3, 4, "leave")})
+        # Leave that is written into the spreadsheet later holds, too.
+        self.rows["plan"][3][7] = "leave"
+        self.write()
+        self.assertEqual(self.away()[6], "leave")
+
+    def test_leave_of_the_spreadsheet_ends_with_the_day_that_is_named(self):
+        self.begin_with(*["ill"] * 2, *["leave"] * 3, "", "", *["leave"] * 2)
+        lines = self.lines("back", "Chen", "Thu")
+        self.assertEqual(lines[0], "Chen: back, Thu 3 Dec to Fri 4 Dec (leave)")
+        self.assertIn("Chen stays away: leave, Mon 7 Dec to Tue 8 Dec", lines)
+        self.assertEqual(self.away(), {**_days(0, 1, "ill"), 2: "leave", **_days(7, 8, "leave")})
+        self.assertEqual(self.lines("back", "Chen", "Mon")[0], "Chen: back, Mon 30 Nov to Tue 1 Dec (ill)")
+        self.lines("back", "Chen", "Wed")
+        lines = self.lines("back", "Chen", "7.12.")
+        self.assertEqual(([line for line in lines if "stays away" in line], self.away()), ([], {}))
+
+    def test_days_that_are_always_off_are_no_part_of_an_absence(self):
+        self.rows["nurses"][3][4] = "Sat, Sun"
+        self.begin_with(*[""] * 7, *["leave"] * 5)
+        self.lines("ill", "Chen", "Thu", "Fri")
+        self.assertEqual(self.lines("back", "Chen", "Fri")[0], "Chen: back, Fri 4 Dec (ill)")
+        self.assertEqual(self.away(), {3: "ill", **_days(7, 11, "leave")})
+        self.assertEqual(self.lines("back", "Chen", "Sat"), ["inrc2pb-plan: Chen is not away on Sat 5 Dec: she is always off on it"])
+
+    def test_a_reason_that_was_corrected_does_not_come_again(self):
+        self.begin_with()
+        self.lines("ill", "Chen", "Wed", "Fri")
+        self.lines("leave", "Chen", "Wed", "Fri")
+        self.assertEqual(self.lines("back", "Chen", "Thu")[0], "Chen: back, Thu 3 Dec to Fri 4 Dec (leave)")
+        self.assertEqual(self.away(), {2: "leave"})
+
+    def test_an_illness_that_the_spreadsheet_has_too_ends(self):
+        self.begin_with("", "", "ill", "ill", "ill")
+        self.lines("ill", "Chen", "Wed", "Thu")
+        lines = self.lines("back", "Chen", "Thu")
+        self.assertIn("Chen stays away: ill, Fri 4 Dec", lines)
+        self.assertEqual(self.away(), {2: "ill", 4: "ill"})
+
+    def test_who_is_back_twice(self):
+        self.begin_with(*["leave"] * 5)
+        self.lines("back", "Chen", "Wed")
+        self.lines("ill", "Chen", "Wed", "Thu")
+        self.lines("back", "Chen", "Thu")
+        # Her leave from Wednesday on was lifted before she was ill.
+        self.assertEqual(self.away(), {**_days(0, 1, "leave"), 2: "ill"})
+
+
+class Written(FolderTest):
+    def test_what_verbs_wrote_below_an_illness_stays(self):
+        leave, ill = with_days((), "Chen", [1, 2], "leave"), WrittenAbsence("Chen", 2, "ill")
+        both = with_days(with_days(leave, "Chen", [2], "ill"), "Chen", [2], "ill")
+        self.assertEqual((both, words_of(both, "Chen"), words_of(both, "Grace")), ((*leave, ill), {1: "leave", 2: "ill"}, {}))
+        self.assertEqual(set(without_last(both, "Chen", [2])), set(leave))
+        self.assertEqual(without_last([ill], "Chen", [2]), (WrittenAbsence("Chen", 2, "sheet"),))
+        self.assertEqual(without_last([ill], "Grace", []), (ill,))
+
+
+class Asked(ServedPage):
+    def test_the_question_names_what_ends_and_what_stays(self):
+        self.rows["plan"][3][1:] = ["", "", "ill", "ill", "leave", *[""] * 9]
+        self.write()
+        self.write_plan()
+        page = self.asks("POST", form="verb=back&nurse=Chen&first=2026-12-03")[1]
+        self.assertIn("<pre>Chen: back, Thu 3 Dec (ill)\nChen stays away: leave, Fri 4 Dec</pre>", page)
