@@ -20,7 +20,7 @@ from .not_kept import not_kept_lines
 from .plan_days import WEEK_DAYS
 from .plan_search import MOST, NONE, Asked, Found, search_plan, why_no_plan
 from .plan_store import PlanStore, cost_lines, wording_of
-from .shift_changes import call_lines, cell_text, change_lines, shift_changes
+from .shift_changes import Away, call_lines, cell_text, change_lines, shift_changes
 from .ward_plan import WardPlan
 from .wish_words import wish_lines
 from .written_absences import BACK, with_days
@@ -61,7 +61,7 @@ def away(store: PlanStore, word: str, words: Sequence[str], seconds: Optional[fl
     named = f"{word} {nurse} {old.days.head(first)} {old.days.head(last)}"
     lifted = [line for day in range(first, last + 1) for line in _lifted(old, nurse, day, word)]
     new = store.current(written)
-    return [*lifted, *part_lines(old, new, nurse), *_search(store, named, new, Asked(first, True, seconds or CHANGE_SECONDS))]
+    return [*lifted, *part_lines(old, new, nurse), *_search(store, named, new, Asked(first, True, seconds or CHANGE_SECONDS), old)]
 
 
 def part_lines(old: WardPlan, new: WardPlan, nurse: str) -> List[str]:
@@ -95,11 +95,12 @@ def back(store: PlanStore, words: Sequence[str], seconds: Optional[float]) -> Li
     store.means.say(said)
     named = f"back {nurse} {old.days.head(first)}"
     lines = [*[said] * store.only_reads, *stays_away_lines(new, nurse, first), *part_lines(old, new, nurse)]
-    return [*lines, *_search(store, named, new, Asked(first, True, seconds or CHANGE_SECONDS))]
+    return [*lines, *_search(store, named, new, Asked(first, True, seconds or CHANGE_SECONDS), old)]
 
 
-def _search(store: PlanStore, verb: str, old: WardPlan, asked: Asked) -> List[str]:
-    """Searches, writes the plan, and says what it costs and what changes."""
+def _search(store: PlanStore, verb: str, old: WardPlan, asked: Asked, older: Optional[WardPlan] = None) -> List[str]:
+    """Searches, writes the plan, and says what it costs and what changes. `older` is the older plan with the absences that it had, if
+    these are other ones now."""
     if store.only_reads:
         return []
     days = old.days.span([asked.first, old.days.total - 1])
@@ -116,8 +117,8 @@ def _search(store: PlanStore, verb: str, old: WardPlan, asked: Asked) -> List[st
             found = found._replace(plan=without_needless_changes(old, found.plan))
         works, before = found.plan.works, old.works
         new = replace(found.plan, agreed=tuple(one for one in old.agreed if works.get(one) == before.get(one)))
-        lines = _result(store, old, found._replace(plan=new), asked)
-        return [*lines, *store.save(verb, new, old if old.is_planned else None)]
+        lines = _result(store, old, found._replace(plan=new), asked, (older or old).away)
+        return [*lines, *store.save(verb, new, (older or old) if old.is_planned else None)]
 
 
 def _found(store: PlanStore, old: WardPlan, asked: Asked) -> Found:
@@ -137,8 +138,8 @@ def _found(store: PlanStore, old: WardPlan, asked: Asked) -> Found:
     return firm if firm and len(not_kept_lines(firm.plan)) <= len(not_kept_lines(free.plan)) else free
 
 
-def _result(store: PlanStore, old: WardPlan, found: Found, asked: Asked) -> List[str]:
-    """What the plan does not keep, what it changes, and what it costs."""
+def _result(store: PlanStore, old: WardPlan, found: Found, asked: Asked, away: Away) -> List[str]:
+    """What the plan does not keep, what it changes, and what it costs. `away` are the absences of the older plan."""
     before, new, few_changes = (old if old.is_planned else None), found.plan, asked.few_changes
     lines = not_kept_lines(new)
     is_kept = not lines
@@ -147,7 +148,7 @@ def _result(store: PlanStore, old: WardPlan, found: Found, asked: Asked) -> List
     changes = shift_changes(before.cells(), new.cells()) if before else []
     if before and (before.published or few_changes):
         called = call_lines(changes, new.away) or ["no nurse has to be called"]
-        lines += [*change_lines(changes, new.days, new.away), *called] if changes else ["no shift changes"]
+        lines += [*change_lines(changes, new.days, new.away, away), *called] if changes else ["no shift changes"]
     elif before:
         # Nobody has seen the older plan.
         lines.append(f"{plural(len(changes), 'shift')} {'differs' if len(changes) == 1 else 'differ'} from the last plan")

@@ -29,12 +29,14 @@ def shift_changes(old: Iterable[Cell], new: Iterable[Cell]) -> List[ShiftChange]
 Away = Mapping[Tuple[str, int], str]
 
 
-def change_lines(changes: List[ShiftChange], days: PlanDays, away: Away = {}) -> List[str]:
-    """A line for each change. `away` has words for the nurses' days on which they are away."""
+def change_lines(changes: List[ShiftChange], days: PlanDays, away: Away = {}, before: Away = {}) -> List[str]:
+    """A line for each change. `away` has words for the nurses' days on which they are away, and `before` those of the older plan."""
 
     def line(one: ShiftChange) -> str:
-        now = cell_text(one.now) if one.now else away.get((one.nurse, one.day), OFF)
-        return f"{readable(one.nurse)}, {days.text(one.day)}: {now} instead of {cell_text(one.before)}"
+        now, older = (
+            cell_text(cell) if cell else words.get((one.nurse, one.day), OFF) for cell, words in ((one.now, away), (one.before, before))
+        )
+        return f"{readable(one.nurse)}, {days.text(one.day)}: {now} instead of {older}"
 
     return [line(one) for one in changes]
 

@@ -8,8 +8,9 @@ from ..judging.absences import readable
 from ..judging.breaches import breaches
 from ..judging.limits import exceeded, limits_in_words
 from ..judging.next_history import next_history
+from ..sheets.plan_sheets import AWAY
 from ..week.faults import Misuse
-from ..week.records import Cell, Place
+from ..week.records import DAYS, Cell, Place
 from .plan_days import PERIOD_IS_OVER, WEEK_DAYS, PlanDays
 from .plan_store import PlanStore, wording_of
 from .shift_changes import OFF, change_lines, shift_changes
@@ -30,7 +31,7 @@ def over(store: PlanStore, words: Sequence[str]) -> List[str]:
         _correct(old, wording, cells)
     worked = old.with_cells(cells.values())
     changes = shift_changes(old.cells(), worked.cells())
-    lines = [*change_lines(changes, old.days), *_broken_by_hand(old, worked)]
+    lines = [*change_lines(changes, old.days, old.away, old.away), *_broken_by_hand(old, worked)]
     return [*lines, *(_next_week(store, old, worked) if old.open_week + 1 < old.days.weeks else _next_period(store, worked))]
 
 
@@ -39,6 +40,10 @@ def _correct(old: WardPlan, wording: Wording, cells: Dict[Tuple[str, int], Cell]
     nurse, day = wording.nurse(), wording.open_day()
     if day >= old.first + WEEK_DAYS:
         raise Misuse(f"{old.days.text(day)} is after the week that ends now: the verb swap, or ill, changes later days")
+    word = wording.has_next(AWAY)
+    if word:
+        named = f"{word} {readable(nurse)} {DAYS[day - old.first]} {DAYS[day - old.first]}"
+        raise Misuse(f"type {named} first, then over")
     shift, skill = wording.shift([*old.scenario.shift_types, OFF], old.scenario.nurses[nurse].skills)
     before = cells.pop((nurse, day), None)
     if shift != OFF:

@@ -51,6 +51,11 @@ class Wording:
             raise Misuse(f"{self._days.text(found)} is in a week that is over: the plan goes on from {self._days.text(self._first)}")
         return found
 
+    def has_next(self, words: Collection[str]) -> str:
+        """The next word, if it is one of these."""
+        word = "" if self.is_over else self._left[0].casefold()
+        return word if word in words else ""
+
     def shift(self, names: Collection[str], skills: Collection[str]) -> Tuple[str, str]:
         """One of these shift types, and the skill that follows it, as in `Late/Nurse`, or nothing."""
         if self.is_over:

@@ -11,13 +11,15 @@ from ..week.slots import did_you_mean
 
 
 class Change(NamedTuple):
-    """A nurse's day whose cells differ in two rosters."""
+    """A nurse's day whose cells differ in two rosters, and each of the two in words: why she is away, if she is."""
 
     week: int
     nurse: str
     day: int
     before: Sequence[ShownCell]
     now: Sequence[ShownCell]
+    before_text: str
+    now_text: str
 
 
 def changes(old: RosterView, new: RosterView) -> List[Change]:
@@ -28,7 +30,8 @@ def changes(old: RosterView, new: RosterView) -> List[Change]:
             for nurse in dict.fromkeys([*new.nurses, *old.nurses]):
                 before, now = old.cells(week, nurse, day), new.cells(week, nurse, day)
                 if {cell[:2] for cell in before} != {cell[:2] for cell in now}:
-                    found.append(Change(week, nurse, day, before, now))
+                    texts = (_day_text(view, week, nurse, day) for view in (old, new))
+                    found.append(Change(week, nurse, day, before, now, *texts))
     return found
 
 
@@ -37,11 +40,16 @@ def cells_text(cells: Sequence[ShownCell]) -> str:
     return " and ".join(f"{cell.shift} {cell.skill}" for cell in cells) or "off"
 
 
+def _day_text(view: RosterView, week: int, nurse: str, day: int) -> str:
+    cells = view.cells(week, nurse, day)
+    return view.reason(week, nurse, day) if not cells and view.is_away(week, nurse, day) else cells_text(cells)
+
+
 def changed_lines(old: RosterView, new: RosterView) -> Iterator[str]:
     """A line for each change."""
     for change in changes(old, new):
         week = new.prefix(new.weeks[change.week])
-        yield f"{week}{change.nurse} {DAYS[change.day]}: {cells_text(change.now)} instead of {cells_text(change.before)}"
+        yield f"{week}{change.nurse} {DAYS[change.day]}: {change.now_text} instead of {change.before_text}"
 
 
 # ---- swaps

@@ -2,7 +2,6 @@
 
 from typing import Optional
 
-from .changes import cells_text
 from .markup import Markup, element, joined
 from .page_tables import Content, column, first, plain, table
 from .totals import Wish, totals
@@ -27,7 +26,7 @@ def changes_table(page: Content) -> Optional[Markup]:
     """The changes since the older roster."""
     rows = [
         [first(plain(change.nurse)), *(element("td", text) for text in (
-            page.days(change.week)[change.day], plain(cells_text(change.before)), plain(cells_text(change.now))))]
+            page.days(change.week)[change.day], plain(change.before_text), plain(change.now_text)))]
         for change in page.changes
     ]  # fmt: skip
     heads = joined(*map(column, ("nurse", "day", "before", "now")))

@@ -174,7 +174,8 @@ class RosterTable:
         elif not cells and change:
             parts.append(element("span", "off", class_="away"))
         if change:
-            older = f" {CHANGED_MEANING}, instead of {plain(cells_text(change.before))}"
+            before = cells_text(change.before) if self.page.only_table else change.before_text
+            older = f" {CHANGED_MEANING}, instead of {plain(before)}"
             parts.append(joined(shown(CHANGED, class_="mark"), hidden(older)))
         if self.page.is_swapped(week, nurse, day):
             parts.append(joined(shown(SWAPPED, class_="mark"), hidden(f", {SWAPPED_MEANING}")))

@@ -1,6 +1,7 @@
 """Tests of the verb back: which absence ends, and which ones stay."""
 
 from unittest import mock
+from xml.etree import ElementTree
 
 from served_page import ServedPage
 from test_plans import FolderTest
@@ -11,6 +12,7 @@ from inrc2pb.plans import search_verbs
 from inrc2pb.plans.plan_search import Found
 from inrc2pb.plans.ward_plan import continued, read_stored
 from inrc2pb.plans.written_absences import WrittenAbsence, with_days, without_last, words_of
+from inrc2pb.week.records import Cell
 
 
 def _without_a_search(_, old, asked):
@@ -23,7 +25,8 @@ class BackTest(FolderTest):
 
     def setUp(self):
         super().setUp()
-        for name, stand_in in (("_found", _without_a_search), ("cost_lines", lambda _: [])):
+        stand_ins = {"_found": _without_a_search, "cost_lines": lambda _: [], "without_needless_changes": lambda _, new: new}
+        for name, stand_in in stand_ins.items():
             patched = mock.patch.object(search_verbs, name, stand_in)
             patched.start()
             self.addCleanup(patched.stop)
@@ -129,6 +132,55 @@ class Back(BackTest):
         self.lines("back", "Chen", "Thu")
         # Her leave from Wednesday on was lifted before she was ill.
         self.assertEqual(self.away(), {**_days(0, 1, "leave"), 2: "ill"})
+
+
+class Reasons(BackTest):
+    def begin_with(self, *words):
+        super().begin_with(*words)
+        self.lines("page")
+
+    def changes(self, page="roster.html"):
+        """The rows of the list of changes of a page: nurse, day, before, now."""
+        tree = ElementTree.fromstring((self.ward / page).read_text().partition("\n")[2])
+        tables = [one for one in tree.iter("table") if "changes since" in "".join(one.itertext())]
+        rows = [["".join(cell.itertext()) for cell in row] for one in tables for row in one.iter("tr")]
+        return [row for row in rows if row[0] == "Chen"]
+
+    def test_a_change_to_an_illness_has_its_word(self):
+        self.begin_with()
+        shift = " ".join(self.cells()["Chen", 5])
+        lines = self.lines("ill", "Chen", "Sat")
+        self.assertIn(f"Chen, Sat 5 Dec: ill instead of {shift}", lines)
+        self.assertEqual(self.changes(), [["Chen", "Sat 5 Dec", shift, "ill"]])
+
+    def test_a_change_from_leave_has_its_word(self):
+        self.begin_with("", "", "", "", "", "leave")
+        self.lines("plan", "--free")
+
+        def works(_, old, asked):
+            return Found(old.with_cells([*old.cells(), Cell("Chen", 5, "Late", "Nurse")]), "", False)
+
+        with mock.patch.object(search_verbs, "_found", works):
+            lines = self.lines("back", "Chen", "Sat")
+        self.assertIn("Chen, Sat 5 Dec: Late Nurse instead of leave", lines)
+        self.assertEqual(self.changes(), [["Chen", "Sat 5 Dec", "leave", "Late Nurse"]])
+        # Nobody reads on the wall why she was away.
+        self.assertNotIn("leave", (self.ward / "wall.html").read_text())
+
+    def test_a_nurse_who_worked_on_a_day_of_leave(self):
+        self.begin_with("", "", "", "", "", "leave")
+        self.lines("plan", "--free")
+        self.assertIn("Chen, Sat 5 Dec: Late Nurse instead of leave", self.lines("over", "Chen", "Sat", "Late"))
+
+
+class Over(BackTest):
+    def test_an_absence_is_no_correction(self):
+        self.begin_with()
+        for word in ("ill", "leave", "training", "unpaid", "away"):
+            says = f"type {word} Bruno Mon Mon first, then over"
+            self.assertEqual(self.lines("over", "Chen", "Fri", "off,", "bru", "30.11.", word.title()), [f"inrc2pb-plan: {says}"])
+        self.lines("over")
+        self.assertEqual(self.lines("over", "Bruno", "Wed", "ill"), ["inrc2pb-plan: type ill Bruno Wed Wed first, then over"])
 
 
 class Written(FolderTest):
