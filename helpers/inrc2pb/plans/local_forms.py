@@ -54,6 +54,21 @@ def writes(fields: Fields) -> str:
     return next((form.writes for form in FORMS if form.verb == fields.get("verb")), "")
 
 
+def not_written(fields: Fields) -> List[str]:
+    """A line that names what was not written of a form that was refused; none if its verb only reads."""
+    nurse, other = (readable(fields.get(name, "")) for name in ("nurse", "other"))
+    said = {
+        "plan": "a new plan was not written",
+        "away": f"the absence of {nurse} was not written",
+        "back": f"it was not written that {nurse} is back",
+        "swap": f"the swap of {nurse} and {other} was not written",
+        "over": "the end of the week was not written",
+        "page": "the plan was not published",
+        "undo": "nothing was taken back",
+    }
+    return [said[fields["verb"]]] if writes(fields) else []
+
+
 def verb_of(fields: Fields, seconds: Optional[float] = None) -> Callable[[Verbs], List[str]]:
     """The verb that a form asks for; a search has so many seconds, if the form does not say how many."""
     verb = fields.get("verb", "")

@@ -14,7 +14,7 @@ from ..programs.interrupts import Interrupts
 from ..shown.calendars import file_names
 from ..shown.page import page_text
 from ..week.faults import Misuse
-from .local_forms import STAMP, SURE, Fields, verb_of, writes
+from .local_forms import STAMP, SURE, Fields, not_written, verb_of, writes
 from .local_jobs import CHANGED, RUNS, Jobs, Said, fault_lines
 from .local_page import Place, Shown, calendars_markup, page_markup
 from .pages import CALENDARS, roster_content
@@ -107,7 +107,9 @@ class Site:
                 return self._kept(fields, tried.lines if has_lines else [], tried.is_fault)
             self.jobs.begin(verb)
         except Misuse as fault:
-            return self._kept(fields, [str(fault)], True)
+            # A form that was sent twice is written by the first of the two.
+            is_missing = str(fault) in (CHANGED, RUNS) and _asked(fields) != _asked(self.kept)
+            return self._kept(fields, [str(fault), *not_written(fields) * is_missing], True)
         self.kept = fields if writes(fields) else {**fields, STAMP: self.jobs.folder.stamp}
         return ""
 
@@ -123,7 +125,7 @@ class Site:
         found = next((one for one in self._sent if str(one.number) == query.get(_SENT)), None)
         if not found or not writes(found.fields) or found.fields.get(STAMP) == self.jobs.folder.stamp:
             return found
-        return found._replace(lines=[CHANGED] if found.lines == [RUNS] else found.lines) if found.is_refused else None
+        return found._replace(lines=[CHANGED if line == RUNS else line for line in found.lines]) if found.is_refused else None
 
     def fields(self, said: Said, sent: Optional[Sent]) -> Dict[str, str]:
         """The values that stay in the form that was sent last: those of one that was refused, of a look for a swap, or of a verb that
@@ -131,6 +133,11 @@ class Site:
         if sent:
             return sent.fields
         return self.kept if said.is_fault or self.kept.get("verb") == "swap" else {}
+
+
+def _asked(fields: Fields) -> Dict[str, str]:
+    """What a form asks for."""
+    return {name: value for name, value in fields.items() if name not in (STAMP, SURE)}
 
 
 class _Handler(BaseHTTPRequestHandler):

@@ -1,24 +1,27 @@
 """The verb swap: what a swap of two nurses costs and breaks, and who else could swap."""
 
 from dataclasses import replace
-from typing import List, Sequence
+from typing import List, Optional, Sequence, Set, Tuple
 
 from ..judging.absences import joined, readable
 from ..programs.program import BROKEN_RULE
 from ..shown.why import change_lines as charge_lines
-from ..week.faults import Misuse
+from ..week.faults import FileFault, Misuse
+from ..week.records import Cell
 from .agreed_days import AgreedDay
 from .days_beside import beside_lines
-from .plan_store import PlanStore, cost_lines, wording_of
+from .plan_days import WEEK_DAYS
+from .plan_store import PlanStore, cost_lines, known_record, wording_of
 from .shift_changes import call_lines, change_lines, shift_changes
 from .swap_words import offer_lines, shift_of
 from .swaps import Swap, Swaps, swapped
-from .ward_plan import WardPlan
+from .ward_plan import Stored, WardPlan, read_stored
 from .wish_words import wish_lines
 
 
 # The line of a look for a swap that can be written.
 NOT_WRITTEN = "nothing is written"
+_KEPT, _TAKEN_BACK = "later plans keep this swap", "this takes their swap back: later plans do not keep it"
 
 
 def swap(store: PlanStore, words: Sequence[str], do: bool) -> List[str]:
@@ -50,19 +53,50 @@ def _swap(store: PlanStore, old: WardPlan, asked: Swap, do: bool) -> List[str]:
     if faults:
         store.status = BROKEN_RULE
         return [*faults, NOT_WRITTEN, *offer_lines(old, swaps, *shift_of(swaps, asked))]
-    changes = shift_changes(old.cells(), new.cells())
-    lines = [*change_lines(changes, old.days), *call_lines(changes)]
-    lines += wish_lines(old, new)
-    before = set(beside_lines(old))
-    lines += [line for line in beside_lines(new) if line not in before]
-    lines += [readable(line) for line in charge_lines(old.view(), new.view()) if line[:1] in " +-"]
+    agreed = [AgreedDay(nurse, day) for nurse in (asked.one, asked.other) for day in asked.days]
+    before = _before_swap(store, old, new, asked) if {*agreed} <= {*old.agreed} else None
+    lines = [*_lines(old, new), *[_TAKEN_BACK] * bool(before)]
     if not do:
         return [*lines, f"{NOT_WRITTEN}: {store.means.write}", *offer_lines(old, swaps, *shift_of(swaps, asked))]
     if store.only_reads:
         return lines
     # The program has the last word on the new rosters.
     cost_lines(new)
-    agreed = [AgreedDay(nurse, day) for nurse in (asked.one, asked.other) for day in asked.days]
-    new = replace(new, agreed=tuple(dict.fromkeys((*old.agreed, *agreed))))
-    days = " ".join(map(old.days.head, asked.days))
-    return [*lines, "later plans keep this swap", *store.save(f"swap {asked.one} {asked.other} {days}", new, old)]
+    others = [one for one in old.agreed if one not in agreed]
+    kept = [*others, *(one for one in before.agreed if one in agreed)] if before else [*old.agreed, *agreed]
+    new = replace(new, agreed=tuple(dict.fromkeys(kept)))
+    return [*lines, *[_KEPT] * (not before), *store.save(_named(old, asked), new, old)]
+
+
+def _lines(old: WardPlan, new: WardPlan) -> List[str]:
+    """What a swap changes and costs."""
+    changes = shift_changes(old.cells(), new.cells())
+    lines = [*change_lines(changes, old.days), *call_lines(changes), *wish_lines(old, new)]
+    before = set(beside_lines(old))
+    lines += [line for line in beside_lines(new) if line not in before]
+    return lines + [readable(line) for line in charge_lines(old.view(), new.view()) if line[:1] in " +-"]
+
+
+def _named(plan: WardPlan, swap: Swap) -> str:
+    """The swap as a verb with its words."""
+    return f"swap {swap.one} {swap.other} {' '.join(map(plan.days.head, swap.days))}"
+
+
+def _before_swap(store: PlanStore, old: WardPlan, new: WardPlan, asked: Swap) -> Optional[Stored]:
+    """The plan before the last swap of these two on these days, if they have the shifts of that plan again."""
+    verbs = [_named(old, swap) for swap in (asked, asked._replace(one=asked.other, other=asked.one))]
+    plans = store.folder.all_plans()
+    records = ((before, known_record(path)) for before, path in zip(reversed(plans[:-1]), reversed(plans)))
+    found = next((before for before, of_plan in records if of_plan and of_plan.days == old.days and of_plan.verb in verbs), None)
+    try:
+        before = read_stored(found) if found else None
+    except (FileFault, OSError):
+        return None
+    cells = before.rosters.items() if before else ()
+    older = [cell._replace(day=WEEK_DAYS * number + cell.day) for number, of_week in cells for cell in of_week]
+    return before if _shifts(older, asked) == _shifts(new.cells(), asked) else None
+
+
+def _shifts(cells: Sequence[Cell], swap: Swap) -> Set[Tuple[str, int, str]]:
+    """The shifts of the two nurses on the days of a swap."""
+    return {(cell.nurse, cell.day, cell.shift) for cell in cells if cell.nurse in (swap.one, swap.other) and cell.day in swap.days}

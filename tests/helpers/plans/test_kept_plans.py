@@ -474,6 +474,31 @@ class Agreed(KeptTest):
         self.assertEqual((cells["Chen", 0], ("Grace", 0) in cells), (("Day", "Nurse"), False))
         self.assertEqual(self.agreed(), self.days)
 
+    def test_a_swap_that_is_typed_again_is_taken_back(self):
+        self.does("swap", "Grace", "Tue", "Chen", "--do")
+        swapped, tuesday = self.cells(), {("Grace", 1), ("Chen", 1)}
+        says = "this takes their swap back: later plans do not keep it\n"
+        self.assertIn(says, self.does("swap", "Grace", "Mon", "Chen"))
+        for words, agreed in (
+            (("Grace", "Mon", "Chen"), tuesday),
+            (("Grace", "Mon", "Chen"), {*tuesday, *self.days}),
+            (("Chen", "Mon", "Grace"), tuesday),
+        ):
+            printed = self.does("swap", *words, "--do")
+            self.assertEqual((says in printed, "later plans keep this swap\n" in printed), (agreed == tuesday, agreed != tuesday))
+            self.assertEqual(self.agreed(), agreed)
+            self.assertEqual(self.cells() == swapped, agreed != tuesday)
+        # After swaps with another nurse theirs gives them other shifts than they had before it.
+        for words in (("Grace", "Mon", "Chen"), ("Grace", "Mon", "Bruno"), ("Bruno", "Mon", "Chen"), ("Grace", "Mon", "Chen")):
+            self.assertIn("later plans keep this swap\n", self.does("swap", *words, "--do"))
+
+    def test_an_older_swap_holds_again(self):
+        # Grace has agreed on Monday with Chen, and then with Bruno.
+        self.does("swap", "Grace", "Mon", "Bruno", "--do")
+        self.assertEqual(self.agreed(), {*self.days, ("Bruno", 0)})
+        self.assertIn("this takes their swap back", self.does("swap", "Grace", "Mon", "Bruno", "--do"))
+        self.assertEqual(self.agreed(), self.days)
+
     def test_a_swap_that_cannot_be_kept_is_named(self):
         printed = self.does("ill", "Chen", "Mon")
         self.assertIn("this breaks an agreed swap: Chen, Mon 30 Nov: ill, agreed was Day Nurse\n", printed)

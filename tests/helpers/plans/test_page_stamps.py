@@ -75,6 +75,32 @@ class Stamps(ServedPage):
             self.assertTrue("week 0 is over" in page and 'class="fault"' not in page)
         self.assertEqual(self.plans(), ["0001", "0002"])
 
+    def test_a_form_that_is_refused_names_what_was_not_written(self):
+        self.write_plan()
+        chen = {"nurse": "Chen", "first": DATES[4], "sure": "yes", "stamp": self.stamp}
+        forms = (
+            ({**chen, "verb": "away", "reason": "ill"}, "the absence of Chen was not written"),
+            ({**chen, "verb": "back"}, "it was not written that Chen is back"),
+            ({**chen, "verb": "swap", "other": "Zoë_O", "write it": "yes"}, "the swap of Chen and Zoë O was not written"),
+            ({**chen, "verb": "plan"}, "a new plan was not written"),
+            ({**chen, "verb": "page"}, "the plan was not published"),
+            ({**chen, "verb": "undo"}, "nothing was taken back"),
+            # This one was sent twice, and the first of the two is written.
+            ({"verb": "over", "corrections": "", "sure": "yes", "stamp": self.stamp}, None),
+            ({**chen, "verb": "over", "corrections": "Chen Fri off"}, "the end of the week was not written"),
+        )
+        with open(self.ward / "plans" / "lock", "w") as lock:
+            fcntl.flock(lock, fcntl.LOCK_EX)
+            self.asks("POST", form=urlencode(forms[-2][0]))
+            for fields, says in forms:
+                self.asks("POST", form=urlencode(fields))
+                refused = re.search('class="fault">([^<]*)</pre>', self.asks()[1])[1].splitlines()
+                self.assertEqual((refused[0][: len(BUSY)], refused[1:]), (BUSY, [says] if says else []))
+            fcntl.flock(lock, fcntl.LOCK_UN)
+        # There is another plan since.
+        page = self.ended()
+        self.assertTrue(SAYS in page and "the end of the week was not written" in page)
+
     def test_a_form_that_another_verb_kept_waiting_can_be_sent_again(self):
         self.write_plan()
         with open(self.ward / "plans" / "lock", "w") as lock:
