@@ -43,7 +43,9 @@ td small { font-size: .82em }
 .roster tbody th, .roster thead tr > :first-child { position: sticky; left: 0; background: #fff; z-index: 1; overflow-wrap: break-word }
 .roster thead tr > :first-child { background: #eee }
 }
-.many .date { font-size: .7em; white-space: normal }
+.many thead tr + tr th + th { font-size: .78em; padding-left: .1em; padding-right: .1em }
+.many .date { font-size: .9em; width: min-content; margin: auto; white-space: normal }
+.many thead .mark { display: block; margin: 0; line-height: .7 }
 .many .away { font-size: .7em; letter-spacing: -.03em }
 .mark { font-weight: bold; margin-left: .25em }
 .changed { border: 2.5px dashed #111 }
@@ -67,7 +69,7 @@ thead { display: table-header-group }
 .many { line-height: 1.15; margin: .2em 0 .4em }
 .many td, .many tbody th { padding-top: .02em; padding-bottom: .02em }
 .roomy td, .roomy tbody th { padding-top: .3em; padding-bottom: .3em }
-tr, caption, li, .coverage, .changes { break-inside: avoid }
+tr, caption, li, .words, .totals, .coverage, .changes { break-inside: avoid }
 caption, h2, summary { break-after: avoid }
 .sheet { break-before: page }
 }
