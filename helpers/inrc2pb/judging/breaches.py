@@ -9,11 +9,23 @@ from .rules import numbers
 Shifts = Dict[Tuple[str, int], List[str]]
 
 
+# What is wrong, for who does not know the names of the rules.
+_PLAIN = {
+    "H1": "two places on a day", "H2": "below the minimum number", "H3": "not allowed on the day after", "H4": "without the skill",
+    "H5": "without a held shift",
+}  # fmt: skip
+
+
 class Breach(NamedTuple):
     """A hard rule that a roster breaks, and the reason."""
 
     rule: str
     reason: str
+
+    @property
+    def plain(self) -> str:
+        """What is wrong, and the reason, without the name of the rule."""
+        return f"{_PLAIN[self.rule]}: {self.reason}"
 
 
 def breaches_by(cell: Cell, shifts: Shifts, scenario: Scenario) -> Iterator[Breach]:

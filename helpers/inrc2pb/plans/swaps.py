@@ -99,7 +99,7 @@ class Swaps:
         for day in sorted({*days, *(day + 1 for day in days)}):
             before, now = shift_on.get(day - 1), shift_on.get(day)
             if before and now and now in plan.scenario.shift_types[before].forbidden_next:
-                yield readable(f"{nurse} may not work {now} on {plan.days.text(day)} after {before} (rule H3)")
+                yield readable(f"{nurse} may not work {now} on {plan.days.text(day)} after {before}")
 
     def _cell_faults(self, cell: Cell) -> Iterator[str]:
         """Why the nurse cannot have this assignment alone."""
@@ -110,4 +110,4 @@ class Swaps:
         elif is_broken_by(self._away[cell.day // WEEK_DAYS], cell._replace(day=cell.day % WEEK_DAYS)):
             yield readable(f"{cell.nurse} never works {cell.shift}")
         if cell.skill not in plan.scenario.nurses[cell.nurse].skills:
-            yield readable(f"{cell.nurse} does not have the skill {cell.skill} (rule H4)")
+            yield readable(f"{cell.nurse} does not have the skill {cell.skill}")

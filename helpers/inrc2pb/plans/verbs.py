@@ -8,7 +8,7 @@ from ..judging.absences import readable
 from ..judging.demand import ABOVE_LIMITS, UNKEPT
 from ..judging.odd_values import IMPOSSIBLE
 from ..programs.program import BROKEN_RULE, NO_ROSTER
-from ..shown.why import breach_lines
+from ..shown.why import plain_breach_lines
 from ..week.faults import FileFault, Misuse, fault_line
 from . import search_verbs, swap_verb, week_end
 from .days_beside import beside_lines
@@ -65,7 +65,7 @@ class Verbs:
         folder = self._store.folder
         warnings = (*other_plan_lines(folder.top, folder.stamp), *plan.sheet.warnings, *self._store.anew(plan), *beside_lines(plan))
         lines = [f"warning: {line}" for line in warnings]
-        lines += breach_lines(plan.view(), "plan") if plan.is_planned and plan.weeks else []
+        lines += plain_breach_lines(plan.view()) if plan.is_planned and plan.weeks else []
         lines += [*([] if lines else ["No mistake found."]), "", *ward_lines(plan)]
         lines += ["", "No plan can keep all of this: do what the warnings at the top say."] * bool(self.status)
         return [readable(line) for line in lines]

@@ -10,7 +10,7 @@ from .page_lists import changes_table, wishes_table
 from .page_tables import Content, RosterTable, coverage_tables, plain, totals_table
 from .roster_text import COLORS, ink_on
 from ..judging.rules import Charge, cost_by_rule
-from .why import breach_lines
+from .why import breach_lines, plain_breach_lines
 
 STYLE = """
 :root { color-scheme: light }
@@ -70,7 +70,7 @@ thead { display: table-header-group }
 .many td, .many tbody th { padding-top: .02em; padding-bottom: .02em }
 .roomy td, .roomy tbody th { padding-top: .3em; padding-bottom: .3em }
 tr, caption, li, .words, .totals, .coverage, .changes { break-inside: avoid }
-caption, h2, summary { break-after: avoid }
+caption, h2, summary, .charges p { break-after: avoid }
 .sheet { break-before: page }
 }
 """
@@ -108,7 +108,8 @@ def _summary(page: Content) -> Iterator[str]:
     named = f"{view.weeks_text}: " if page.monday else ""
     made = f"; as of {page.as_of:%A}, {date_text(page.as_of)} {page.as_of:%Y, %H:%M}" if page.as_of else ""
     yield f"{named}{plural(len(view.nurses), 'nurse')}, {plural(count, 'shift')}{cost}{before}{made}"
-    yield from breach_lines(view)
+    # Only a page with costs explains the rules.
+    yield from plain_breach_lines(view) if page.only_table else breach_lines(view)
     yield from () if page.only_table else page.notes
 
 
@@ -158,7 +159,8 @@ def charges_section(page: Content) -> Markup:
     lines = [element("p", line) for line in view.without_costs()]
     lines += [element("p", f"Nothing is charged to {', '.join(free)}.")] * (bool(free) and view.has_costs)
     lines += [element("p", "; ".join(f"{rule}: {RULES[rule]}" for rule in rules))] * bool(rules)
-    return section(f"Cost: {view.penalty} points" if view.penalty is not None else "Cost", *lines, element("div", *folds, class_="folds"))
+    heading = f"Cost: {view.penalty} points" if view.penalty is not None else "Cost"
+    return section(heading, *lines, element("div", *folds, class_="folds"), class_="charges")
 
 
 def _details(page: Content) -> List[Markup]:

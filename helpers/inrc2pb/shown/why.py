@@ -20,6 +20,12 @@ def breach_lines(view: RosterView, named: str = "roster") -> Iterator[str]:
         yield from (f"{view.prefix(week)}the {named} breaks {breach.rule}: {breach.reason}" for breach in week.breaches)
 
 
+def plain_breach_lines(view: RosterView) -> Iterator[str]:
+    """The same without the names of the rules."""
+    for week in view.weeks:
+        yield from (f"{view.prefix(week)}{breach.plain}" for breach in week.breaches)
+
+
 def why_lines(view: RosterView) -> Iterator[str]:
     """A line for each hard rule that is broken and for each charge, and the sum."""
     yield from breach_lines(view)
