@@ -12,7 +12,7 @@ from ..judging.limits import exceeded, limits_in_words
 from ..week.records import Absence, Cell, Week, WeekData
 
 HELD, REFUSED, AWAY = "*", "!", "#"
-MEANINGS = {HELD: "held", REFUSED: "a request to be off was not granted", AWAY: "on duty while away"}
+MEANINGS = {HELD: "held", REFUSED: "a request to be off was not granted", AWAY: "on duty while away, or on a shift type that she never works"}
 
 
 class ShownCell(NamedTuple):

@@ -157,7 +157,7 @@ class Commands(HelperTest):
         self.assertEqual((status, [line for line in printed.splitlines() if "warning" not in line]), (1, wanted))
         table = run("table", *words, ROSTER)[1]
         self.assertIn(f"above a limit that holds: {says}", table)
-        self.assertIn("# = on duty while away", table)
+        self.assertIn("# = on duty while away, or on a shift type that she never works\n", table)
         self.assertIn(f"above a limit that holds: {says}", run("table", *words, "--why", ROSTER)[1])
         self.assertIn("Dilek: never more than 3 shifts.", run("check", *words, "--tell")[1])
 

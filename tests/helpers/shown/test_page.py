@@ -104,6 +104,9 @@ class Page(PageTest):
             "0 \u22121!1 too few, below the minimum 1\u20131minimum 1, best 1", "3 +11 too many 1\u20132minimum 1, best 2"))  # fmt: skip
         self.assertIn("the roster breaks H2: Mon Day Charge has 0 nurses and needs at least 1", [words(part) for part in page.iter("p")])
         self.assertEqual(list(page.iter("details")), [])
+        # A page without costs does not explain the names of rules.
+        wall = self.page(*WEEK_OPTIONS, "--only-table", roster)
+        self.assertIn("below the minimum number: Mon Day Charge has 0 nurses and needs at least 1", [words(part) for part in wall.iter("p")])
 
     def test_changes(self):
         other = self.changed(ROSTER, "Grace Mon Day Nurse", "Chen Mon Late Nurse")
@@ -228,14 +231,14 @@ class Totals(PageTest):
         given = ("--sce", SCENARIO, "--his", HISTORY, "--week", week, ROSTER)
         printed = run("table", *given)[1]
         self.assertIn("Night Nu#", printed)
-        self.assertIn("\n# = on duty while away\n", printed)
+        self.assertIn("\n# = on duty while away, or on a shift type that she never works\n", printed)
         self.assertRegex(printed, r"(?m)^Grace  Day Nu#  ")
         # An absence is no wish.
         self.assertRegex(printed, r"(?m)^Chen .* 0 2 3  5/17-21  1/2       - ")
         self.assertIn("Night Nurse #", run("table", *given, "--csv")[1])
         self.assertIn("310  S4  Chen, Sat: on Night, while away (31 requests)\n", run("table", *given, "--why")[1])
         rows = {row[0]: row for row in self.caption(self.page(*given), "Shifts")}
-        self.assertEqual((rows["Chen"][6], rows["Amara"][4]), ("Night Nurse#, on duty while away", "away"))
+        self.assertEqual((rows["Chen"][6], rows["Amara"][4]), ("Night Nurse#, on duty while away, or on a shift type that she never works", "away"))
 
 
 class Calendars(PageTest):
