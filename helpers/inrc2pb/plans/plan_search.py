@@ -22,6 +22,7 @@ from ..week.files import history_text, solution_text, week_text
 from ..week.records import DAYS, Cell, Solution, Week, WeekData
 from ..week.writing import write_text
 from .agreed_days import AgreedDay
+from .bound_words import UNKNOWN, bound_words
 from .days_beside_absences import days_off_beside_absences
 from .few_changes import CALL_POINTS, with_few_changes
 from .plan_days import WEEK_DAYS
@@ -45,7 +46,7 @@ class Asked(NamedTuple):
 
 
 class Found(NamedTuple):
-    """The plan that a search has found, the line on its bound, and whether the user stopped the search."""
+    """The plan that a search has found, the line on what a plan costs at least, and whether the user stopped the search."""
 
     plan: WardPlan
     bound: str
@@ -71,7 +72,9 @@ def search_plan(old: WardPlan, asked: Asked, progress: Progress) -> Found:
     cells = [cell._replace(day=cell.day + old.first) for cell in kept[-1]]
     held = [cell._replace(day=WEEK_DAYS * number + cell.day) for number in old.weeks for cell in old.held[number]]
     labelled = with_old_skills(old.scenario, cells, [*old.cells(), *held])
-    return Found(old.with_cells(labelled), search.line(), clock.stopped)
+    # The search may have counted what is no part of the points of a plan.
+    bound = UNKNOWN if asked.few_changes or asked.agreed == MOST else bound_words(search)
+    return Found(old.with_cells(labelled), bound, clock.stopped)
 
 
 def _older_rows(old: WardPlan) -> Dict[str, bytes]:

@@ -201,17 +201,7 @@ class PeriodSearch:
             return "no lower bound"
         only = f" with all {self.bound.only}" if self.bound.only else ""
         bound = f"lower bound {self.bound.points} of the sum{only} ({self.bound.by})"
-        if self.bound_beside is not None and self.bound_beside > self.bound.points:
-            return f"{bound}; {self._line_beside(self.penalty, self.bound_beside)}"
         if self.penalty <= self.bound.points:
             less = "no plan that keeps them costs less" if only else "no plan costs less"
             return f"{bound}: {less}" + (", proved" if self.bound.by != PLAIN else "")
         return f"{bound}: the gap is {self.penalty - self.bound.points}, {gap_share(self.penalty, self.bound.points)}"
-
-    @staticmethod
-    def _line_beside(penalty: int, bound: int) -> str:
-        """The same of the plans that also keep the days beside days away."""
-        kept = f"{bound} if training is work in a row, and no night shift comes before it or leave ({PLAIN})"
-        if penalty <= bound:
-            return f"{kept}: no such plan costs less"
-        return f"{kept}: the gap is {penalty - bound}, {gap_share(penalty, bound)}"

@@ -14,6 +14,7 @@ from inrc2pb.judging.rules import Charge
 from inrc2pb.commands.plan import read_sheet
 from inrc2pb.plans import pages, ward_folder
 from inrc2pb.plans.agreed_days import AgreedDay, agreed_text, read_agreed
+from inrc2pb.plans.bound_words import UNKNOWN, bound_words
 from inrc2pb.plans.days_beside import beside_lines
 from inrc2pb.plans.days_beside_absences import days_off_beside_absences
 from inrc2pb.plans.few_changes import with_few_changes
@@ -26,10 +27,7 @@ from inrc2pb.plans.shift_changes import call_lines, change_lines, shift_changes
 from inrc2pb.plans.ward_plan import read_stored
 from inrc2pb.plans.wish_words import wish_lines
 from inrc2pb.plans.written_absences import WrittenAbsence
-from inrc2pb.programs.clock import Clock
-from inrc2pb.programs.progress import Progress
-from inrc2pb.search.bounds import Bound
-from inrc2pb.search.period_search import PeriodSearch
+from inrc2pb.search.bounds import PLAIN, PROVER, Bound
 from inrc2pb.shown.page import page_text
 from inrc2pb.week.facts import Charged
 from inrc2pb.week.faults import FileFault
@@ -411,7 +409,7 @@ class NotKept(KeptTest):
         self.assertRegex(printed, "(?m)^week 1: no plan was found that keeps every limit: .* has [0-9]+ shifts of at most 2, above on ")
         self.assertRegex(printed, "(?m)^week 1: lower minimum numbers, hold fewer shifts, or allow these nurses more; ")
         self.assertIn("\nthis plan is written, but it does not keep what the first lines say: ", printed)
-        self.assertNotIn("gap", printed)
+        self.assertNotIn("costs less", printed)
 
 
 @unittest.skipUnless(HAS_CBC, "cbc is not installed")
@@ -427,19 +425,24 @@ class Training(KeptTest):
         row = [day in range(5, 8) or ("Grace", day) in self.cells() for day in range(14)]
         self.assertLessEqual(max(len(run) for run in "".join(".x"[is_on] for is_on in row).split(".")), 5)
 
-    def test_the_bound_of_plans_that_count_training(self):
-        search = PeriodSearch(mock.Mock(**{"options.return_value": [], "later.return_value": [], "scenario.name": "ward"}), None, Clock(1), Progress(None))
-        search.penalty, search.bound = 1170, Bound(1080, "inrc2pb-bound", "absences")
-        begin = "lower bound 1080 of the sum with all absences (inrc2pb-bound)"
-        beside = "if training is work in a row, and no night shift comes before it or leave (plain Python, not proved)"
-        for bound, says in (
-            (1170, f"{begin}; 1170 {beside}: no such plan costs less"),
-            (1100, f"{begin}; 1100 {beside}: the gap is 70, 6.0 %"),
-            (1080, f"{begin}: the gap is 90, 7.7 %"),
-            (None, f"{begin}: the gap is 90, 7.7 %"),
+    def test_the_bound_in_words(self):
+        search = mock.Mock(penalty=1170)
+        kept, ends = "no plan that keeps all absences and limits", "this one costs 1170: more seconds may help"
+        beside = f"{kept}, with training as work in a row and no night shift before it or leave,"
+        for points, by, above, says in (
+            (1080, PROVER, None, f"{kept} costs less than 1080 points (proved by inrc2pb-bound); {ends}"),
+            (1080, PROVER, 1080, f"{kept} costs less than 1080 points (proved by inrc2pb-bound); {ends}"),
+            (1080, PLAIN, None, f"{kept} costs less than 1080 points (not proved); {ends}"),
+            (1170, PROVER, None, f"{kept} costs less than this one (proved by inrc2pb-bound)"),
+            (1080, PROVER, 1100, f"{beside} costs less than 1100 points (not proved); {ends}"),
+            (1080, PROVER, 1170, f"{beside} costs less than this one (not proved)"),
         ):
-            search.bound_beside = bound
-            self.assertEqual(search.line(), says)
+            search.bound, search.bound_beside = Bound(points, by, "absences and limits"), above
+            self.assertEqual(bound_words(search), says)
+        search.bound, search.bound_beside = Bound(1170, PROVER), None
+        self.assertEqual(bound_words(search), "no plan costs less than this one (proved by inrc2pb-bound)")
+        search.bound = None
+        self.assertEqual(bound_words(search), UNKNOWN)
 
     def test_what_no_plan_can_keep_is_told(self):
         # Only Dilek works nights, one is needed on Monday, and she has training on Tuesday.
