@@ -8,7 +8,7 @@ from ..sheets.plan_sheets import AWAY
 from ..week.faults import Misuse
 from ..week.hints import quoted
 from .plan_days import WEEK_DAYS
-from .search_verbs import WEEK_SECONDS
+from .search_verbs import CHANGE_SECONDS, WEEK_SECONDS
 from .verbs import Verbs
 from .ward_plan import WardPlan
 
@@ -36,8 +36,8 @@ class Form(NamedTuple):
 FORMS = (
     Form("check", "", "Read the spreadsheet", "names its mistakes, and prints the ward in sentences; writes nothing", (), False, ""),
     Form("plan", "Plan", "Plan", "the weeks that are not over", ("from", "seconds", "free"), False),
-    Form("away", "A nurse is away", "Write an absence", _AWAY_TEXT, ("nurse", "first", "last", "reason")),
-    Form("back", "A nurse is back", "Back", "from a day on, with few changes", ("nurse", "first")),
+    Form("away", "A nurse is away", "Write an absence", _AWAY_TEXT, ("nurse", "first", "last", "reason", "seconds")),
+    Form("back", "A nurse is back", "Back", "from a day on, with few changes", ("nurse", "first", "seconds")),
     Form("swap", "Two nurses swap", "Look", "what it costs, and who else could swap", ("nurse", "first", "other", "other day", "write it")),
     Form("over", "The week is over", "End the week", "as it was planned, or with corrections such as Chen Fri off", ("corrections",)),
     Form("page", "", "Publish", "the plan; from now on plans change little", (), True, "the page for the wall and the calendars"),
@@ -78,8 +78,8 @@ def verb_of(fields: Fields, seconds: Optional[float] = None) -> Callable[[Verbs]
     found: Dict[str, Callable[[Verbs], List[str]]] = {
         "check": lambda verbs: verbs.check(),
         "plan": lambda verbs: verbs.plan(words, _seconds(fields) or seconds, "free" in fields),
-        "away": lambda verbs: verbs.away(_reason(fields), words, seconds),
-        "back": lambda verbs: verbs.back(words, seconds),
+        "away": lambda verbs: verbs.away(_reason(fields), words, _seconds(fields) or seconds),
+        "back": lambda verbs: verbs.back(words, _seconds(fields) or seconds),
         "swap": lambda verbs: verbs.swap(words, "write it" in fields),
         "over": lambda verbs: verbs.over(fields.get("corrections", "").split()),
         "page": lambda verbs: verbs.page(),
@@ -110,7 +110,8 @@ def form_markup(
     """A form of the page, with the stamp of the plan, these values in its fields, and this time of a search. With the choice `-` a field is
     left out. One without fields needs no plan."""
     hidden = [element("input", type="hidden", name=STAMP, value=stamp)] * bool(form.writes)
-    fields = [_field(name, plan, kept.get(name, ""), seconds) for name in form.fields if plan]
+    usual = seconds or (WEEK_SECONDS * len(plan.weeks) if plan and form.verb == "plan" else CHANGE_SECONDS)
+    fields = [_field(name, plan, kept.get(name, ""), usual) for name in form.fields if plan]
     button = element("button", form.button, name="verb", value=form.verb)
     text = f"{form.text}; writes {form.writes}" if form.writes else form.text
     text = f"{form.text}; writes nothing, but with 'write it' {_NEW_PLAN}" if form.verb == "swap" else text
@@ -123,19 +124,29 @@ def form_markup(
 def sure_markup(fields: Fields, plan: Optional[WardPlan], address: str, lines: Sequence[str] = ()) -> Markup:
     """The question before a verb writes, with these lines. Without a plan, which the spreadsheet may not give now, it is undo."""
     form = next(form for form in FORMS if form.verb == fields["verb"])
-    named = [plan.days.span([plan.first, plan.first + WEEK_DAYS - 1])] if plan and form.verb == "over" else []
-    known = [(name, value) for name, value in fields.items() if name not in ("verb", STAMP) and value]
-    named += [readable(f"{_LABELS.get(name, name)} {_shown(plan, value) if plan else value}") for name, value in known]
-    given = ", ".join(named)
     hidden = [element("input", type="hidden", name=name, value=value) for name, value in {**fields, SURE: "yes"}.items()]
     yes = element("button", "Yes, write it", autofocus="")
     return element(
         "section",
-        element("h2", f"{form.heading or form.button}{f': {given}' if given else ''}?"),
+        element("h2", f"{_question(form, fields, plan)}?"),
         *[element("pre", "\n".join(lines))] * bool(lines),
         element("p", f"This writes {form.writes}." + " Undo takes it back." * (form.verb != "undo")),
         element("form", *hidden, yes, " ", element("a", "No", href=address), method="post", action=address),
     )
+
+
+def _question(form: Form, fields: Fields, plan: Optional[WardPlan]) -> str:
+    """What the page asks: the heading of the form, and its fields."""
+    if plan and form.verb == "swap":
+        first, other = _shown(plan, fields["first"]), _shown(plan, fields.get("other day", ""))
+        days = f"{first} and {other}" if other not in ("", first) else first
+        return readable(f"Write this swap: {fields['nurse']} and {fields.get('other', '')}, {days}")
+    named = [plan.days.span([plan.first, plan.first + WEEK_DAYS - 1])] if plan and form.verb == "over" else []
+    for name, value in fields.items():
+        if value and name not in ("verb", STAMP):
+            label, text = _LABELS.get(name, name), _shown(plan, value) if plan else value
+            named.append(readable(label if name in _CHECKS else f"{label} {text}"))
+    return f"{form.heading or form.button}{': ' * bool(named)}{', '.join(named)}"
 
 
 def _shown(plan: WardPlan, value: str) -> str:
@@ -150,13 +161,13 @@ def swap_markup(words: Mapping[str, str], text: str, address: str) -> Markup:
     return element("form", *hidden, element("button", text, name="verb", value="swap"), method="post", action=address)
 
 
-def _field(name: str, plan: WardPlan, kept: str, seconds: Optional[float]) -> Markup:
+def _field(name: str, plan: WardPlan, kept: str, seconds: float) -> Markup:
     label = f"{_LABELS.get(name, name)} "
     if name in _CHECKS:
         return joined(element("label", element("input", type="checkbox", name=name, value="yes"), label), " ")
     if name in ("seconds", "corrections"):
         kind = {"type": "number", "min": "1", "max": f"{_MOST_SECONDS:.0f}"} if name == "seconds" else {"type": "text"}
-        kind["placeholder"] = f"{seconds or WEEK_SECONDS * len(plan.weeks):g}" if name == "seconds" else ""
+        kind["placeholder"] = f"{seconds:g}" if name == "seconds" else ""
         return joined(element("label", label, element("input", name=name, value=kept or None, **kind)), " ")
     if name == "reason":
         choices: Sequence[Tuple[str, str]] = [(word, word) for word in ("ill", *(word for word in AWAY if word != "ill"))]

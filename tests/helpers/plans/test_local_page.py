@@ -9,7 +9,7 @@ from unittest import mock
 from urllib.parse import urlencode
 
 from served_page import ServedPage
-from test_plans import DATES
+from test_plans import DATED, DATES
 from ward import HAS_CBC, run
 
 from inrc2pb.plans.local_forms import verb_of
@@ -117,6 +117,8 @@ class Page(ServedPage):
         says = run("plan", self.ward, "swap", *fields.values())[1].split("nothing is written")[0].splitlines()
         page = html.unescape(self.asks("POST", form=urlencode({"verb": "swap", **fields, "write it": "yes"}))[1])
         self.assertIn("Yes, write it", page)
+        days = [DATED.text(DATED.number(day, 0)) for day in (DATES[day], *([words[1]] if words else []))]
+        self.assertIn(f"<h2>Write this swap: {nurse} and {other}, {' and '.join(days)}?</h2>", page)
         self.assertIn(f"<pre>{chr(10).join(says)}</pre>", page)
         self.assertTrue(any(" to call: " in line for line in says))
         self.assertEqual([path.name[:4] for path in (self.ward / "plans").glob("0*")], ["0001"])
@@ -146,14 +148,20 @@ class Page(ServedPage):
         for seconds, fields in ((7.0, {"verb": "plan"}), (3.0, {"verb": "plan", "seconds": "3"})):
             verb_of(fields, self.jobs.seconds)(verbs)
             verbs.plan.assert_called_with([], seconds, False)
-        verb_of({"verb": "back", "nurse": "Chen"}, self.jobs.seconds)(verbs)
-        verbs.back.assert_called_with(["Chen"], 7.0)
+        for seconds, fields in ((7.0, {}), (3.0, {"seconds": "3"})):
+            verb_of({"verb": "back", "nurse": "Chen", **fields}, self.jobs.seconds)(verbs)
+            verbs.back.assert_called_with(["Chen"], seconds)
+            verb_of({"verb": "away", "reason": "ill", "nurse": "Chen", **fields}, self.jobs.seconds)(verbs)
+            verbs.away.assert_called_with("ill", ["Chen"], seconds)
+        self.write_plan()
+        self.assertEqual(self.asks()[1].count('name="seconds"'), 3)
 
     def test_a_verb_that_writes_asks_first(self):
         self.write_plan()
         for fields, asks in (
             ("verb=undo", "<h2>Undo?</h2>"),
             ("verb=page", "<h2>Publish?</h2>"),
+            ("verb=plan&seconds=5&free=yes", "<h2>Plan: seconds 5, all shifts may change?</h2>"),
             ("verb=over&corrections=", "<h2>The week is over: Mon 30 Nov to Sun 6 Dec?</h2>"),
             ("verb=away&nurse=Chen&first=2026-12-04&last=&reason=ill", "<h2>A nurse is away: nurse Chen, day Fri 4 Dec, reason ill?</h2>"),
         ):
