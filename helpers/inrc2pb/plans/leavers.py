@@ -25,11 +25,11 @@ def leaving_days(reasons: Reasons, total: int) -> Dict[str, int]:
 
 def with_shifts_of_the_ill(
     claims: Sequence[Claim], scenario: Scenario, history: History, rosters: Mapping[int, Sequence[Cell]], reasons: Reasons,
-    credit: Mapping[str, int],
+    credit: Mapping[str, int], end: int,
 ) -> Iterator[Claim]:
-    """The claims, with limits that the shifts of a plan do not exceed since days away count as shifts, which `credit` has. The history is
-    that before the first week of the plan."""
-    planned = _planned(rosters, reasons)
+    """The claims, with limits that the shifts of a plan before day `end` do not exceed since days away count as shifts, which `credit`
+    has. The history is that before the first week of the plan."""
+    planned = [(nurse, day) for nurse, day in _planned(rosters, reasons) if day < end]
     for claim in claims:
         yield _with_more(claim, scenario, history, planned, credit)
 

@@ -12,7 +12,7 @@ from ..shown.page_tables import Content
 from ..week.dates import DAY, date_text
 from ..week.writing import file_at, write_text
 from .days_beside import beside_lines
-from .not_kept import not_kept_lines
+from .not_kept import days_away_lines, not_kept_lines
 from .plan_days import WEEK_DAYS, PlanDays
 from .ward_plan import WardPlan
 
@@ -125,7 +125,7 @@ def roster_content(plan: WardPlan, old: Optional[WardPlan] = None) -> Content:
     monday = None if plan.days.monday is None else plan.days.monday + plan.first * DAY
     before = old.view() if old and old.is_planned else None
     holidays = {day - plan.first for day in plan.sheet.holidays if day >= plan.first}
-    notes = (*not_kept_lines(plan), *beside_lines(plan))
+    notes = (*not_kept_lines(plan), *days_away_lines(plan), *beside_lines(plan))
     swapped = {(one.day // WEEK_DAYS - plan.open_week, one.nurse, one.day % WEEK_DAYS) for one in plan.agreed}
     now = datetime.datetime.now()
     return Content(plan.view(), before, monday, plan.sheet.times, holidays=holidays, as_of=now, notes=notes, swapped=swapped)

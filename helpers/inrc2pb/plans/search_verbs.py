@@ -1,6 +1,5 @@
 """The verbs that search for a plan: plan, the reasons to be away, and back."""
 
-from dataclasses import replace
 import re
 from typing import Iterator, List, Optional, Sequence
 
@@ -16,7 +15,7 @@ from .few_changes import BESIDE_POINTS, CALL_POINTS, POINTS
 from .leave_words import leave_lines
 from .lifted_absences import lifted_absence, stays_away_lines
 from .needless_changes import without_needless_changes
-from .not_kept import not_kept_lines
+from .not_kept import days_away_lines, not_kept_lines
 from .plan_days import WEEK_DAYS
 from .plan_search import MOST, NONE, Asked, Found, search_plan, why_no_plan
 from .plan_store import PlanStore, cost_lines, wording_of
@@ -44,7 +43,7 @@ def plan(store: PlanStore, words: Sequence[str], seconds: Optional[float], free:
         store.means.say(f"warning: {readable(warning)}")
     few = old.published and old.is_planned and not free
     asked = Asked(first, few, seconds or WEEK_SECONDS * len(old.weeks))
-    return _search(store, "plan", old, asked._replace(agreed=NONE) if free else asked)
+    return _search(store, "plan", old.firm(first), asked._replace(agreed=NONE) if free else asked)
 
 
 def away(store: PlanStore, word: str, words: Sequence[str], seconds: Optional[float]) -> List[str]:
@@ -116,7 +115,7 @@ def _search(store: PlanStore, verb: str, old: WardPlan, asked: Asked, older: Opt
         if asked.few_changes and old.is_planned:
             found = found._replace(plan=without_needless_changes(old, found.plan))
         works, before = found.plan.works, old.works
-        new = replace(found.plan, agreed=tuple(one for one in old.agreed if works.get(one) == before.get(one)))
+        new = found.plan.with_agreed(tuple(one for one in old.agreed if works.get(one) == before.get(one)))
         lines = _result(store, old, found._replace(plan=new), asked, (older or old).away)
         return [*lines, *store.save(verb, new, (older or old) if old.is_planned else None)]
 
@@ -145,6 +144,7 @@ def _result(store: PlanStore, old: WardPlan, found: Found, asked: Asked, away: A
     is_kept = not lines
     is_older = len(lines) > len(not_kept_lines(new.allowing(asked.first)))
     lines += [f"shifts before {new.days.text(asked.first)} stay: plan from an earlier day can take some of them away"] * is_older
+    lines += days_away_lines(new)
     changes = shift_changes(before.cells(), new.cells()) if before else []
     if before and (before.published or few_changes):
         called = call_lines(changes, new.away) or ["no nurse has to be called"]

@@ -10,6 +10,7 @@ from ..week.faults import FileFault, Misuse
 from ..week.records import Cell
 from .agreed_days import AgreedDay
 from .days_beside import beside_lines
+from .not_kept import exceeded_lines
 from .plan_days import WEEK_DAYS
 from .plan_store import PlanStore, cost_lines, known_record, wording_of
 from .shift_changes import call_lines, change_lines, shift_changes
@@ -65,7 +66,7 @@ def _swap(store: PlanStore, old: WardPlan, asked: Swap, do: bool) -> List[str]:
     others = [one for one in old.agreed if one not in agreed]
     kept = [*others, *(one for one in before.agreed if one in agreed)] if before else [*old.agreed, *agreed]
     new = replace(new, agreed=tuple(dict.fromkeys(kept)))
-    return [*lines, *[_KEPT] * (not before), *store.save(_named(old, asked), new, old)]
+    return [*lines, *exceeded_lines(new), *[_KEPT] * (not before), *store.save(_named(old, asked), new, old)]
 
 
 def _lines(old: WardPlan, new: WardPlan) -> List[str]:

@@ -12,6 +12,7 @@ from ..shown.why import plain_breach_lines
 from ..week.faults import FileFault, Misuse, fault_line
 from . import search_verbs, swap_verb, week_end
 from .days_beside import beside_lines
+from .not_kept import exceeded_lines
 from .pages import other_plan_lines
 from .plan_store import Means, PlanStore, fitted, known_record
 from .ward_folder import WardFolder
@@ -63,8 +64,8 @@ class Verbs:
         plan = self.current()
         self._store.status = _status_of(plan.sheet.warnings)
         folder = self._store.folder
-        warnings = (*other_plan_lines(folder.top, folder.stamp), *plan.sheet.warnings, *self._store.anew(plan), *beside_lines(plan))
-        lines = [f"warning: {line}" for line in warnings]
+        warnings = [*other_plan_lines(folder.top, folder.stamp), *plan.sheet.warnings, *self._store.anew(plan)]
+        lines = [f"warning: {line}" for line in (*warnings, *exceeded_lines(plan), *beside_lines(plan))]
         lines += plain_breach_lines(plan.view()) if plan.is_planned and plan.weeks else []
         lines += [*([] if lines else ["No mistake found."]), "", *ward_lines(plan)]
         lines += ["", "No plan can keep all of this: do what the warnings at the top say."] * bool(self.status)
@@ -72,7 +73,8 @@ class Verbs:
 
     def page(self) -> List[str]:
         """Writes all pages and calendars. From now on the plan hangs on the wall."""
-        return self._store.save("page", replace(self._store.fitting(), published=True))
+        plan = replace(self._store.fitting(), published=True)
+        return [*exceeded_lines(plan), *self._store.save("page", plan)]
 
     def undo(self) -> List[str]:
         """The plan before the last verb holds again."""
@@ -85,7 +87,8 @@ class Verbs:
         lines = [f"undone: {undone}; there is no plan any more"] if last is None else [f"undone: {undone}"]
         lines += [f"the plan of {_made(last)} holds again{', with the same shifts' * undone.startswith('page, ')}"] if last else []
         try:
-            return [*lines, *self._store.pages(fitted(self.current()))]
+            plan = fitted(self.current())
+            return [*lines, *exceeded_lines(plan), *self._store.pages(plan)]
         except (FileFault, Misuse, OSError) as fault:
             gone = self._store.pages_undone(known_record(path))
             cure = f"its pages are not written: {fault_line(fault)}"

@@ -5,7 +5,7 @@ from functools import cached_property
 from pathlib import Path
 from typing import Dict, FrozenSet, Iterable, List, Mapping, NamedTuple, Optional, Sequence, Tuple
 
-from ..judging.absences import absences_of, readable
+from ..judging.absences import absences_of
 from ..judging.days_away import DaysAway
 from ..judging.given import read_given, with_given
 from ..judging.leave import credited
@@ -14,8 +14,6 @@ from ..programs.program import WeekFiles, penalty_of
 from ..shown.roster_view import RosterView, WeekView
 from ..week.dates import Times
 from ..week.facts import Claim
-from ..week.faults import Misuse
-from ..week.hints import plural
 from ..week.files import history_text, read_history, read_scenario, read_solution, read_week, solution_text, write_solution
 from ..week.reasons import Reasons, read_reasons
 from ..week.records import Cell, History, Scenario, Solution, Week, WeekData
@@ -24,8 +22,9 @@ from . import record
 from .agreed_days import NAME as AGREED, AgreedDay, agreed_text, read_agreed
 from .free_days import days_away_of
 from .leavers import leaving_days, with_shifts_of_the_ill, with_shifts_until_leaving
-from .plan_days import PERIOD_IS_OVER, WEEK_DAYS, PeriodOver, PlanDays
+from .plan_days import WEEK_DAYS, PlanDays
 from .record import Record, read_record
+from .same_ward import check_days, check_names
 from .week_rows import WeekRow
 from .written_absences import WrittenAbsence, read_written, written_text
 from .written_absences import NAME as ABSENCES
@@ -33,7 +32,7 @@ from .written_absences import NAME as ABSENCES
 START, FACTS, REASONS = "start.txt", "facts.txt", "reasons.txt"
 ALWAYS_OFF = "off"
 # The properties of a plan that do not depend on its rosters.
-_OF_SHEET = ("scenario", "claims", "data", "held", "away", "days_away")
+_OF_SHEET = ("scenario", "sheet_claims", "claims", "data", "held", "away", "days_away")
 Cells = Tuple[Cell, ...]
 
 
@@ -117,10 +116,18 @@ class WardPlan:
         return read_scenario("ward.txt", self.sheet.texts["ward.txt"])
 
     @cached_property
+    def sheet_claims(self) -> Tuple[Claim, ...]:
+        """The absences and the limits that hold, as facts, by the spreadsheet."""
+        return read_given(FACTS, self.scenario, self.sheet.texts[FACTS])
+
+    @cached_property
     def claims(self) -> Tuple[Claim, ...]:
-        """The absences and the limits that hold, as facts."""
-        claims = read_given(FACTS, self.scenario, self.sheet.texts[FACTS])
-        return tuple(with_shifts_of_the_ill(claims, self.scenario, self.histories[0], self.rosters, self._reasons, self.sheet.credit))
+        """The same. For days away no limit takes shifts of other days away."""
+        return self._claims(self.days.total)
+
+    def _claims(self, end: int) -> Tuple[Claim, ...]:
+        past, credit = self.histories[0], self.sheet.credit
+        return tuple(with_shifts_of_the_ill(self.sheet_claims, self.scenario, past, self.rosters, self._reasons, credit, end))
 
     @cached_property
     def _reasons(self) -> Reasons:
@@ -183,13 +190,24 @@ class WardPlan:
         """The assignments of the weeks that are not over, with the days of the plan."""
         return [cell._replace(day=WEEK_DAYS * number + cell.day) for number in self.weeks for cell in self.rosters.get(number, ())]
 
+    def shifts_of(self, nurse: str) -> int:
+        """The shifts of a nurse in the period, with those as which days away count."""
+        return self.histories[self.open_week].nurses[nurse].assignments + sum(who == nurse for who, _ in self.works)
+
     def with_cells(self, cells: Iterable[Cell]) -> "WardPlan":
         """The same with these assignments in the weeks that are not over."""
         found: Dict[int, List[Cell]] = {number: [] for number in self.weeks}
         for cell in cells:
             found[cell.day // WEEK_DAYS].append(cell._replace(day=cell.day % WEEK_DAYS))
         ordered = {number: tuple(sorted(of_week, key=self._order)) for number, of_week in found.items()}
-        new = replace(self, rosters={**self.rosters, **ordered})
+        return self._alike(replace(self, rosters={**self.rosters, **ordered}))
+
+    def with_agreed(self, agreed: Tuple[AgreedDay, ...]) -> "WardPlan":
+        """The same with these agreed days."""
+        return self._alike(replace(self, agreed=agreed))
+
+    def _alike(self, new: "WardPlan") -> "WardPlan":
+        """A plan of the same spreadsheet, with its limits."""
         new.__dict__.update({name: value for name, value in self.__dict__.items() if name in _OF_SHEET})
         return new
 
@@ -198,6 +216,12 @@ class WardPlan:
         new, leaving = replace(self), leaving_days(self._reasons, self.days.total)
         claims = with_shifts_until_leaving(self.claims, self.scenario, self.histories[0], self.rosters, self._reasons, leaving, first)
         new.__dict__["claims"] = tuple(claims)
+        return new
+
+    def firm(self, first: int) -> "WardPlan":
+        """The same for a search that takes shifts from this day on away from nurses who have too many with their days away."""
+        new = replace(self)
+        new.__dict__["claims"] = self._claims(first)
         return new
 
     def _order(self, cell: Cell) -> Tuple[int, int]:
@@ -257,9 +281,9 @@ def continued(stored: Stored, sheet: Sheet) -> WardPlan:
     """The plan of a folder, with what its spreadsheet says now."""
     plan = first_plan(sheet, stored.start)
     before = stored.record
-    _check_days(sheet.days, before.days)
+    check_days(sheet.days, before.days)
     for number in range(before.open_week):
-        _check_names(plan.scenario, number, stored.rosters.get(number, ()))
+        check_names(plan.scenario, number, stored.rosters.get(number, ()))
     open_cells = [(number, cell) for number, cells in stored.rosters.items() if number >= before.open_week for cell in cells]
     unknown = tuple(cell for _, cell in open_cells if not _is_known(plan.scenario, cell))
     rosters = {number: tuple(cell for cell in cells if cell not in unknown) for number, cells in stored.rosters.items()}
@@ -267,31 +291,6 @@ def continued(stored: Stored, sheet: Sheet) -> WardPlan:
     agreed = tuple(one for one in stored.agreed if one.nurse in plan.scenario.nurses and first <= one.day < sheet.days.total)
     begun = replace(plan, open_week=before.open_week, written=stored.written, published=before.published)
     return replace(begun, rosters=rosters, unknown=unknown, agreed=agreed)
-
-
-def _check_days(now: PlanDays, before: PlanDays) -> None:
-    """The spreadsheet has the days of the plan. At the beginning of a period its number of weeks is free."""
-    if now.monday == before.monday and before.weeks in (0, now.weeks):
-        return
-    begin = "" if before.monday is None else f" from {before.monday} on"
-    if not before.weeks:
-        raise PeriodOver(f"a {PERIOD_IS_OVER}: write the days of the next one{begin} into the sheet plan, with its wishes and absences")
-    raise Misuse(
-        f"the plan has {plural(before.weeks, 'week')}{begin}, and the sheet plan has other days: write these, or plan in another folder"
-    )
-
-
-def _check_names(scenario: Scenario, number: int, cells: Cells) -> None:
-    """Who worked in a week that is over is in the ward."""
-    for cell in cells:
-        if cell.nurse not in scenario.nurses:
-            nurse = readable(cell.nurse)
-            cure = "write it again, with away in the plan from her last day on"
-            raise Misuse(f"{nurse} worked in week {number}, and has no row in the sheet nurses: {cure}")
-        if cell.shift not in scenario.shift_types or cell.skill not in scenario.skills:
-            raise Misuse(
-                f"'{cell.row()}' was worked in week {number}, and the spreadsheet has no such shift type or skill: keep its old name"
-            )
 
 
 def _is_known(scenario: Scenario, cell: Cell) -> bool:

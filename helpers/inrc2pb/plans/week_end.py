@@ -11,6 +11,7 @@ from ..judging.next_history import next_history
 from ..sheets.plan_sheets import AWAY
 from ..week.faults import Misuse
 from ..week.records import DAYS, Cell, Place
+from .not_kept import days_away_lines
 from .plan_days import PERIOD_IS_OVER, WEEK_DAYS, PlanDays
 from .plan_store import PlanStore, wording_of
 from .shift_changes import OFF, change_lines, shift_changes
@@ -76,7 +77,7 @@ def _next_week(store: PlanStore, old: WardPlan, worked: WardPlan) -> List[str]:
     known = [line for number in new.weeks for line in _broken_in(old, number)]
     after = f"after these corrections the plan does not fit any more: plan again, from {new.days.text(new.first)} on"
     lines += [*broken, *[after] * any(line not in known for line in broken)]
-    return [*lines, *store.save(f"over {number}", new)]
+    return [*lines, *days_away_lines(new), *store.save(f"over {number}", new)]
 
 
 def _broken_in(plan: WardPlan, number: int) -> List[str]:

@@ -1,0 +1,168 @@
+"""Tests of maxima of shifts that hold, and that days away make a plan exceed: who is named, what helps, and what a plan takes away."""
+
+import unittest
+from dataclasses import replace
+
+from test_kept_plans import KeptTest
+from ward import HAS_CBC, run
+
+from inrc2pb.commands.plan import read_sheet
+from inrc2pb.plans.not_kept import days_away_lines, exceeded_lines, not_kept_lines
+from inrc2pb.plans.swaps import Swaps
+from inrc2pb.plans.ward_plan import continued, read_stored
+
+# In the stored plan each nurse with a full contract has ten shifts in 14 days, and Grace hers from Monday to Friday.
+HOLDS = "in the period, and this limit holds"
+NEEDS = "if the needs allow it; or allow her more"
+# Two days of 14 count as 8 * 2 / 14 shifts, rounded up to 2.
+TWELVE = f"Grace has 12 shifts, 2 of them for days away, of at most 10 {HOLDS}"
+# Her last two shifts are on Thursday and Friday.
+TAKES_TWO = f"plan from Thu 10 Dec on, or from an earlier day, takes 2 away {NEEDS}"
+
+
+class ExceededTest(KeptTest):
+    """A ward in which full contracts have at least 8 and never more than 10 shifts."""
+
+    def setUp(self):
+        super().setUp()
+        self.limits("8", "10!")
+
+    def limits(self, *limits):
+        """Full contracts have these limits of shifts."""
+        self.rows["contracts"][1][1:3] = limits
+        self.write()
+
+    def days(self, *words):
+        """The days of Grace in the spreadsheet."""
+        self.rows["plan"][7][1:] = [*words, *[""] * (14 - len(words))]
+        self.write()
+
+    def read(self, cells=None):
+        """The stored plan, or one with these cells, with what the spreadsheet says now."""
+        return replace(self.plan if cells is None else self.plan.with_cells(cells), sheet=read_sheet(self.ward, None, ()))
+
+
+class Lines(ExceededTest):
+    def test_days_away_that_exceed_a_limit(self):
+        for word in ("ill", "leave", "training"):
+            self.days(*[""] * 5, word, word)
+            self.assertEqual(list(days_away_lines(self.read())), [f"{TWELVE}: {TAKES_TWO}"], word)
+            self.assertEqual(list(exceeded_lines(self.read())), [f"{TWELVE}: {TAKES_TWO}"], word)
+            self.assertEqual([line for line in not_kept_lines(self.read()) if "Grace" in line], [], word)
+
+    def test_days_away_within_a_limit(self):
+        # A maximum without `!` may be exceeded, and 12 of 12 are not too many.
+        self.days(*[""] * 5, "ill", "ill")
+        for most in ("10", "12!"):
+            self.limits("8", most)
+            self.assertEqual(list(exceeded_lines(self.read())), [], most)
+
+    def test_shifts_that_no_plan_takes_away(self):
+        # Grace worked five shifts in week 0, and has none in week 1. Two days count as 4 * 2 / 14 shifts, rounded up to 1.
+        self.limits("4", "5!")
+        self.days(*[""] * 5, "ill", "ill")
+        cells = [cell for cell in self.plan.cells() if cell.nurse != "Grace" or cell.day < 7]
+        says = f"Grace has 6 shifts, 1 of them for days away, of at most 5 {HOLDS}"
+        over = "no plan takes so many away, since the others were worked or are held: allow her more"
+        earlier = f"plan from Fri 4 Dec on, or from an earlier day, takes 1 away {NEEDS}"
+        for first, cure in ((0, earlier), (1, over)):
+            plan = replace(self.read(cells), open_week=first)
+            self.assertEqual(list(days_away_lines(plan)), [f"{says}: {cure}"], first)
+        # The spreadsheet holds her shifts.
+        own = [cell for cell in cells if cell.nurse == "Grace"]
+        self.days(*[f"{cell.shift}/{cell.skill}" for cell in sorted(own, key=lambda cell: cell.day)], "ill", "ill")
+        self.assertEqual(list(days_away_lines(self.read(cells))), [f"{says}: {over}"])
+
+    def test_who_leaves_after_training(self):
+        # She is there on 7 of 14 days, so her ten shifts at most become five; her training counts as 7 * 2 / 14 shifts, or as one.
+        self.limits("7", "10!")
+        self.days(*[""] * 5, "training", "training", *["away"] * 7)
+        cells = [cell for cell in self.plan.cells() if cell.nurse != "Grace" or cell.day < 7]
+        says = f"Grace has 6 shifts, 1 of them for days away, of at most 5 {HOLDS}"
+        cure = f"plan from Fri 4 Dec on, or from an earlier day, takes 1 away {NEEDS}"
+        self.assertEqual(list(days_away_lines(self.read(cells))), [f"{says}: {cure}"])
+
+    def test_a_limit_that_was_lowered(self):
+        # Nobody is away, so a search never left it so; Ewa and Finn have other contracts.
+        self.limits("8", "9!")
+        lines = list(exceeded_lines(self.read()))
+        self.assertEqual([line.split(" ")[0] for line in lines], ["Amara", "Bruno", "Chen", "Dilek", "Grace"])
+        cure = f"plan from Fri 11 Dec on, or from an earlier day, takes 1 away {NEEDS}"
+        self.assertIn(f"Grace has 10 shifts of at most 9 {HOLDS}: {cure}", lines)
+        self.assertEqual(list(days_away_lines(self.read())), [])
+
+    def test_other_limits_that_a_plan_exceeds(self):
+        self.limits("0", "")
+        self.rows["contracts"][1][4] = "4!"
+        self.write()
+        says = [line for line in exceeded_lines(self.read()) if "Grace" in line]
+        rows = ((0, "Mon 30 Nov to Fri 4 Dec"), (1, "Mon 7 Dec to Fri 11 Dec"))
+        run_of = "week {} exceeds a limit that holds: Grace has 5 days of work in a row, {}, of at most 4: plan again, or allow her more"
+        self.assertEqual(says, [run_of.format(*row) for row in rows])
+
+    def test_what_a_search_keeps(self):
+        # A plan from a day on takes her shifts from this day on away: two of five, and none if eight are before it.
+        self.days(*[""] * 5, "ill", "ill")
+        for first, kept in ((0, 0), (7, 0), (10, 0), (11, 1), (12, 2)):
+            firm = self.read().firm(first)
+            limits = {fact.nurse: fact.most for fact, _ in firm.claims if getattr(fact, "kind", "") == "SHIFTS"}
+            self.assertEqual(limits["Grace"], kept, first)
+            named = any("Grace has 12 shifts of at most 10" in line for line in not_kept_lines(firm))
+            self.assertEqual((named, bool(list(days_away_lines(firm)))), (kept < 2, kept == 2), first)
+
+
+@unittest.skipUnless(HAS_CBC, "cbc is not installed")
+class Verbs(ExceededTest):
+    def named(self, *words):
+        """The lines that the verb prints on maxima of shifts."""
+        _, printed, _ = run("plan", self.ward, *words)
+        return [line for line in printed.splitlines() if HOLDS in line]
+
+    def page_has(self, line):
+        """Whether the page with costs has the line; that for the wall has none."""
+        wall = self.ward / "wall.html"
+        self.assertFalse(wall.exists() and HOLDS in wall.read_text())
+        return line in (self.ward / "roster.html").read_text()
+
+    def test_an_illness_is_named_by_each_verb_until_a_plan_takes_shifts_away(self):
+        self.does("page")
+        line = f"{TWELVE}: {TAKES_TWO}"
+        self.assertEqual(self.named("ill", "Grace", "Sat", "Sun", "--time", "5"), [line])
+        self.assertEqual(sum(nurse == "Grace" for nurse, _ in self.cells()), 10)
+        self.assertTrue(self.page_has(line))
+        self.assertEqual(self.named("check"), [f"warning: {line}"])
+        self.assertEqual(self.named("page"), [line])
+        self.assertEqual(self.named("undo"), [line])
+        self.assertEqual(self.named("over"), [line])
+        self.assertEqual(self.named("undo"), [line])
+        self.assertEqual(self.named("plan", "--time", "5"), [])
+        self.assertEqual(sum(nurse == "Grace" for nurse, _ in self.cells()), 8)
+        self.assertEqual(self.named("check"), [])
+        self.assertFalse(self.page_has(HOLDS))
+
+    def test_training_is_named_and_a_swap_beside_it(self):
+        # Bruno has ten shifts, too.
+        self.does("page")
+        free = next(day for day in range(14) if ("Bruno", day) not in self.cells())
+        day = self.plan.days.head(free)
+        says = f"Bruno has 11 shifts, 1 of them for days away, of at most 10 {HOLDS}"
+        line, = self.named("training", "Bruno", day, "--time", "5")
+        self.assertTrue(line.startswith(says), line)
+        self.assertTrue(self.page_has(line))
+        plan = continued(read_stored(self.last()), read_sheet(self.ward, None, read_stored(self.last()).written))
+        offers = [one.swap for day in range(7) if plan.works.get(("Finn", day)) for one in Swaps(plan).offers("Finn", day)]
+        one, other, days = next(swap for swap in offers if swap.other not in ("Bruno", "Finn") and len(swap.days) == 1)
+        self.assertEqual(self.named("swap", one, plan.days.head(days[0]), other, "--do"), [line])
+
+    def test_a_plan_after_a_limit_was_lowered_keeps_it(self):
+        self.days(*[""] * 5, "ill", "ill")
+        self.limits("8", "12!")
+        self.does("page")
+        self.limits("8", "10!")
+        self.assertEqual(self.named("check"), [f"warning: {TWELVE}: {TAKES_TWO}"])
+        self.assertEqual(self.named("plan", "--time", "5"), [])
+        self.assertEqual(sum(nurse == "Grace" for nurse, _ in self.cells()), 8)
+
+
+if __name__ == "__main__":
+    unittest.main()
