@@ -10,7 +10,7 @@ from .plan_days import WEEK_DAYS
 from .ward_plan import WardPlan
 
 # The rule on the shifts of a period.
-TOTAL_RULE = "S6"
+_TOTAL = "S6"
 
 
 class _TooMany(NamedTuple):
@@ -42,7 +42,7 @@ def exceeded_lines(plan: WardPlan) -> Iterator[str]:
     """The limits that hold which the plan that holds exceeds, and what would help; none if there is no plan."""
     for number in plan.weeks if plan.is_planned else ():
         week, cells = plan.week(number), plan.rosters[number]
-        charged = [charge for charge in exceeded(week, week.data.limits, cells) if charge.rule != TOTAL_RULE]
+        charged = [charge for charge in exceeded(week, week.data.limits, cells) if charge.rule != _TOTAL]
         words = (limits_in_words([charge], cells, plan.day_names(number)) for charge in charged)
         yield from (f"week {number} exceeds a limit that holds: {one}: plan again, or allow her more" for one in words)
     yield from (_shifts_line(plan, one) for one in _too_many_shifts(plan))
@@ -65,7 +65,8 @@ def _too_many_shifts(plan: WardPlan) -> Iterator[_TooMany]:
 def _shifts_line(plan: WardPlan, one: _TooMany) -> str:
     """That a nurse has too many shifts, in words. Shifts that are not over and not held can be taken away."""
     held = {(cell.nurse, WEEK_DAYS * number + cell.day) for number in plan.weeks for cell in plan.held[number]}
-    days = sorted(day for nurse, day in plan.works if nurse == one.nurse and (nurse, day) not in held)
+    fixed = {*held, *plan.away}
+    days = sorted(day for nurse, day in plan.works if nurse == one.nurse and (nurse, day) not in fixed)
     above, counted = one.shifts - one.most, plan.sheet.credit.get(one.nurse, 0)
     part = f", {counted} of them for days away," if counted else ""
     number = f"{plural(one.shifts, 'shift')}{part} of at most {one.most} in the period"

@@ -43,7 +43,7 @@ def plan(store: PlanStore, words: Sequence[str], seconds: Optional[float], free:
         store.means.say(f"warning: {readable(warning)}")
     few = old.published and old.is_planned and not free
     asked = Asked(first, few, seconds or WEEK_SECONDS * len(old.weeks))
-    return _search(store, "plan", old.firm(first), asked._replace(agreed=NONE) if free else asked)
+    return _search(store, "plan", old.keeping_limits(first), asked._replace(agreed=NONE) if free else asked)
 
 
 def away(store: PlanStore, word: str, words: Sequence[str], seconds: Optional[float]) -> List[str]:

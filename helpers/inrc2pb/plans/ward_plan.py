@@ -122,7 +122,7 @@ class WardPlan:
 
     @cached_property
     def claims(self) -> Tuple[Claim, ...]:
-        """The same. For days away no limit takes shifts of other days away."""
+        """The same, with limits that take no shifts of other days from nurses for their days away."""
         return self._claims(self.days.total)
 
     def _claims(self, end: int) -> Tuple[Claim, ...]:
@@ -191,8 +191,9 @@ class WardPlan:
         return [cell._replace(day=WEEK_DAYS * number + cell.day) for number in self.weeks for cell in self.rosters.get(number, ())]
 
     def shifts_of(self, nurse: str) -> int:
-        """The shifts of a nurse in the period, with those as which days away count."""
-        return self.histories[self.open_week].nurses[nurse].assignments + sum(who == nurse for who, _ in self.works)
+        """The shifts of a nurse in the period, with those as which days away count, but none of these days."""
+        own = sum(one[0] == nurse and one not in self.away for one in self.works)
+        return self.histories[self.open_week].nurses[nurse].assignments + own
 
     def with_cells(self, cells: Iterable[Cell]) -> "WardPlan":
         """The same with these assignments in the weeks that are not over."""
@@ -218,7 +219,7 @@ class WardPlan:
         new.__dict__["claims"] = tuple(claims)
         return new
 
-    def firm(self, first: int) -> "WardPlan":
+    def keeping_limits(self, first: int) -> "WardPlan":
         """The same for a search that takes shifts from this day on away from nurses who have too many with their days away."""
         new = replace(self)
         new.__dict__["claims"] = self._claims(first)

@@ -56,6 +56,10 @@ class Lines(ExceededTest):
         for most in ("10", "12!"):
             self.limits("8", most)
             self.assertEqual(list(exceeded_lines(self.read())), [], most)
+        # Two of her ten shifts are on days on which she is ill now, so the next plan has eight of them.
+        self.limits("8", "10!")
+        self.days("ill", "ill")
+        self.assertEqual(list(exceeded_lines(self.read())), [])
 
     def test_shifts_that_no_plan_takes_away(self):
         # Grace worked five shifts in week 0, and has none in week 1. Two days count as 4 * 2 / 14 shifts, rounded up to 1.
@@ -104,11 +108,11 @@ class Lines(ExceededTest):
         # A plan from a day on takes her shifts from this day on away: two of five, and none if eight are before it.
         self.days(*[""] * 5, "ill", "ill")
         for first, kept in ((0, 0), (7, 0), (10, 0), (11, 1), (12, 2)):
-            firm = self.read().firm(first)
-            limits = {fact.nurse: fact.most for fact, _ in firm.claims if getattr(fact, "kind", "") == "SHIFTS"}
+            kept_plan = self.read().keeping_limits(first)
+            limits = {fact.nurse: fact.most for fact, _ in kept_plan.claims if getattr(fact, "kind", "") == "SHIFTS"}
             self.assertEqual(limits["Grace"], kept, first)
-            named = any("Grace has 12 shifts of at most 10" in line for line in not_kept_lines(firm))
-            self.assertEqual((named, bool(list(days_away_lines(firm)))), (kept < 2, kept == 2), first)
+            named = any("Grace has 12 shifts of at most 10" in line for line in not_kept_lines(kept_plan))
+            self.assertEqual((named, bool(list(days_away_lines(kept_plan)))), (kept < 2, kept == 2), first)
 
 
 @unittest.skipUnless(HAS_CBC, "cbc is not installed")
