@@ -1,6 +1,5 @@
 """The verbs that search for a plan: plan, the reasons to be away, and back."""
 
-import re
 from typing import Iterator, List, Optional, Sequence
 
 from ..judging.absences import readable
@@ -29,8 +28,6 @@ WEEK_SECONDS, CHANGE_SECONDS = 20.0, 30.0
 # The costs of a search for few changes, in addition to the charges of the rules.
 _BESIDE = f"{BESIDE_POINTS} more on a day off beside days away"
 _CHANGED = f"{POINTS} points for a new shift of a nurse ({_BESIDE}), {CALL_POINTS} for a nurse to call"
-# The share at the end of a line on the bound: a few points above nothing are many per cent.
-_SHARE = re.compile(r", [0-9.]+ %$")
 
 
 def plan(store: PlanStore, words: Sequence[str], seconds: Optional[float], free: bool) -> List[str]:
@@ -154,8 +151,7 @@ def _result(store: PlanStore, old: WardPlan, found: Found, asked: Asked, away: A
         lines.append(f"{plural(len(changes), 'shift')} {'differs' if len(changes) == 1 else 'differ'} from the last plan")
     lines += [_broken(old, new, one) for one in old.agreed if one not in new.agreed]
     lines += [*beside_lines(new), *leave_lines(new), *wish_lines(before, new), *cost_lines(new)]
-    lines += [f"the search counted also {_CHANGED}; they are not in this sum"] * few_changes
-    lines += [_SHARE.sub("", found.bound)] * (is_kept and not few_changes)
+    lines += [found.bound] * (is_kept and not few_changes)
     lines += ["stopped: this is the best plan until then"] * found.stopped
     if not is_kept:
         store.status = BROKEN_RULE

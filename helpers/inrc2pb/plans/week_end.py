@@ -83,7 +83,7 @@ def _next_week(store: PlanStore, old: WardPlan, worked: WardPlan) -> List[str]:
 def _broken_in(plan: WardPlan, number: int) -> List[str]:
     """The hard rules and limits that hold that a week of the plan breaks."""
     week, cells = plan.week(number), plan.rosters[number]
-    lines = [f"week {number} breaks {breach.rule}: {readable(breach.reason)}" for breach in breaches(week, cells)]
+    lines = [f"week {number}, {readable(breach.plain)}" for breach in breaches(week, cells)]
     above = exceeded(week, week.data.limits, cells)
     return [*lines, *[f"week {number} exceeds a limit that holds: {limits_in_words(above, cells, plan.day_names(number))}"] * bool(above)]
 

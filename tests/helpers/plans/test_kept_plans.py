@@ -281,9 +281,9 @@ class Weeks(KeptTest):
     def test_a_week_after_which_the_plan_breaks_a_rule(self):
         printed = self.does("over", "Bruno", "Sun", "Night,", "Finn", "Fri", "off,")
         cure = "after these corrections the plan does not fit any more: plan again, from Mon 7 Dec on"
-        self.assertIn("week 1 breaks H3: Bruno may not work Day on Mon after Night on the Sunday before\n", printed)
+        self.assertIn("week 1, not allowed on the day after: Bruno may not work Day on Mon after Night on the Sunday before\n", printed)
         self.assertIn(f"{cure}\n", printed)
-        self.assertIn("week 0 breaks H2: Fri Late Nurse has 0 nurses and needs at least 1\n", printed)
+        self.assertIn("week 0, below the minimum number: Fri Late Nurse has 0 nurses and needs at least 1\n", printed)
         self.assertIn("if it was not worked so: undo, then over with other corrections", printed)
         self.assertNotIn("to call", printed)
         cells = files.read_solution(self.last() / "roster-0.txt").cells

@@ -201,7 +201,7 @@ class Verbs(FolderTest):
         self.assertEqual(status, 0, said)
         counted = "also 20 points for a new shift of a nurse (60 more on a day off beside days away), 20 for a nurse to call; "
         self.assertIn(f"penalties and the bound of the search have {counted}", said)
-        self.assertIn(f"the search counted {counted}they are not in this sum\n", printed)
+        self.assertNotIn("the search counted", printed)
         now = self.cells()
         self.assertFalse({("Grace", day) for day in (2, 3, 4)} & set(now))
         self.assertEqual([item for item in before.items() if item[0][1] < 2], [item for item in now.items() if item[0][1] < 2])
