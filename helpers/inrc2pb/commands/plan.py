@@ -33,7 +33,7 @@ VERBS = {
     "ill NAME DAY [DAY]": "she is ill from the first to the last day: a plan with few changes; also leave, unpaid, training, away",
     "back NAME DAY": "she is back from this day on",
     "swap NAME DAY [NAME [DAY]]": "what a swap costs, which rule it breaks, and who else could swap; --do writes it",
-    "over [NAME DAY SHIFT ..]": "the first week is over, as planned or with these shifts (or off); after the last one a new period begins",
+    "over [NAME DAY SHIFT ..]": "the week is over, as planned or with these shifts (or off, ill); after the last one a new period begins",
     "page": "write the pages and calendars; from now on plans change little",
     "undo": "the plan before the last verb holds again",
     "serve": "a page in your browser that does the same",

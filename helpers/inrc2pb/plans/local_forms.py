@@ -16,6 +16,7 @@ Fields = Mapping[str, str]
 _MOST_SECONDS = 3600.0
 _NEW_PLAN = "a new plan, and its pages"
 _AWAY_TEXT = "on one day, or to the last day; who leaves the ward is away to the end of the plan; plans from the first day on"
+_OVER_TEXT = "as it was planned, or with corrections such as Chen Fri ill, Finn Sat off"
 # The field of a form that writes, after the user was asked, and the one that says for which plan it was shown.
 SURE, STAMP = "sure", "stamp"
 
@@ -39,7 +40,7 @@ FORMS = (
     Form("away", "A nurse is away", "Write an absence", _AWAY_TEXT, ("nurse", "first", "last", "reason", "seconds")),
     Form("back", "A nurse is back", "Back", "from a day on, with few changes", ("nurse", "first", "seconds")),
     Form("swap", "Two nurses swap", "Look", "what it costs, and who else could swap", ("nurse", "first", "other", "other day", "write it")),
-    Form("over", "The week is over", "End the week", "as it was planned, or with corrections such as Chen Fri off", ("corrections",)),
+    Form("over", "The week is over", "End the week", _OVER_TEXT, ("corrections",)),
     Form("page", "", "Publish", "the plan; from now on plans change little", (), True, "the page for the wall and the calendars"),
     Form("undo", "", "Undo", "the plan before the last verb holds again", (), False, "its pages"),
 )

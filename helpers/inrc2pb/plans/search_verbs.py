@@ -55,7 +55,7 @@ def away(store: PlanStore, word: str, words: Sequence[str], seconds: Optional[fl
     written = with_days(old.written, nurse, range(first, last + 1), word)
     store.means.say(f"{readable(nurse)}: {word}, {old.days.span([first, last])}")
     named = f"{word} {nurse} {old.days.head(first)} {old.days.head(last)}"
-    lifted = [line for day in range(first, last + 1) for line in _lifted(old, nurse, day, word)]
+    lifted = [line for day in range(first, last + 1) for line in lifted_lines(old, nurse, day, word)]
     new = store.current(written)
     return [*lifted, *part_lines(old, new, nurse), *_search(store, named, new, Asked(first, True, seconds or CHANGE_SECONDS), old)]
 
@@ -69,7 +69,7 @@ def part_lines(old: WardPlan, new: WardPlan, nurse: str) -> List[str]:
     return [readable(line) for line in part_sentences(new.scenario, [nurse])] or [readable(whole)]
 
 
-def _lifted(old: WardPlan, nurse: str, day: int, word: str) -> Iterator[str]:
+def lifted_lines(old: WardPlan, nurse: str, day: int, word: str) -> Iterator[str]:
     """That an absence lifts a shift that the spreadsheet holds."""
     for cell in old.held[day // WEEK_DAYS]:
         if (cell.nurse, cell.day) == (nurse, day % WEEK_DAYS):

@@ -2,7 +2,7 @@
 
 import datetime
 from dataclasses import replace
-from typing import Dict, Iterator, List, Sequence, Tuple
+from typing import Dict, Iterator, List, NamedTuple, Sequence, Tuple
 
 from ..judging.absences import readable
 from ..judging.breaches import breaches
@@ -10,14 +10,23 @@ from ..judging.limits import exceeded, limits_in_words
 from ..judging.next_history import next_history
 from ..sheets.plan_sheets import AWAY
 from ..week.faults import Misuse
-from ..week.records import DAYS, Cell, Place
+from ..week.records import Cell, Place
 from .not_kept import days_away_lines
 from .plan_days import PERIOD_IS_OVER, WEEK_DAYS, PlanDays
 from .plan_store import PlanStore, wording_of
+from .search_verbs import lifted_lines, part_lines
 from .shift_changes import OFF, change_lines, shift_changes
 from .ward_plan import WardPlan
 from .week_rows import anew_lines
 from .wording import Wording
+from .written_absences import with_days
+
+
+class _Worked(NamedTuple):
+    """The assignments of nurses' days as they were worked, and why nurses were away on days on which they did not work."""
+
+    cells: Dict[Tuple[str, int], Cell]
+    away: Dict[Tuple[str, int], str]
 
 
 def over(store: PlanStore, words: Sequence[str]) -> List[str]:
@@ -26,30 +35,51 @@ def over(store: PlanStore, words: Sequence[str]) -> List[str]:
     if not old.weeks:
         raise Misuse("all weeks are over")
     name = readable(next(iter(old.scenario.nurses)))
-    wording = wording_of(old, words, f"over, or over {name} Fri off if {name} did not work on Friday")
-    cells = dict(old.works)
+    wording = wording_of(old, words, f"over, or over {name} Fri off if {name} did not work on Friday, or over {name} Fri ill")
+    found = _Worked(dict(old.works), {})
     while not wording.is_over:
-        _correct(old, wording, cells)
-    worked = old.with_cells(cells.values())
+        _correct(old, wording, found)
+    new = _with_absences(store, old, found)
+    worked = new.with_cells(found.cells.values())
     changes = shift_changes(old.cells(), worked.cells())
-    lines = [*change_lines(changes, old.days, old.away, old.away), *_broken_by_hand(old, worked)]
+    lines = [*_absence_lines(old, new, found), *change_lines(changes, old.days, worked.away, old.away)]
+    lines += _broken_by_hand(old, worked)
     return [*lines, *(_next_week(store, old, worked) if old.open_week + 1 < old.days.weeks else _next_period(store, worked))]
 
 
-def _correct(old: WardPlan, wording: Wording, cells: Dict[Tuple[str, int], Cell]) -> None:
-    """Takes one correction, such as `Bruno Mon Late`."""
+def _correct(old: WardPlan, wording: Wording, found: _Worked) -> None:
+    """Takes one correction, such as `Bruno Mon Late` or `Bruno Mon ill`. The last one of a nurse's day counts."""
     nurse, day = wording.nurse(), wording.open_day()
     if day >= old.first + WEEK_DAYS:
         raise Misuse(f"{old.days.text(day)} is after the week that ends now: the verb swap, or ill, changes later days")
-    word = wording.has_next(AWAY)
+    found.cells.pop((nurse, day), None)
+    found.away.pop((nurse, day), None)
+    word = wording.one_of(AWAY)
     if word:
-        named = f"{word} {readable(nurse)} {DAYS[day - old.first]} {DAYS[day - old.first]}"
-        raise Misuse(f"type {named} first, then over")
+        found.away[nurse, day] = word
+        return
     shift, skill = wording.shift([*old.scenario.shift_types, OFF], old.scenario.nurses[nurse].skills)
-    before = cells.pop((nurse, day), None)
+    before = old.works.get((nurse, day))
     if shift != OFF:
         own = [before.skill] if before else []
-        cells[nurse, day] = Cell(nurse, day, shift, skill or _skill(old, nurse, day, shift, own))
+        found.cells[nurse, day] = Cell(nurse, day, shift, skill or _skill(old, nurse, day, shift, own))
+
+
+def _with_absences(store: PlanStore, old: WardPlan, found: _Worked) -> WardPlan:
+    """The plan with the absences of the corrections, as if they were in the spreadsheet."""
+    written = old.written
+    for (nurse, day), word in found.away.items():
+        written = with_days(written, nurse, [day], word)
+    return store.current(written) if found.away else old
+
+
+def _absence_lines(old: WardPlan, new: WardPlan, found: _Worked) -> List[str]:
+    """What the verbs of the reasons to be away would say of the absences, without a search."""
+    lines = []
+    for (nurse, day), word in found.away.items():
+        lines += [f"{readable(nurse)}: {word}, {old.days.text(day)}", *lifted_lines(old, nurse, day, word)]
+    nurses = dict.fromkeys(nurse for nurse, _ in found.away)
+    return [*lines, *(line for nurse in nurses for line in part_lines(old, new, nurse))]
 
 
 def _skill(old: WardPlan, nurse: str, day: int, shift: str, own: Sequence[str]) -> str:

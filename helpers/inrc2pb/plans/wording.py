@@ -51,10 +51,11 @@ class Wording:
             raise Misuse(f"{self._days.text(found)} is in a week that is over: the plan goes on from {self._days.text(self._first)}")
         return found
 
-    def has_next(self, words: Collection[str]) -> str:
-        """The next word, if it is one of these."""
-        word = "" if self.is_over else self._left[0].casefold()
-        return word if word in words else ""
+    def one_of(self, words: Collection[str]) -> str:
+        """The next word, if it is one of these, or else nothing is taken."""
+        if self.is_over or self._left[0].casefold() not in words:
+            return ""
+        return self._left.pop(0).casefold()
 
     def shift(self, names: Collection[str], skills: Collection[str]) -> Tuple[str, str]:
         """One of these shift types, and the skill that follows it, as in `Late/Nurse`, or nothing."""

@@ -12,6 +12,7 @@ from inrc2pb.plans import search_verbs
 from inrc2pb.plans.plan_search import Found
 from inrc2pb.plans.ward_plan import continued, read_stored
 from inrc2pb.plans.written_absences import WrittenAbsence, with_days, without_last, words_of
+from inrc2pb.week.files import read_history, read_scenario
 from inrc2pb.week.records import Cell
 
 
@@ -174,13 +175,116 @@ class Reasons(BackTest):
 
 
 class Over(BackTest):
-    def test_an_absence_is_no_correction(self):
+    """A week that ends with absences. In both weeks Bruno is planned for the first five days, and Chen for the days from Wednesday on."""
+
+    def own_cells(self, nurse):
+        return {day: shift for (name, day), shift in self.cells().items() if name == nurse}
+
+    def worked(self, nurse):
+        """A nurse's days of the first week on the page of the worked weeks."""
+        page = ElementTree.parse(self.ward / "worked-2026-11-30.html")
+        row = next(row for row in page.iter("tr") if "".join(row[0].itertext()) == nurse)
+        return ["".join(cell.itertext()) for cell in row[1:8]]
+
+    def shifts_in_history(self, nurse):
+        """The number of shifts with which a nurse begins the second week."""
+        scenario = read_scenario(self.last() / "ward.txt")
+        return read_history(self.last() / "history-1.txt", scenario).nurses[nurse].assignments
+
+    def test_who_was_ill_did_not_work_and_no_other_shift_changes(self):
         self.begin_with()
-        for word in ("ill", "leave", "training", "unpaid", "away"):
-            says = f"type {word} Bruno Mon Mon first, then over"
-            self.assertEqual(self.lines("over", "Chen", "Fri", "off,", "bru", "30.11.", word.title()), [f"inrc2pb-plan: {says}"])
-        self.lines("over")
-        self.assertEqual(self.lines("over", "Bruno", "Wed", "ill"), ["inrc2pb-plan: type ill Bruno Wed Wed first, then over"])
+        self.lines("page")
+        before = self.cells()
+        lines = self.lines("over", "Bruno", "Mon", "ill,", "Chen", "Tue", "Late")
+        self.assertEqual(lines[:3], [
+            "Bruno: ill, Mon 30 Nov", "Bruno, Mon 30 Nov: ill instead of Day Nurse", "Chen, Tue 1 Dec: Late Nurse instead of off",
+        ])
+        self.assertIn("week 0 is over: the plan goes on from Mon 7 Dec", lines)
+        del before["Bruno", 0]
+        self.assertEqual(self.cells(), {**before, ("Chen", 1): ("Late", "Nurse")})
+        self.assertEqual(read_stored(self.last()).written, (WrittenAbsence("Bruno", 0, "ill"),))
+        self.assertEqual(self.worked("Bruno"), ["ill", "Day Nurse", *["Day Charge"] * 3, "", ""])
+        self.assertEqual(self.worked("Chen")[:3], ["", "Late Nurse", "Late Nurse"])
+        # The shift hung on the wall.
+        self.assertIn("DTSTART;VALUE=DATE:20261130\nSTATUS:CANCELLED\n", (self.ward / "calendars" / "Bruno.ics").read_text())
+
+    def test_the_share_of_days_that_count_as_work(self):
+        # A full contract has at least 17 shifts in 14 days: a day counts as 17/14 of a shift, two as 34/14, rounded up.
+        for words, shifts in (
+            ("", 5), ("Bruno Mon off", 4), ("Bruno Mon ill", 4 + 2), ("Bruno Mon leave, Bruno Tue training", 3 + 3),
+            ("Bruno Mon unpaid", 4), ("Bruno Mon away", 4), ("Bruno Sat ill", 5 + 2),
+        ):
+            with self.subTest(words):
+                self.begin_with()
+                self.lines("over", *words.split())
+                self.assertEqual(self.shifts_in_history("Bruno"), shifts)
+                self.assertEqual(self.shifts_in_history("Grace"), 5)
+
+    def test_days_that_do_not_count_shorten_the_contract(self):
+        for word in ("unpaid", "away"):
+            with self.subTest(word):
+                self.begin_with()
+                part = "contract Full counts in proportion, at least 15 shifts in place of at least 17."
+                self.assertIn(f"Bruno is away or unpaid on 1 of 14 days: {part}", self.lines("over", "Bruno", "Mon", word))
+                self.assertEqual(self.worked("Bruno")[:2], [word, "Day Nurse"])
+
+    def test_a_day_without_a_shift_gets_only_its_reason(self):
+        self.rows["nurses"][3][4] = "Mon"
+        self.begin_with("", "leave")
+        before = self.cells()
+        # Chen is always off on Monday, and has leave on Tuesday.
+        lines = self.lines("over", "Chen", "Mon", "ill", "Chen", "Tue", "training", "Bruno", "Sun", "Away")
+        said = ["Chen: ill, Mon 30 Nov", "Chen: training, Tue 1 Dec", "Bruno: away, Sun 6 Dec"]
+        self.assertEqual(lines[:3], said)
+        self.assertEqual([line for line in lines if "instead of" in line], [])
+        self.assertEqual((self.cells(), self.away()), (before, {}))
+        self.assertEqual((self.worked("Chen")[:2], self.worked("Bruno")[6]), (["ill", "training"], "away"))
+
+    def test_an_illness_lifts_a_shift_that_the_spreadsheet_holds(self):
+        self.rows["plan"][2][1] = "Day/Nurse"
+        self.begin_with()
+        lines = self.lines("over", "Bruno", "Mon", "ill")
+        self.assertIn("Bruno, Mon 30 Nov: ill lifts Day, which the spreadsheet holds", lines)
+        self.assertNotIn(0, self.own_cells("Bruno"))
+
+    def test_the_last_correction_of_a_day_counts(self):
+        for words, written, shift in (
+            ("Bruno Mon ill, Bruno Mon Late", (), ("Late", "Nurse")),
+            ("Bruno Mon Late, Bruno Tue off, Bruno Mon ill", (WrittenAbsence("Bruno", 0, "ill"),), None),
+            ("Bruno Mon leave, Bruno Mon training", (WrittenAbsence("Bruno", 0, "training"),), None),
+        ):
+            with self.subTest(words):
+                self.begin_with()
+                self.lines("over", *words.split())
+                self.assertEqual((read_stored(self.last()).written, self.own_cells("Bruno").get(0)), (written, shift))
+
+    def test_undo_takes_the_absence_back_with_the_week(self):
+        self.begin_with()
+        self.lines("ill", "Chen", "Fri")
+        before, written = self.cells(), read_stored(self.last()).written
+        self.lines("over", "Bruno", "Mon", "ill")
+        self.assertEqual(read_stored(self.last()).written, (*written, WrittenAbsence("Bruno", 0, "ill")))
+        self.assertEqual(self.lines("undo")[0][:14], "undone: over 0")
+        self.assertEqual((self.cells(), read_stored(self.last()).written, self.away()), (before, written, {4: "ill"}))
+        self.assertFalse((self.ward / "worked-2026-11-30.html").exists())
+
+    def test_the_last_week_of_a_period(self):
+        self.begin_with()
+        self.lines("over", "Bruno", "Mon", "ill")
+        lines = self.lines("over", "Bruno", "Tue", "ill")
+        self.assertIn("Bruno, Tue 8 Dec: ill instead of Day Nurse", lines)
+        self.assertIn("week 1 is over, and with it the period is over", lines)
+        text = (self.ward / "worked-2026-11-30.html").read_text()
+        self.assertEqual(text.count('>ill<'), 2)
+        # The next period begins without the absences of this one.
+        self.assertEqual(read_stored(self.last()).written, ())
+        self.assertEqual(self.lines("undo")[0][:17], "undone: over peri")
+        self.assertEqual(read_stored(self.last()).written, (WrittenAbsence("Bruno", 0, "ill"),))
+
+    def test_an_absence_after_the_week_that_ends(self):
+        self.begin_with()
+        later = "Mon 7 Dec is after the week that ends now: the verb swap, or ill, changes later days"
+        self.assertEqual(self.lines("over", "Bruno", "7.12.", "ill"), [f"inrc2pb-plan: {later}"])
 
 
 class Written(FolderTest):
@@ -200,3 +304,13 @@ class Asked(ServedPage):
         self.write_plan()
         page = self.asks("POST", form="verb=back&nurse=Chen&first=2026-12-03")[1]
         self.assertIn("<pre>Chen: back, Thu 3 Dec (ill)\nChen stays away: leave, Fri 4 Dec</pre>", page)
+
+    def test_a_week_ends_with_an_absence(self):
+        self.write_plan()
+        question = self.asks("POST", form="verb=over&corrections=Bruno+Mon+ill,+Chen+Tue+Late")[1]
+        self.assertIn("<h2>The week is over: Mon 30 Nov to Sun 6 Dec, corrections Bruno Mon ill, Chen Tue Late?</h2>", question)
+        self.assertEqual(len(list((self.ward / "plans").glob("0*"))), 1)
+        page = self.sends(verb="over", corrections="Bruno Mon ill, Chen Tue Late")
+        self.assertIn("Bruno: ill, Mon 30 Nov\nBruno, Mon 30 Nov: ill instead of Day Nurse\nChen, Tue 1 Dec: Late Nurse instead of off\n", page)
+        self.assertIn("week 0 is over: the plan goes on from Mon 7 Dec", page)
+        self.assertIn(">ill<", (self.ward / "worked-2026-11-30.html").read_text())
