@@ -180,11 +180,15 @@ class Over(BackTest):
     def own_cells(self, nurse):
         return {day: shift for (name, day), shift in self.cells().items() if name == nurse}
 
+    def rows_of(self, nurse, page):
+        """The cells of a nurse's rows on a page: her days, and her totals."""
+        rows = ElementTree.parse(self.ward / page).iter("tr")
+        texts = (["".join(cell.itertext()) for cell in row] for row in rows)
+        return [row[1:] for row in texts if row[0] == nurse]
+
     def worked(self, nurse):
         """A nurse's days of the first week on the page of the worked weeks."""
-        page = ElementTree.parse(self.ward / "worked-2026-11-30.html")
-        row = next(row for row in page.iter("tr") if "".join(row[0].itertext()) == nurse)
-        return ["".join(cell.itertext()) for cell in row[1:8]]
+        return self.rows_of(nurse, "worked-2026-11-30.html")[0][:7]
 
     def shifts_in_history(self, nurse):
         """The number of shifts with which a nurse begins the second week."""
@@ -219,6 +223,13 @@ class Over(BackTest):
                 self.lines("over", *words.split())
                 self.assertEqual(self.shifts_in_history("Bruno"), shifts)
                 self.assertEqual(self.shifts_in_history("Grace"), 5)
+
+    def test_the_totals_of_the_period(self):
+        self.begin_with()
+        self.lines("over", "Bruno", "Mon", "ill")
+        # The shifts in all, those of them for days away, what the contract has, and what is left or too few.
+        self.assertEqual(self.rows_of("Bruno", "worked-2026-11-30.html")[1][:4], ["6", "2", "17 to 22", "11 to 16 left"])
+        self.assertEqual(self.rows_of("Bruno", "roster.html")[1][:4], ["11", "2", "17 to 22", "6 too few"])
 
     def test_days_that_do_not_count_shorten_the_contract(self):
         for word in ("unpaid", "away"):
