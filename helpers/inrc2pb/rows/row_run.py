@@ -25,7 +25,7 @@ from .workers import CaseWorker, workers
 
 # The shares of the time that is left: for new rows before a dive, for the dive, for one when no row is missing, for an integer program
 # over the known rows, and for one over all rows.
-ROWS_SHARE, DIVE_SHARE, LAST_DIVE_SHARE, KNOWN_SHARE, LISTED_SHARE = 0.5, 0.5, 0.8, 0.03, 0.5
+ROWS_SHARE, DIVE_SHARE, LAST_DIVE_SHARE, KNOWN_SHARE, LISTED_SHARE = 0.5, 0.5, 0.8, 0.06, 0.5
 # The most rows of an integer program.
 MOST_LISTED = 6_000
 # Up to this gap, in thousandths, a tree of cases may end soon: in a week nothing else is done for this number of seconds. In a period it is
