@@ -6,12 +6,13 @@ import re
 from typing import Collection, NamedTuple, Optional, Sequence
 
 from ..judging.absences import joined
-from ..week.dates import DAY, date_text
+from ..week.dates import DAY, MONTHS, date_text
 from ..week.faults import Misuse
 from ..week.records import DAYS
 
 WEEK_DAYS = len(DAYS)
 _WEEKDAY = re.compile("(mon|tue|wed|thu|fri|sat|sun)[a-z]* ?([0-9]{1,2})?", re.IGNORECASE)
+_IN_WORDS = re.compile(f"(?:(mon|tue|wed|thu|fri|sat|sun)[a-z]* )?([0-9]{{1,2}}) ({'|'.join(MONTHS)})", re.IGNORECASE)
 _DATE = re.compile(r"([0-9]{4})-([0-9]{1,2})-([0-9]{1,2})|([0-9]{1,2})\.([0-9]{1,2})\.?([0-9]{4})?")
 
 
@@ -68,8 +69,12 @@ class PlanDays(NamedTuple):
 
     def number(self, text: str, near: int) -> int:
         """The day that a text names. A day of the week is the first one from the day `near` on."""
-        weekday, date = _WEEKDAY.fullmatch(text), _DATE.fullmatch(text)
-        if weekday:
+        weekday, date, in_words = _WEEKDAY.fullmatch(text), _DATE.fullmatch(text), _IN_WORDS.fullmatch(text)
+        if in_words:
+            found = self.number(f"{in_words[2]}.{MONTHS.index(in_words[3].title()) + 1}.", near)
+            if in_words[1] and in_words[1].title() != DAYS[found % WEEK_DAYS]:
+                raise Misuse(f"'{text}' is a {DAYS[found % WEEK_DAYS]}: write {self.head(found)}, if you mean this day")
+        elif weekday:
             day = DAYS.index(weekday[1].title())
             found = day + WEEK_DAYS * int(weekday[2]) if weekday[2] else near + (day - near) % WEEK_DAYS
         elif date:

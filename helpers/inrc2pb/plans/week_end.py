@@ -16,14 +16,15 @@ from .plan_days import PERIOD_IS_OVER, WEEK_DAYS, PlanDays
 from .plan_store import PlanStore, wording_of
 from .search_verbs import lifted_lines, part_lines
 from .shift_changes import OFF, change_lines, shift_changes
-from .ward_plan import WardPlan
+from .ward_plan import ALWAYS_OFF, WardPlan
 from .week_rows import anew_lines
 from .wording import Wording
-from .written_absences import with_days
+from .written_absences import BACK, with_days
 
 
 class _Worked(NamedTuple):
-    """The assignments of nurses' days as they were worked, and why nurses were away on days on which they did not work."""
+    """The assignments of nurses' days as they were worked, and why nurses were away on days on which they did not work, or that they were
+    back on days on which they did."""
 
     cells: Dict[Tuple[str, int], Cell]
     away: Dict[Tuple[str, int], str]
@@ -63,6 +64,7 @@ def _correct(old: WardPlan, wording: Wording, found: _Worked) -> None:
     if shift != OFF:
         own = [before.skill] if before else []
         found.cells[nurse, day] = Cell(nurse, day, shift, skill or _skill(old, nurse, day, shift, own))
+        found.away.update({(nurse, day): BACK} if old.away.get((nurse, day), ALWAYS_OFF) != ALWAYS_OFF else {})
 
 
 def _with_absences(store: PlanStore, old: WardPlan, found: _Worked) -> WardPlan:
@@ -77,7 +79,8 @@ def _absence_lines(old: WardPlan, new: WardPlan, found: _Worked) -> List[str]:
     """What the verbs of the reasons to be away would say of the absences, without a search."""
     lines = []
     for (nurse, day), word in found.away.items():
-        lines += [f"{readable(nurse)}: {word}, {old.days.text(day)}", *lifted_lines(old, nurse, day, word)]
+        lines.append(f"{readable(nurse)}: {word}, {old.days.text(day)}")
+        lines += lifted_lines(old, nurse, day, word) if word != BACK else []
     nurses = dict.fromkeys(nurse for nurse, _ in found.away)
     return [*lines, *(line for nurse in nurses for line in part_lines(old, new, nurse))]
 

@@ -4,6 +4,7 @@ from typing import Collection, NoReturn, Optional, Sequence, Tuple
 
 from ..judging.absences import readable
 from ..sheets.sheet_rows import tidy
+from ..week.dates import MONTHS
 from ..week.faults import Misuse
 from ..week.hints import quoted
 from ..week.slots import did_you_mean
@@ -35,12 +36,17 @@ class Wording:
     def _is_nurse(self, text: str) -> bool:
         return any(text.casefold() == readable(nurse).casefold() for nurse in self._nurses)
 
+    def _begins_name(self, text: str) -> bool:
+        return any(readable(nurse).casefold().startswith(text.casefold()) for nurse in self._nurses)
+
     def day(self, near: Optional[int] = None) -> int:
         """A day; a day of the week is the first one from the day `near` on, or from the first day that is not over."""
         if self.is_over:
             self._misuse("a day is missing")
         text = self._left.pop(0)
         if self._left and self._left[0].isdigit():
+            text += f" {self._left.pop(0)}"
+        if text[-1:].isdigit() and self._left and self._left[0].title() in MONTHS and not self._begins_name(self._left[0]):
             text += f" {self._left.pop(0)}"
         return self._days.number(text, self._first if near is None else near)
 

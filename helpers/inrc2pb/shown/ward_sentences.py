@@ -81,7 +81,7 @@ def part_sentences(scenario: Scenario, nurses: Iterable[str]) -> Iterator[str]:
             yield f"{nurse} is away or unpaid on {gone} of {part.total} days: contract {part.whole} counts in proportion, {instead}."
     long_away = [nurse for nurse in nurses for part in [_part(scenario, nurse)] if part and part.any_days_off]
     if long_away:
-        yield f"Away for longer than the contract's most days off in a row, so without such a maximum: {joined(long_away)}."
+        yield f"Off or away for longer than the contract's most days off in a row, so without such a maximum: {joined(long_away)}."
 
 
 def _range(limits: Limits, no_limit: int) -> str:

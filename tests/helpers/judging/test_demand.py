@@ -99,7 +99,7 @@ class Telling(HelperTest):
         self.assertTrue(found[0].startswith("Contracts Full (Amara, Chen, Dilek, Ewa, Finn and Grace) and Same (Bruno): 17 to 21 shifts "))
         self.assertEqual(found[1:], [
             "Dilek is away or unpaid on 3 of 28 days: contract Full counts in proportion, 15 to 19 shifts in place of 17 to 21.",
-            "Away for longer than the contract's most days off in a row, so without such a maximum: Ewa and Finn.",
+            "Off or away for longer than the contract's most days off in a row, so without such a maximum: Ewa and Finn.",
         ])  # fmt: skip
         limits = frozenset({KeptLimit(nurse, "SHIFTS", 0) for nurse in ward.nurses} | {KeptLimit("Bruno", "WEEKENDS", 0)})
         self.assertEqual(list(limit_sentences(ward, replace(DATA, limits=limits))), [

@@ -212,6 +212,14 @@ class Over(BackTest):
         # The shift hung on the wall.
         self.assertIn("DTSTART;VALUE=DATE:20261130\nSTATUS:CANCELLED\n", (self.ward / "calendars" / "Bruno.ics").read_text())
 
+    def test_who_worked_on_a_day_away_was_back(self):
+        self.begin_with("ill")
+        lines = self.lines("over", "Chen", "Mon", "Late")
+        self.assertEqual(lines[:2], ["Chen: back, Mon 30 Nov", "Chen, Mon 30 Nov: Late Nurse instead of ill"])
+        self.assertEqual(self.worked("Chen")[0], "Late Nurse")
+        # Six days of work, each counted once.
+        self.assertEqual(self.shifts_in_history("Chen"), 6)
+
     def test_the_share_of_days_that_count_as_work(self):
         # A full contract has at least 17 shifts in 14 days: a day counts as 17/14 of a shift, two as 34/14, rounded up.
         for words, shifts in (

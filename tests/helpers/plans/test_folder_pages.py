@@ -20,6 +20,7 @@ from inrc2pb.plans.plan_store import Means, PlanStore
 from inrc2pb.plans.verbs import Verbs
 from inrc2pb.plans.ward_folder import WardFolder
 from inrc2pb.programs.progress import Progress
+from inrc2pb.shown.calendars import Issue, calendar
 
 # A nurse, a day of the calendar, a shift type and a skill.
 Shift = Tuple[str, datetime.date, str, str]
@@ -316,6 +317,11 @@ class Calendars(FolderPages):
         self.verbs.over([])
         self.assertEqual(["STATUS:CANCELLED" in event for event in self.events("Finn").values()].count(True), 1)
         self.assertEqual(set(self.events("Finn")), set(before))
+
+    def test_a_calendar_without_shifts_has_nothing_to_take_back_later(self):
+        plan = self.verbs.current().with_cells([])
+        text = calendar(plan.view(), "Finn", plan.days.monday, {}, Issue(1, {}))
+        self.assertEqual((text.count("BEGIN:VEVENT"), text.count("STATUS:CANCELLED")), (1, 1))
 
     def test_the_shifts_of_a_nurse_who_is_no_more_in_the_sheet_are_cancelled(self):
         self.page()

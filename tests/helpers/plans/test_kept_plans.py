@@ -94,7 +94,7 @@ class Words(KeptTest):
         begun = replace(self.plan, sheet=read_sheet(self.ward, None, ()))
         for word, says in (
             ("unpaid", ["Grace is away or unpaid on 5 of 14 days: contract Full counts in proportion, 5 to 7 shifts in place of 8 to 10.",
-                        "Away for longer than the contract's most days off in a row, so without such a maximum: Grace."]),
+                        "Off or away for longer than the contract's most days off in a row, so without such a maximum: Grace."]),
             ("ill", []),
         ):  # fmt: skip
             self.rows["plan"][7][3:8] = [word] * 5

@@ -46,6 +46,8 @@ class Days(unittest.TestCase):
             (DATED, 9, "2026-12-01", 1, "Tue 1 Dec"),
             (DATED, 9, "1.12.", 1, "Tue 1 Dec"),
             (DATED, 0, "13.12.2026", 13, "Sun 13 Dec"),
+            (DATED, 9, "1 Dec", 1, "Tue 1 Dec"),
+            (DATED, 9, "Tue 1 dec", 1, "Tue 1 Dec"),
             (BARE, 0, "Sun 1", 13, "Sun of week 1"),
         ):
             with self.subTest(text):
@@ -61,7 +63,7 @@ class Days(unittest.TestCase):
         for text in ("2026-11-29", "2026-12-14", "Mon 2", "29.11.2026"):
             with self.subTest(text), self.assertRaises(OtherPlan):
                 DATED.number(text, 0)
-        for days, text in ((DATED, "2026-02-30"), (DATED, "soon"), (BARE, "2026-12-01")):
+        for days, text in ((DATED, "2026-02-30"), (DATED, "soon"), (DATED, "Wed 1 Dec"), (BARE, "2026-12-01"), (BARE, "1 Dec")):
             with self.subTest(text), self.assertRaises(Misuse):
                 days.number(text, 0)
 
