@@ -9,7 +9,7 @@ from .rules import numbers
 Shifts = Dict[Tuple[str, int], List[str]]
 
 
-# What is wrong, for who does not know the names of the rules.
+# The breach of each rule in words that need no names of rules.
 _PLAIN = {
     "H1": "two places on a day", "H2": "below the minimum number", "H3": "not allowed on the day after", "H4": "without the skill",
     "H5": "without a held shift",

@@ -4,7 +4,7 @@ from ..search.bounds import PLAIN
 from ..search.period_search import PeriodSearch
 
 UNKNOWN = "how much less another plan can cost is not known"
-# What the other bound is about: plans that also keep the days beside days away.
+# The other bound speaks of plans that also keep the days next to days away.
 _BESIDE = ", with training as work in a row and no night shift before it or leave,"
 
 

@@ -72,7 +72,7 @@ def search_plan(old: WardPlan, asked: Asked, progress: Progress) -> Found:
     cells = [cell._replace(day=cell.day + old.first) for cell in kept[-1]]
     held = [cell._replace(day=WEEK_DAYS * number + cell.day) for number in old.weeks for cell in old.held[number]]
     labelled = with_old_skills(old.scenario, cells, [*old.cells(), *held])
-    # The search may have counted what is no part of the points of a plan.
+    # The search may have counted points that a plan has not.
     bound = UNKNOWN if asked.few_changes or asked.agreed == MOST else bound_words(search)
     return Found(old.with_cells(labelled), bound, clock.stopped)
 

@@ -14,7 +14,7 @@ from ..week.faults import FileFault, Misuse
 from .plan_days import OtherPlan, PlanDays
 
 NAME = "absences.csv"
-# The words of days on which a nurse is back: the first empties her cell, with the second what the spreadsheet says holds again.
+# The words of days on which a nurse is back: the first empties her cell, the second gives the day its cell of the spreadsheet again.
 BACK, SHEET = "back", "sheet"
 # The word that other ones stay below: who is ill on days of leave has her leave again if she is back.
 _ILL = "ill"

@@ -235,7 +235,7 @@ class Over(BackTest):
     def test_the_totals_of_the_period(self):
         self.begin_with()
         self.lines("over", "Bruno", "Mon", "ill")
-        # The shifts in all, those of them for days away, what the contract has, and what is left or too few.
+        # The shifts in all, those of them for days away, the limits of the contract, and the shifts left or missing.
         self.assertEqual(self.rows_of("Bruno", "worked-2026-11-30.html")[1][:4], ["6", "2", "17 to 22", "11 to 16 left"])
         self.assertEqual(self.rows_of("Bruno", "roster.html")[1][:4], ["11", "2", "17 to 22", "6 too few"])
 

@@ -78,7 +78,7 @@ class Lines(ExceededTest):
         self.assertEqual(list(days_away_lines(self.read(cells))), [f"{says}: {over}"])
 
     def test_who_leaves_after_training(self):
-        # She is there on 7 of 14 days, so her ten shifts at most become five; her training counts as 7 * 2 / 14 shifts, or as one.
+        # She is present on 7 of 14 days, so her ten shifts at most become five; her training counts as 7 * 2 / 14 shifts, or as one.
         self.limits("7", "10!")
         self.days(*[""] * 5, "training", "training", *["away"] * 7)
         cells = [cell for cell in self.plan.cells() if cell.nurse != "Grace" or cell.day < 7]

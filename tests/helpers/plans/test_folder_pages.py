@@ -80,7 +80,7 @@ class FolderPages(KeptTest):
             self.rows["plan"] = [["nurse", *(f"{monday + day * DAY}" for day in range(14))], *([row[0]] for row in self.rows["plan"][1:])]
             self.write()
 
-    # ---- what a user does, and what it should lead to
+    # ---- the steps of a user, and their right results
 
     def page(self):
         self.verbs.page()
@@ -121,7 +121,7 @@ class FolderPages(KeptTest):
         self.verbs.undo()
         self.states.pop()
 
-    # ---- what the folder has
+    # ---- the contents of the folder
 
     def shown(self, name):
         """The shifts of a page by its words, without the older ones of changed cells."""

@@ -94,7 +94,7 @@ class NextPeriod(KeptTest):
         self.rows["needs"][2][5] = "2+1"
         self.write()
         self.assertIn(f"warning: {row}", run("plan", self.ward, "check")[1])
-        # Whoever has corrected the row, its week or its days, is not told again; nor is who has emptied it.
+        # After the row, its week or its days were corrected, or the row was emptied, the warning is gone.
         right = ["1", "day", "Nurse", *[""] * 4, "1", "", ""]
         for other in (["0", *right[1:]], [*right[:3], "1", *right[4:7], "", "", ""], [*right[:7], "2", "", ""], [*right[:7], "", "", ""]):
             self.rows["needs"][-1] = other

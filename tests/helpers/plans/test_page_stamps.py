@@ -125,7 +125,7 @@ class Stamps(ServedPage):
         # The button back of the browser leads to it, and it asks no more.
         page = self.asks(path=of_question)[1]
         self.assertTrue("week 0 is over" in page and "Yes, write it" not in page and 'class="fault"' not in page)
-        # The answer that is sent again writes nothing, and another tab still shows what the first one has done.
+        # The answer that is sent again writes nothing, and another tab still shows the result of the first one.
         self.asks("POST", form=answer)
         self.assertIn(SAYS, self.ended())
         self.assertIn("week 0 is over", self.asks(path=self.site.path)[1])

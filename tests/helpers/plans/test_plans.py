@@ -413,7 +413,7 @@ class Refused(FolderTest):
         self.assertFalse((self.ward / "plans").exists())
 
     def test_what_is_told_first(self):
-        # Both weeks have 7 + 12 + 7 + 7 shifts at best, of which 7 + 5 + 7 + 7 are needed. Five nurses have 8 to 12 shifts, two 4 to 6. Grace
+        # Both weeks have 7 + 12 + 7 + 7 shifts at best; 7 + 5 + 7 + 7 are needed. Five nurses have 8 to 12 shifts, two 4 to 6. Grace
         # has leave on the seven days of the second week, which count as four of her shifts. A plan changes nothing of it.
         self.rows["contracts"][1][1:3], self.rows["contracts"][2][1:3] = ["8", "12"], ["4", "6"]
         self.rows["plan"][7][8:15] = ["leave"] * 7
