@@ -82,8 +82,8 @@ def _when(date: datetime.date, shift: str, times: Mapping[str, Times]) -> Iterat
 
 
 def calendar(view: RosterView, nurse: str, monday: datetime.date, times: Mapping[str, Times], issue: Optional[Issue] = None) -> str:
-    """The text of a nurse's calendar. One without shifts says so, since a calendar may not be empty; an issue of one cancels this, so that a
-    later one has nothing to take back. Shifts of older issues are cancelled on days on which this one has none."""
+    """The text of a nurse's calendar. One without shifts says so, since a calendar may not be empty; an issue of one cancels this, so that
+    a later one has nothing to take back. Shifts of older issues are cancelled on days on which this one has none."""
     ward = allowed(view.name)
     stamp = [f"DTSTAMP:{_day(monday)}T000000Z", *([f"SEQUENCE:{issue.number}"] if issue else [])]
     lines = ["BEGIN:VCALENDAR", "VERSION:2.0", "PRODID:-//inrc2pb//inrc2pb-table//EN"]
@@ -102,7 +102,8 @@ def calendar(view: RosterView, nurse: str, monday: datetime.date, times: Mapping
         lines += _event([ward, allowed(nurse), _day(date)], stamp, "no shift", when)
     if not shifts:
         end = monday + 7 * len(view.weeks) * DAY
-        when = [f"DTSTART;VALUE=DATE:{_day(monday)}", f"DTEND;VALUE=DATE:{_day(end)}", "TRANSP:TRANSPARENT", *["STATUS:CANCELLED"] * bool(issue)]
+        days = [f"DTSTART;VALUE=DATE:{_day(monday)}", f"DTEND;VALUE=DATE:{_day(end)}"]
+        when = [*days, "TRANSP:TRANSPARENT", *["STATUS:CANCELLED"] * bool(issue)]
         lines += _event([ward, allowed(nurse), _day(monday), "none"], stamp, "no shift", when)
     return "".join(f"{_folded(line)}\r\n" for line in [*lines, "END:VCALENDAR"])
 

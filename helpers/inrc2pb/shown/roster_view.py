@@ -12,7 +12,9 @@ from ..judging.limits import exceeded, limits_in_words
 from ..week.records import Absence, Cell, Week, WeekData
 
 HELD, REFUSED, AWAY = "*", "!", "#"
-MEANINGS = {HELD: "held", REFUSED: "a request to be off was not granted", AWAY: "on duty while away, or on a shift type that she never works"}
+MEANINGS = {
+    HELD: "held", REFUSED: "a request to be off was not granted", AWAY: "on duty while away, or on a shift type that she never works",
+}  # fmt: skip
 
 
 class ShownCell(NamedTuple):
