@@ -1,6 +1,5 @@
-//! The shared parts of the programs: the words of the process, the arguments of a command and
-//! their values, the ports of the host, and the end of a
-//! program, with its message and its exit code.
+//! The shared parts of the programs: the words of the process, the arguments of a command and their values, the ports of the
+//! host, and the end of a program, with its message and its exit code.
 #![tactic(auto)]
 
 mod arguments;

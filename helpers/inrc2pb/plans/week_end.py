@@ -64,11 +64,12 @@ def _correct(old: WardPlan, wording: Wording, found: _Worked) -> None:
     if shift != OFF:
         own = [before.skill] if before else []
         found.cells[nurse, day] = Cell(nurse, day, shift, skill or _skill(old, nurse, day, shift, own))
-        found.away.update({(nurse, day): BACK} if old.away.get((nurse, day), ALWAYS_OFF) != ALWAYS_OFF else {})
+        if old.away.get((nurse, day), ALWAYS_OFF) != ALWAYS_OFF:
+            found.away[nurse, day] = BACK
 
 
 def _with_absences(store: PlanStore, old: WardPlan, found: _Worked) -> WardPlan:
-    """The plan with the absences of the corrections, as if they were in the spreadsheet."""
+    """The plan with the absences of the corrections, as if the spreadsheet had them."""
     written = old.written
     for (nurse, day), word in found.away.items():
         written = with_days(written, nurse, [day], word)
@@ -76,7 +77,7 @@ def _with_absences(store: PlanStore, old: WardPlan, found: _Worked) -> WardPlan:
 
 
 def _absence_lines(old: WardPlan, new: WardPlan, found: _Worked) -> List[str]:
-    """What the verbs of the reasons to be away would say of the absences, without a search."""
+    """The lines with which the verbs of these absences begin, before they search."""
     lines = []
     for (nurse, day), word in found.away.items():
         lines.append(f"{readable(nurse)}: {word}, {old.days.text(day)}")

@@ -3,7 +3,7 @@
 import concurrent.futures
 import contextlib
 import time
-from typing import Callable, List, Optional, Sequence, TypeVar
+from typing import Callable, List, Optional, TypeVar
 
 from .case_search import CaseSearch
 from .case_tree import CaseTree

@@ -1,6 +1,6 @@
 """A ward and its history in sentences, to be read by whoever knows the ward. Nurses with the same numbers share a sentence."""
 
-from typing import Dict, Iterable, Iterator, List, Mapping, Optional, Sequence, Tuple, TypeVar
+from typing import Dict, Iterable, Iterator, List, Mapping, Optional, Tuple, TypeVar
 
 from ..judging.absences import joined
 from ..judging.demand import Paid, asked_shifts, supplied_shifts

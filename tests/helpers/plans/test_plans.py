@@ -80,11 +80,17 @@ class Words(unittest.TestCase):
             ("anna w 4.12.", "Anna_Wolf", 4),
             ("łuk Sat 1", "Łukasz_Nowak", 12),
             ("Sun Li Mon 1", "Sun_Li", 7),
+            ("Sun Li Tue 1 Dec", "Sun_Li", 1),
+            ("Sun Li 1 dec", "Sun_Li", 1),
         ):
             with self.subTest(line):
                 words = self.wording(line)
                 self.assertEqual((words.nurse(), words.day()), (nurse, day))
                 words.end()
+
+    def test_a_nurse_with_the_name_of_a_month(self):
+        words = Wording("Mon 1 Jan Li".split(), (*self.NURSES, "Jan_Li"), DATED, 0, "swap Sun Li Mon Jan")
+        self.assertEqual((words.day(), words.nurse()), (7, "Jan_Li"))
 
     def test_faults_of_words(self):
         for line, says in (
