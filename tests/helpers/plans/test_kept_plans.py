@@ -428,14 +428,15 @@ class Training(KeptTest):
     def test_the_bound_in_words(self):
         search = mock.Mock(penalty=1170)
         kept, ends = "no plan that keeps all absences and limits", "this one costs 1170: more seconds may help"
-        beside = f"{kept}, with training as work in a row and no night shift before it or leave,"
+        proved = f"{kept} costs less than 1080 points (proved by inrc2pb-bound)"
+        beside = "with training as work in a row and no night shift before it or leave, none costs less than"
         for points, by, above, says in (
-            (1080, PROVER, None, f"{kept} costs less than 1080 points (proved by inrc2pb-bound); {ends}"),
-            (1080, PROVER, 1080, f"{kept} costs less than 1080 points (proved by inrc2pb-bound); {ends}"),
+            (1080, PROVER, None, f"{proved}; {ends}"),
+            (1080, PROVER, 1080, f"{proved}; {ends}"),
             (1080, PLAIN, None, f"{kept} costs less than 1080 points (not proved); {ends}"),
             (1170, PROVER, None, f"{kept} costs less than this one (proved by inrc2pb-bound)"),
-            (1080, PROVER, 1100, f"{beside} costs less than 1100 points (not proved); {ends}"),
-            (1080, PROVER, 1170, f"{beside} costs less than this one (not proved)"),
+            (1080, PROVER, 1100, f"{proved}; {beside} 1100 points (not proved); {ends}"),
+            (1080, PROVER, 1170, f"{proved}; {beside} this one (not proved)"),
         ):
             search.bound, search.bound_beside = Bound(points, by, "absences and limits"), above
             self.assertEqual(bound_words(search), says)
