@@ -16,64 +16,61 @@ Fields = Mapping[str, str]
 _MOST_SECONDS = 3600.0
 _NEW_PLAN = "a new plan, and its pages"
 _AWAY_TEXT = "on one day, or to the last day; who leaves the ward is away to the end of the plan; plans from the first day on"
+_BACK_TEXT = "from a day on, with few changes"
+_SWAP_TEXT = "what it costs, and who else could swap"
 _OVER_TEXT = "as it was planned, or with corrections such as Chen Fri ill, Finn Sat off"
+_AWAY_FIELDS, _SWAP_FIELDS = ("nurse", "first", "last", "reason", "seconds"), ("nurse", "first", "other", "other day", "write it")
+_PAGES = "the page for the wall and the calendars"
 # The field of a form that writes, after the user was asked, and the one that says for which plan it was shown.
 SURE, STAMP = "sure", "stamp"
 
 
 class Form(NamedTuple):
-    """A verb with its heading, if it has fields, its button, a sentence on it, its fields, whether it needs a plan, and what it writes, if
-    it does."""
+    """A verb with its heading, if it has fields, its button, a sentence on it, what it says if it was refused, its fields, whether it needs
+    a plan, and what it writes, if it does."""
 
     verb: str
     heading: str
     button: str
     text: str
+    refused: str
     fields: Tuple[str, ...] = ()
     needs_plan: bool = True
     writes: str = _NEW_PLAN
 
 
 FORMS = (
-    Form("check", "", "Read the spreadsheet", "names its mistakes, and prints the ward in sentences; writes nothing", (), False, ""),
-    Form("plan", "Plan", "Plan", "the weeks that are not over", ("from", "seconds", "free"), False),
-    Form("away", "A nurse is away", "Write an absence", _AWAY_TEXT, ("nurse", "first", "last", "reason", "seconds")),
-    Form("back", "A nurse is back", "Back", "from a day on, with few changes", ("nurse", "first", "seconds")),
-    Form("swap", "Two nurses swap", "Look", "what it costs, and who else could swap", ("nurse", "first", "other", "other day", "write it")),
-    Form("over", "The week is over", "End the week", _OVER_TEXT, ("corrections",)),
-    Form("page", "", "Publish", "the plan; from now on plans change little", (), True, "the page for the wall and the calendars"),
-    Form("undo", "", "Undo", "the plan before the last verb holds again", (), False, "its pages"),
+    Form("check", "", "Read the spreadsheet", "names its mistakes, and prints the ward in sentences; writes nothing", "", (), False, ""),
+    Form("plan", "Plan", "Plan", "the weeks that are not over", "a new plan was not written", ("from", "seconds", "free"), False),
+    Form("away", "A nurse is away", "Write an absence", _AWAY_TEXT, "the absence of {nurse} was not written", _AWAY_FIELDS),
+    Form("back", "A nurse is back", "Back", _BACK_TEXT, "it was not written that {nurse} is back", ("nurse", "first", "seconds")),
+    Form("swap", "Two nurses swap", "Look", _SWAP_TEXT, "the swap of {nurse} and {other} was not written", _SWAP_FIELDS),
+    Form("over", "The week is over", "End the week", _OVER_TEXT, "the end of the week was not written", ("corrections",)),
+    Form("page", "", "Publish", "the plan; from now on plans change little", "the plan was not published", (), True, _PAGES),
+    Form("undo", "", "Undo", "the plan before the last verb holds again", "nothing was taken back", (), False, "its pages"),
 )
+_BY_VERB = {form.verb: form for form in FORMS}
 _CHECKS = ("free", "write it")
 _LABELS = {"first": "day", "last": "last day", "other": "with", "free": "all shifts may change"}
 
 
 def writes(fields: Fields) -> str:
     """What the verb of a form writes; nothing if it only reads."""
-    if fields.get("verb") == "swap" and "write it" not in fields:
-        return ""
-    return next((form.writes for form in FORMS if form.verb == fields.get("verb")), "")
+    verb = fields.get("verb", "")
+    only_reads = verb not in _BY_VERB or (verb == "swap" and "write it" not in fields)
+    return "" if only_reads else _BY_VERB[verb].writes
 
 
 def not_written(fields: Fields) -> List[str]:
     """A line that names what was not written of a form that was refused; none if its verb only reads."""
     nurse, other = (readable(fields.get(name, "")) for name in ("nurse", "other"))
-    said = {
-        "plan": "a new plan was not written",
-        "away": f"the absence of {nurse} was not written",
-        "back": f"it was not written that {nurse} is back",
-        "swap": f"the swap of {nurse} and {other} was not written",
-        "over": "the end of the week was not written",
-        "page": "the plan was not published",
-        "undo": "nothing was taken back",
-    }
-    return [said[fields["verb"]]] if writes(fields) else []
+    return [_BY_VERB[fields["verb"]].refused.format(nurse=nurse, other=other)] if writes(fields) else []
 
 
 def verb_of(fields: Fields, seconds: Optional[float] = None) -> Callable[[Verbs], List[str]]:
     """The verb that a form asks for; a search has so many seconds, if the form does not say how many."""
     verb = fields.get("verb", "")
-    if verb not in [form.verb for form in FORMS]:
+    if verb not in _BY_VERB:
         raise Misuse(f"'{verb}' is no button of this page: it has {quoted(form.button for form in FORMS)}")
     words = [fields[name] for name in ("nurse", "first", "other", "other day", "last", "from") if fields.get(name)]
     found: Dict[str, Callable[[Verbs], List[str]]] = {
@@ -124,7 +121,7 @@ def form_markup(
 
 def sure_markup(fields: Fields, plan: Optional[WardPlan], address: str, lines: Sequence[str] = ()) -> Markup:
     """The question before a verb writes, with these lines. Without a plan, which the spreadsheet may not give now, it is undo."""
-    form = next(form for form in FORMS if form.verb == fields["verb"])
+    form = _BY_VERB[fields["verb"]]
     hidden = [element("input", type="hidden", name=name, value=value) for name, value in {**fields, SURE: "yes"}.items()]
     yes = element("button", "Yes, write it", autofocus="")
     return element(
