@@ -1,6 +1,6 @@
 """The names and days that follow a verb."""
 
-from typing import Collection, NoReturn, Optional, Sequence, Tuple
+from typing import Collection, List, NoReturn, Optional, Sequence, Tuple
 
 from ..judging.absences import readable
 from ..sheets.sheet_rows import tidy
@@ -29,15 +29,9 @@ class Wording:
         if self.is_over:
             self._misuse("a nurse is missing")
         text = self._left.pop(0)
-        while self._left and not is_day(self._left[0]) and not self._is_nurse(text):
+        while self._left and not is_day(self._left[0]) and not _named(text, self._nurses, whole=True):
             text += f" {self._left.pop(0)}"
         return self._known("nurse", text, self._nurses)
-
-    def _is_nurse(self, text: str) -> bool:
-        return any(text.casefold() == readable(nurse).casefold() for nurse in self._nurses)
-
-    def _begins_name(self, text: str) -> bool:
-        return any(readable(nurse).casefold().startswith(text.casefold()) for nurse in self._nurses)
 
     def day(self, near: Optional[int] = None) -> int:
         """A day; a day of the week is the first one from the day `near` on, or from the first day that is not over."""
@@ -46,7 +40,7 @@ class Wording:
         text = self._left.pop(0)
         if self._left and self._left[0].isdigit():
             text += f" {self._left.pop(0)}"
-        if text[-1:].isdigit() and self._left and self._left[0].title() in MONTHS and not self._begins_name(self._left[0]):
+        if text[-1:].isdigit() and self._left and self._left[0].title() in MONTHS and not _named(self._left[0], self._nurses):
             text += f" {self._left.pop(0)}"
         return self._days.number(text, self._first if near is None else near)
 
@@ -76,9 +70,7 @@ class Wording:
             self._misuse(f"'{self._left[0]}' is a word too many")
 
     def _known(self, kind: str, text: str, names: Collection[str]) -> str:
-        wanted = text.replace(" ", "_").casefold()
-        same = [name for name in names if name.casefold() == wanted]
-        begun = [name for name in names if name.casefold().startswith(wanted)]
+        same, begun = _named(text, names, whole=True), _named(text, names)
         if len(same or begun) == 1:
             return (same or begun)[0]
         if begun:
@@ -88,3 +80,9 @@ class Wording:
 
     def _misuse(self, what: str) -> NoReturn:
         raise Misuse(f"{what}: write, for example, {self._usage}")
+
+
+def _named(text: str, names: Collection[str], whole: bool = False) -> List[str]:
+    """The names that begin with this text, in small or capital letters, or those that it is as a whole."""
+    wanted = text.replace(" ", "_").casefold()
+    return [name for name in names if name.casefold()[: None if whole else len(wanted)] == wanted]

@@ -99,6 +99,7 @@ class Words(unittest.TestCase):
             ("", "a nurse is missing: write, for example, ill Anna Fri"),
             ("Sun Li", "a day is missing: write, for example, ill Anna Fri"),
             ("Sun Li Fri soon", "'soon' is a word too many: write, for example, ill Anna Fri"),
+            ("sun_li soon", "'soon' is no day: write a day such as 2026-11-30, or Fri for the next Friday of the plan"),
         ):
             with self.subTest(line), self.assertRaises(Misuse) as caught:
                 words = self.wording(line)
