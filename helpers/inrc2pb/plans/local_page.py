@@ -178,7 +178,7 @@ def _cell(plan: WardPlan, place: Place, address: str, stamp: str) -> Markup:
     week = plan.view().weeks[day // WEEK_DAYS - plan.open_week]
     names = day_names(plan.days.monday, day // WEEK_DAYS)
     charged = [charge for charge in week.charges or () if charge.nurse == nurse]
-    items = [element("li", readable(f"{charge.cost} ({charge.rule}) {in_words(charge, False, names)}")) for charge in charged]
+    items = [element("li", readable(f"{charge.cost} points: {in_words(charge, False, names)}")) for charge in charged]
     nothing = "nothing is charged in this week" if week.charges is not None else "this week has no cost, since it breaks a hard rule"
     swaps = Swaps(plan)
     cell = swaps.works(nurse, day)

@@ -5,7 +5,6 @@ from typing import List, Optional, Sequence, Set, Tuple
 
 from ..judging.absences import joined, readable
 from ..programs.program import BROKEN_RULE
-from ..shown.why import change_lines as charge_lines
 from ..week.faults import FileFault, Misuse
 from ..week.records import Cell
 from .agreed_days import AgreedDay
@@ -14,7 +13,7 @@ from .not_kept import exceeded_lines
 from .plan_days import WEEK_DAYS
 from .plan_store import PlanStore, cost_lines, known_record, wording_of
 from .shift_changes import call_lines, change_lines, shift_changes
-from .swap_words import offer_lines, shift_of
+from .swap_words import charge_lines, offer_lines, shift_of
 from .swaps import Swap, Swaps, swapped
 from .ward_plan import Stored, WardPlan, read_stored
 from .wish_words import wish_lines
@@ -74,8 +73,7 @@ def _lines(old: WardPlan, new: WardPlan) -> List[str]:
     changes = shift_changes(old.cells(), new.cells())
     lines = [*change_lines(changes, old.days), *call_lines(changes), *wish_lines(old, new)]
     before = set(beside_lines(old))
-    lines += [line for line in beside_lines(new) if line not in before]
-    return lines + [readable(line) for line in charge_lines(old.view(), new.view()) if line[:1] in " +-"]
+    return [*lines, *(line for line in beside_lines(new) if line not in before), *charge_lines(old, new)]
 
 
 def _named(plan: WardPlan, swap: Swap) -> str:

@@ -1,8 +1,9 @@
 """Swaps in words."""
 
-from typing import List, Tuple
+from typing import Iterator, List, Tuple
 
 from ..judging.absences import readable
+from ..shown.charge_words import difference, in_words
 from ..week.faults import Misuse
 from .plan_days import PlanDays
 from .swaps import Offer, Swap, Swaps
@@ -45,3 +46,19 @@ def offer_text(days: PlanDays, swaps: Swaps, offer: Offer) -> str:
     one, other, _ = offer.swap
     given = [f"{readable(cell.shift)} on {days.text(day)}" for day in offer.swap.days for cell in [swaps.works(other, day)] if cell]
     return f"{offer.cost:+5}  {readable(other)} takes it" + "".join(f", and {readable(one)} her {shift}" for shift in given)
+
+
+def charge_lines(old: WardPlan, new: WardPlan) -> Iterator[str]:
+    """The charges that a swap saves or adds, and their sum; nothing if a plan has no cost, since it breaks a hard rule."""
+    before, now = old.view().penalty, new.view().penalty
+    if before is None or now is None:
+        return
+    saved, added = difference(_charged(old), _charged(new))
+    yield from (f"{cost:+5}  {words}" for cost, words in (*((-cost, words) for cost, words in saved), *added))
+    yield f"{now - before:+5}  in all: {now} points instead of {before}"
+
+
+def _charged(plan: WardPlan) -> List[Tuple[int, str]]:
+    """The cost of each charge, and the charge in words."""
+    weeks = ((week.charges or (), plan.day_names(week.number)) for week in plan.view().weeks)
+    return [(charge.cost, readable(in_words(charge, names=names))) for charges, names in weeks for charge in charges]

@@ -24,10 +24,10 @@ def _in_a_row(charge: Charge, what: str, monday: str) -> str:
     return f"only {run}{' in a row' if charge.number > 1 else ''}{before}, at least {charge.limit}"
 
 
-def _in_the_period(charge: Charge, what: str) -> str:
+def _in_the_period(charge: Charge, what: str, monday: str) -> str:
     """A total of the period that is too large or too small."""
     side = "at least" if charge.what == "below" else "at most"
-    return f"{plural(charge.number, what)} in the period ({charge.before} before this week), {side} {charge.limit}"
+    return f"{plural(charge.number, what)} in the period ({charge.before} before {monday}), {side} {charge.limit}"
 
 
 def _not_granted(charge: Charge) -> str:
@@ -51,7 +51,7 @@ def reason(charge: Charge, monday: str) -> str:
         return f"on {charge.subject}, {_not_granted(charge)}"
     if charge.rule == "S5":
         return "half a weekend"
-    return _in_the_period(charge, "shift" if charge.rule == "S6" else "weekend")
+    return _in_the_period(charge, "shift" if charge.rule == "S6" else "weekend", monday)
 
 
 def in_words(charge: Charge, with_nurse: bool = True, names: Sequence[str] = DAYS) -> str:

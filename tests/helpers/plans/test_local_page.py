@@ -197,7 +197,9 @@ class Page(ServedPage):
         self.rows["plan"][3][1] = "leave"
         self.write()
         self.write_plan()
-        self.assertIn("<h2>Chen, Mon 30 Nov: leave</h2>", self.asks(path=f"{self.site.path}?nurse=Chen&day=0")[1])
+        page = self.asks(path=f"{self.site.path}?nurse=Chen&day=0")[1]
+        self.assertIn("<h2>Chen, Mon 30 Nov: leave</h2>", page)
+        self.assertIn("<li>10 points: Sat 5 Dec: on Night, and asked to be off</li>", page)
 
     def test_a_look_for_a_swap_has_a_button_that_writes_it(self):
         self.write_plan()

@@ -317,6 +317,21 @@ class Verbs(FolderTest):
             self.does("undo")
         self.assertTrue(offers)
 
+    def test_what_a_swap_costs_in_words(self):
+        self.write_plan()
+        before = sum(self.points())
+        # Chen was off on the Sunday before, and is off on Tuesday; both have 10 shifts of at least 17.
+        self.assertIn("\n".join([
+            " -140  Chen: 10 shifts in the period (5 before Mon 7 Dec), at least 17",
+            " -140  Grace: 10 shifts in the period (5 before Mon 7 Dec), at least 17",
+            "  +15  Chen, Mon 30 Nov: only 1 day on Day, at least 2",
+            "  +60  Chen, Mon 30 Nov: only 1 day with work, at least 3",
+            "  +30  Chen, before Mon 30 Nov: only 1 day off, at least 2",
+            "  +30  Chen, Tue 1 Dec: only 1 day off, at least 2",
+            " +120  Chen: 11 shifts in the period (6 before Mon 7 Dec), at least 17",
+            " +160  Grace: 9 shifts in the period (4 before Mon 7 Dec), at least 17",
+            f" +135  in all: {before + 135} points instead of {before}\n"]), self.does("swap", "Grace", "Mon", "Chen"))  # fmt: skip
+
     def test_a_swap_above_a_limit_that_holds(self):
         self.begin()
         sheet = read_sheet(self.ward, None, ())

@@ -78,8 +78,8 @@ class Why(HelperTest):
             "   20  S4  Amara, Wed: on Day, and asked to be off (2 requests)",
             "   10  S4  Amara, Wed: on Day, and asked for no Day",
             "   30  S5  Amara, Sun: half a weekend",
-            "   40  S6  Amara: 6 shifts in the period (2 before this week), at most 4",
-            "   30  S7  Amara: 1 weekend in the period (0 before this week), at most 0",
+            "   40  S6  Amara: 6 shifts in the period (2 before Monday), at most 4",
+            "   30  S7  Amara: 1 weekend in the period (0 before Monday), at most 0",
             "   15  S2  Chen, before Monday: only 1 day on Late, at least 2",
             "   15  S2  Chen, Fri: only 1 day on Late, at least 2",
             "   30  S2  Chen, before Monday: only 1 day with work, at least 2",
@@ -87,7 +87,7 @@ class Why(HelperTest):
             "   90  S3  Chen, Mon to Thu: 4 days off in a row, at most 1",
             "   30  S3  Chen, Sat to Sun: 2 days off in a row, at most 1",
             "  300  S4  Chen, Fri: on Late, while away (30 requests)",
-            "   40  S6  Chen: 1 shift in the period (0 before this week), at least 3",
+            "   40  S6  Chen: 1 shift in the period (0 before Monday), at least 3",
             "  800  in all: S1 30 + S2 120 + S3 180 + S4 330 + S5 30 + S6 80 + S7 30",
         ])  # fmt: skip
         self.assertEqual(sums(printed), program.extend(program.WeekFiles(ward, history, week), roster)[1].by_rule)
