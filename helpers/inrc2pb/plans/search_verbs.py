@@ -87,10 +87,10 @@ def back(store: PlanStore, words: Sequence[str], seconds: Optional[float]) -> Li
     same = [day for day in lifted.days if new.away.get((nurse, day)) == lifted.word]
     # The spreadsheet has the same absence.
     new = store.current(with_days(lifted.written, nurse, same, BACK)) if same else new
-    said = f"{readable(nurse)}: back, {old.days.span(lifted.days)} ({lifted.word})"
-    store.means.say(said)
+    said = [f"{readable(nurse)}: back, {old.days.span(lifted.days)} ({lifted.word})", *stays_away_lines(new, nurse, first)]
+    store.means.say("\n".join(said))
     named = f"back {nurse} {old.days.head(first)}"
-    lines = [*[said] * store.only_reads, *stays_away_lines(new, nurse, first), *part_lines(old, new, nurse)]
+    lines = [*said * store.only_reads, *part_lines(old, new, nurse)]
     return [*lines, *_search(store, named, new, Asked(first, True, seconds or CHANGE_SECONDS), old)]
 
 

@@ -59,8 +59,9 @@ class Back(BackTest):
         self.begin_with(*[""] * 7, *["leave"] * 5)
         self.lines("ill", "Chen", "Wed", "Sun")
         lines = self.lines("back", "Chen", "Sat")
-        self.assertEqual(lines[0], "Chen: back, Sat 5 Dec to Sun 6 Dec (ill)")
-        self.assertIn("Chen stays away: leave, Mon 7 Dec to Fri 11 Dec", lines)
+        # Both lines come before the search.
+        self.assertEqual(lines[:2], ["Chen: back, Sat 5 Dec to Sun 6 Dec (ill)", "Chen stays away: leave, Mon 7 Dec to Fri 11 Dec"])
+        self.assertIn(", at most 30 s; ", lines[2])
         self.assertEqual(self.away(), {**_days(2, 4, "ill"), **_days(7, 11, "leave")})
 
     def test_an_unpaid_day_after_an_illness_stays(self):
