@@ -154,7 +154,8 @@ class RosterTable:
             ]
             *above, days = day_heads(self.page, weeks, "nurse")
             if beside:
-                above = [joined(head, element("th", "in all", scope="colgroup", colspan=str(len(self._sums())))) for head in above]
+                summed = element("th", self.view.weeks_text, scope="colgroup", colspan=str(len(self._sums())))
+                above = [joined(head, summed) for head in above]
                 days = joined(days, *(column(name, "sum") for name in self._sums()))
             room = " roomy" * (self.page.only_table and len(groups) == 1 and len(rows) <= MOST_ROOMY)
             yield table("Shifts of each nurse", [*above, days], rows, ("roster" if self.single else "roster many") + room)
