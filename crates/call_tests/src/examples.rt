@@ -3,14 +3,26 @@ ghost use Rattle.rota_core.specs.InstanceTables.{problem_of};
 ghost use Rattle.rota_core.specs.RosterTables.{HasShapeOf};
 
 use crate::week_files::{instance_of, one_nurse_one_shift, run_in_the_history};
+use byte_ports::{CallPlan, MemoryTarget, Target};
 use opb_text::{OpbTaker, Sink};
-use rota_core::{CallPlan, Cell, FileFault, Instance, MemoryTarget, Roster, Rule};
+use rota_core::{Cell, FileFault, Instance, Roster, Rule};
 use rota_items::{Counts, Judge, Part, Taker, verdict_of};
 use rota_read::{read_history, read_scenario};
 use solver_text::{Answer, Status};
 use std::alloc::Global;
 use std::process::Abort;
 use std::test::Fail;
+
+#[test]
+fn example_of_byte_ports(rt: HostRuntime) -> Result<(), Fail> {
+    let alloc = rt.alloc();
+    let mut target = MemoryTarget::new(alloc, 100, CallPlan::new(2, None))?;
+    let sent = target.write(b"text")?;
+    assert_eq!(rt; sent, 2);
+    target.flush()?;
+    assert_eq!(rt; target.bytes(), b"te".as_slice());
+    Ok(())
+}
 
 #[test]
 fn rosters_are_filled(rt: HostRuntime) -> Result<(), Fail> {

@@ -1,5 +1,5 @@
 //! Ports over memory.
-use rota_core::{CallPlan, MemorySource, MemoryTarget, PortFault, Source, Target};
+use byte_ports::{CallPlan, MemorySource, MemoryTarget, PortFault, Source, Target};
 use std::test::Fail;
 
 #[test]

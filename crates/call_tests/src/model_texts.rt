@@ -1,8 +1,9 @@
 //! Rows of tiny models, put event by event, and targets and writers that fail.
 use crate::own_source::Tape;
 use crate::week_files::one_nurse_one_shift;
+use byte_ports::{CallPlan, MemoryTarget, PortFault, Target, ToWrite};
 use opb_text::{OpbTaker, Sink};
-use rota_core::{CallPlan, MemoryTarget, PortFault, Rule, Target, ToWrite};
+use rota_core::Rule;
 use rota_items::{Counts, Part, Taker};
 use rota_pb::{Choice, Fault, run_encode, status_of};
 use std::alloc::{AllocError, Global};

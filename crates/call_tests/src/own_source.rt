@@ -1,7 +1,7 @@
 //! Bytes in memory, at most seven per call: the example of your own source in `docs/embedding.md`.
 ghost use Rattle.std.specs.Prelude.{None, false};
 
-use rota_core::{PortFault, Source};
+use byte_ports::{PortFault, Source};
 
 /// Bytes that are returned in small pieces.
 #[derive(Drop)]

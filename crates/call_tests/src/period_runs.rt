@@ -4,7 +4,8 @@ use crate::small_periods::{
     ANN_WORKS, NOBODY, PROOF_OF_ONE, PROOF_OF_TWO, Run, TWO_FACTS, one_week, perform, two_weeks,
 };
 use crate::week_files::{WeekFiles as Week, one_nurse_one_shift, two_nurses};
-use rota_core::{CallPlan, FileFault, FileName, Kind, MemoryTarget, Rule};
+use byte_ports::{CallPlan, MemoryTarget};
+use rota_core::{FileFault, FileName, Kind, Rule};
 use rota_pb::{Fault, PeriodFault, period_status};
 use std::alloc::Global;
 use std::process::Abort;

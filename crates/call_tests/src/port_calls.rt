@@ -4,7 +4,8 @@ ghost use Rattle.std.specs.Prelude.{None};
 
 use crate::target_calls::{Allowance, Calls, Counted};
 use crate::week_files::{instance_of, one_nurse_one_shift};
-use rota_core::{Instance, PortFault, Roster, Source};
+use byte_ports::{PortFault, Source};
+use rota_core::{Instance, Roster};
 use rota_pb::{Choice, Fault, encode, extend, run_decode, write_solution};
 use solver_text::AnswerFault;
 use std::alloc::Global;

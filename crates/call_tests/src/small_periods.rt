@@ -1,7 +1,7 @@
 //! Runs for one week and for two, over files in memory.
 use crate::week_files::WeekFiles as Week;
+use byte_ports::{CallPlan, MemorySource, MemoryTarget};
 use rota_bound_run::{PeriodFiles, Question, WeekFiles, run_bound};
-use rota_core::{CallPlan, MemorySource, MemoryTarget};
 use rota_pb::PeriodFault;
 use std::alloc::{AllocError, Global};
 

@@ -2,7 +2,7 @@
 //! and writes are passed on, and so is each flush.
 ghost use Rattle.std.specs.Prelude.{◌≡◌, ◌≤◌, IfOk};
 
-use rota_core::{FromRead, PortFault, Source, Target, ToWrite};
+use byte_ports::{FromRead, PortFault, Source, Target, ToWrite};
 use std::io;
 use std::io::{ErrorKind, Read, Write};
 use std::test::Fail;

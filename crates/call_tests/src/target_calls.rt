@@ -2,8 +2,8 @@
 //! and once to flush it. After a call that failed it is not called again.
 ghost use Rattle.std.specs.Prelude.{◌≡◌, ◌||◌, IsErr, None, false, is_err, true};
 
+use byte_ports::{PortFault, Target};
 use opb_text::Sink;
-use rota_core::{PortFault, Target};
 use std::process::Abort;
 
 /// The number of calls of a target, including failed calls.

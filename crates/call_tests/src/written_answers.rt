@@ -4,8 +4,8 @@ ghost use Rattle.solver_text.specs.AnswerWriter.{phase_of};
 ghost use Rattle.solver_text.specs.declared.answer_writer.Phase.TheVariants.{Started};
 
 use crate::answers::{Said, in_pieces};
+use byte_ports::{CallPlan, MemoryTarget, PortFault, Target};
 use opb_text::Sink;
-use rota_core::{CallPlan, MemoryTarget, PortFault, Target};
 use solver_text::{AnswerWriter, Status};
 use std::alloc::{AllocError, Global};
 use std::test::Fail;

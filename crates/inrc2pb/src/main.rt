@@ -4,9 +4,9 @@
 //! into such an answer. `make tour` runs all three with a solver, and shows each command before it runs.
 #![tactic(auto)]
 
+use byte_ports::{FromRead, ToWrite};
 use inrc2pb_frame::{FileOnFirstWrite, HostFiles, StandardInput, StderrPrinter, StdoutPrinter};
 use inrc2pb_program::program;
-use rota_core::{FromRead, ToWrite};
 use std::process::ExitCode;
 use std::{env, io};
 

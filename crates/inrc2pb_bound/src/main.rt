@@ -2,9 +2,9 @@
 //! proof that rosters are optimal, or that none exist.
 #![tactic(auto)]
 
+use byte_ports::ToWrite;
 use inrc2pb_bound_program::program;
 use inrc2pb_frame::{HostFiles, StderrPrinter, StdoutPrinter};
-use rota_core::ToWrite;
 use std::process::ExitCode;
 use std::{env, io};
 

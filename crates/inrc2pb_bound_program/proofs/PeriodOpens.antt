@@ -2,7 +2,7 @@
 use Rattle.std.proofs.Common.{◌≡◌, ◌∙◌, ◌+◌, ◌<◌, ℕ, ap, sym, refl, subst, List, [], ◌∷◌, ◌++◌, append_assoc, drop, get_or, length, take}
 use Rattle.std.proofs.Common.{suc, None, Some, Result, Ok, Err, IfErr, arith, false, if◌then◌else◌, is_err, is_ok}
 use Rattle.std.proofs.lemmas.List.{append-nil, drop_more, take-append-drop, take_more}
-use Rattle.rota_core.specs.declared.ports.Source.{Ghosts}
+use Rattle.byte_ports.specs.declared.ports.Source.{Ghosts}
 use Rattle.rota_pb.specs.declared.fault.Fault.{Fault}
 use Rattle.rota_pb.specs.declared.fault.Fault.TheVariants.{Memory}
 use Rattle.inrc2pb_job.specs.OpenCalls.{Opener, OpensAll, StopsOpening, opener_of}

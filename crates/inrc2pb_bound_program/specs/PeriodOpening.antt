@@ -1,7 +1,7 @@
 -- The files of a period, opened one after the other.
 use Rattle.std.specs.Prelude.{◌≡◌, List, [], ◌∷◌, ◌++◌, Option, Some, None, string_bytes, ⊤}
 use Rattle.std.specs.declared.string.String.{String}
-use Rattle.rota_core.specs.declared.ports.Source.{Ghosts}
+use Rattle.byte_ports.specs.declared.ports.Source.{Ghosts}
 use Rattle.rota_pb.specs.declared.fault.Fault.{Fault}
 use Rattle.rota_pb.specs.declared.fault.Fault.TheVariants.{Memory, Read}
 use Rattle.inrc2pb_job.specs.OpenCalls.{FailsToOpen, Opener, OpensEach}

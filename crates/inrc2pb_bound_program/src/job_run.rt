@@ -6,9 +6,9 @@ ghost use Rattle.inrc2pb_bound_program.specs.BoundPrograms.{BoundOutcome};
 
 use crate::job::BoundJob;
 use crate::open_files::open_period;
+use byte_ports::Target;
 use inrc2pb_job::Opens;
 use rota_bound_run::run_bound;
-use rota_core::Target;
 use rota_pb::PeriodFault;
 use std::alloc::Global;
 

@@ -1,10 +1,10 @@
 -- The calls that the program's own ports pass on.
 use Rattle.std.specs.Prelude.{◌≡◌, ℕ, ◌<◌, Bool, false, List, length, Option, None, Some, Result, IsErr, IsOk}
 use Rattle.std.specs.Io.KnownBytes.{Keeps, WriteAppends}
-use Rattle.rota_core.specs.Ports.{KnownBytes}
-use Rattle.rota_core.specs.StdPorts.{inner_writer}
-use Rattle.rota_core.specs.declared.ports.PortFault.{PortFault}
-use Rattle.rota_core.specs.declared.std_ports.ToWrite.{ToWrite}
+use Rattle.byte_ports.specs.Ports.{KnownBytes}
+use Rattle.byte_ports.specs.StdPorts.{inner_writer}
+use Rattle.byte_ports.specs.declared.ports.PortFault.{PortFault}
+use Rattle.byte_ports.specs.declared.std_ports.ToWrite.{ToWrite}
 
 -- a piece was written to the file, which was opened first if it was not open yet: exactly the bytes that the answer counts; if the file
 -- could not be opened, the write of a piece that is not empty failed

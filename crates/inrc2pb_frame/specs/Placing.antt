@@ -2,7 +2,7 @@
 use Rattle.std.specs.Prelude.{◌≡◌, Option, None}
 use Rattle.rota_pb.specs.RunPorts.{RunPort}
 pub use Rattle.inrc2pb_job.specs.Paths.{Path}
-pub use Rattle.rota_core.specs.declared.ports.Target.{Ghosts as TargetGhosts}
+pub use Rattle.byte_ports.specs.declared.ports.Target.{Ghosts as TargetGhosts}
 
 -- a file that a job may write: a target that may have a path
 pub record FileGhosts (F : Type 0) : Type 1 where

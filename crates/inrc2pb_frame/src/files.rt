@@ -3,13 +3,13 @@ ghost use Rattle.std.specs.Prelude.{◌≡◌, None, true, false, IfErr, IfOk, o
 ghost use Rattle.std.specs.Fs.{new_options, with_create, with_truncate, with_write};
 ghost use Rattle.inrc2pb_frame.specs.Files.{IsFlushed, IsKept, IsWritten, left_of};
 ghost use Rattle.inrc2pb_frame.specs.Placing.{IsPlaced, file_ghosts};
-ghost use Rattle.rota_core.specs.TargetCalls.{CountsBytes, FlushesSent, WritesPiece};
+ghost use Rattle.byte_ports.specs.TargetCalls.{CountsBytes, FlushesSent, WritesPiece};
 ghost use Rattle.inrc2pb_job.specs.Paths.{unknown};
-ghost use Rattle.rota_core.specs.StdPorts.{IsUnasked};
+ghost use Rattle.byte_ports.specs.StdPorts.{IsUnasked};
 
 use crate::output_file::OutputFile;
+use byte_ports::{FromRead, PortFault, Target, ToWrite};
 use inrc2pb_job::{HasPath, Opens};
-use rota_core::{FromRead, PortFault, Target, ToWrite};
 use std::alloc::AllocError;
 use std::fs::OpenOptions;
 use std::io::Read;

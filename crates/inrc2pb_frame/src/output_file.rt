@@ -2,8 +2,8 @@
 ghost use Rattle.std.specs.Prelude.{◌≡◌, IfErr, IfOk, None, option_map};
 ghost use Rattle.inrc2pb_frame.specs.Placing.{IsPlaced, file_ghosts};
 
+use byte_ports::Target;
 use inrc2pb_job::HasPath;
-use rota_core::Target;
 use std::alloc::AllocError;
 
 /// The file that a job writes. Its path is known only after the words have been read.

@@ -4,7 +4,7 @@ use Rattle.std.proofs.lemmas.List.Elements.{All-append}
 use Rattle.std.specs.List.{All}
 use Rattle.inrc2pb_job.specs.OpenCalls.{FailsToOpen, Opener, OpensAll, StopsOpening}
 use Rattle.inrc2pb_job.specs.Opening.{OneRefused}
-use Rattle.rota_core.specs.declared.ports.Source.{Ghosts}
+use Rattle.byte_ports.specs.declared.ports.Source.{Ghosts}
 use Rattle.rota_pb.specs.declared.fault.Fault.{Fault}
 use Rattle.rota_pb.specs.declared.fault.Fault.TheVariants.{Read}
 use Rattle.inrc2pb_job.specs.Paths.{PathLog, IsNew, MayOpen, MayRefuse, Path, FileAt, with_paths}

@@ -1,6 +1,6 @@
 -- Files that are opened one after the other.
 use Rattle.std.specs.Prelude.{◌≡◌, List, [], ◌∷◌, ◌++◌, All}
-use Rattle.rota_core.specs.declared.ports.Source.{Ghosts}
+use Rattle.byte_ports.specs.declared.ports.Source.{Ghosts}
 use Rattle.inrc2pb_job.specs.Paths.{PathLog, MayOpen, MayRefuse, Path, FileAt, with_paths}
 
 -- a file opened at each of these paths, and no other path was asked for

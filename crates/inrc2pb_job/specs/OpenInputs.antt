@@ -1,6 +1,6 @@
 -- The inputs of a job, open.
 use Rattle.std.specs.Prelude.{⊤, false, true}
-use Rattle.rota_core.specs.declared.ports.Source.{Ghosts}
+use Rattle.byte_ports.specs.declared.ports.Source.{Ghosts}
 use Rattle.rota_pb.specs.RunPorts.{WeekReaders, reader_of}
 use Rattle.inrc2pb_job.specs.Jobs.{[], Option, Some, None, option_map, string_bytes, FileAt, Inputs, IsChoiceOf, IsNew, Path}
 use Rattle.inrc2pb_job.specs.declared.optional_file.OptionalFile.{OptionalFile}

@@ -1,6 +1,6 @@
 -- The contents of a path, and the paths that were asked for.
 use Rattle.std.specs.Prelude.{◌≡◌, ℕ, List, ◌++◌, false, Option, Some, option_map, ⊤}
-use Rattle.rota_core.specs.declared.ports.Source.{Ghosts}
+use Rattle.byte_ports.specs.declared.ports.Source.{Ghosts}
 
 -- the bytes of a path
 abbrev pub Path : Type 0

@@ -10,7 +10,7 @@ ghost use Rattle.rota_pb.specs.RunPorts.{reader_of, writer_of};
 use crate::job::{Inputs, Job};
 use crate::open_files::{OpenInputs, open, open_inputs};
 use crate::paths::{HasPath, Opens};
-use rota_core::{Source, Target};
+use byte_ports::{Source, Target};
 use rota_pb::{Fault, run_decode, run_encode, run_extend};
 use std::alloc::Global;
 

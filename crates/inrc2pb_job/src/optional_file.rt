@@ -2,7 +2,7 @@
 ghost use Rattle.std.specs.Prelude.{Some, [], false, true};
 ghost use Rattle.inrc2pb_job.specs.declared.optional_file.OptionalFile.TheVariants.{Absent, Named};
 
-use rota_core::{PortFault, Source};
+use byte_ports::{PortFault, Source};
 
 /// A file, if one is named, otherwise an empty file at its end.
 #[derive(Drop)]

@@ -3,7 +3,7 @@ ghost use Rattle.std.specs.Prelude.{Option, None, IfErr, IfOk};
 ghost use Rattle.inrc2pb_job.specs.Opening.{AsksFor};
 ghost use Rattle.inrc2pb_job.specs.Paths.{PathLog, IsNew, MayRefuse, Path, FileAt};
 
-use rota_core::{PortFault, Source, ToWrite};
+use byte_ports::{PortFault, Source, ToWrite};
 
 /// Opens files by their paths.
 pub trait Opens {

@@ -11,9 +11,9 @@ ghost use Rattle.rota_pb.specs.RunPorts.{reader_of, writer_of};
 
 use crate::command::NAME;
 use crate::command_line;
+use byte_ports::{Source, Target};
 use inrc2pb_frame::{OutputFile, Printer, Stop, borrowed, exit_code, kept};
 use inrc2pb_job::{HasPath, Job, Opens, perform};
-use rota_core::{Source, Target};
 use rota_pb::{Fault, PeriodFault};
 use std::alloc::Global;
 use std::env::Args;

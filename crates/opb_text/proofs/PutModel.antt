@@ -5,8 +5,8 @@ use Rattle.std.specs.List.{AllByRecursion}
 use Rattle.std.proofs.lemmas.List.{length-map}
 use Rattle.rota_core.specs.Problem.{Problem}
 use Rattle.rota_core.proofs.LogicWords.{all-weaker}
-use Rattle.rota_core.specs.declared.ports.PortFault.{PortFault}
-use Rattle.rota_core.specs.declared.ports.Target.{Ghosts}
+use Rattle.byte_ports.specs.declared.ports.PortFault.{PortFault}
+use Rattle.byte_ports.specs.declared.ports.Target.{Ghosts}
 use Rattle.rota_items.specs.declared.part.Part.{Part}
 use Rattle.rota_items.specs.declared.part.Part.TheVariants.{Objective, Hard, Soft}
 use Rattle.rota_items.specs.Events.{events}

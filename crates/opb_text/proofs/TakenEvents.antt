@@ -4,9 +4,9 @@ use Rattle.std.proofs.Common.{List, [], ◌∷◌, ◌++◌, Option, None, Some,
 use Rattle.std.specs.Prelude.{if◌then◌else◌, MatchResult, OnOk}
 use Rattle.std.specs.List.{fold}
 use Rattle.std.specs.Io.KnownBytes.{append_known}
-use Rattle.rota_core.specs.Ports.{KnownBytes, Begins}
-use Rattle.rota_core.specs.declared.ports.PortFault.{PortFault}
-use Rattle.rota_core.specs.declared.ports.Target.{Ghosts}
+use Rattle.byte_ports.specs.Ports.{KnownBytes, Begins}
+use Rattle.byte_ports.specs.declared.ports.PortFault.{PortFault}
+use Rattle.byte_ports.specs.declared.ports.Target.{Ghosts}
 use Rattle.rota_items.specs.Takes.{RefusedOne, TookAll, TakesAll}
 use Rattle.text_sink.specs.Sink.{PutsText, bytes_put, sent_by, sink_failed, target_of}
 use Rattle.opb_text.specs.SinkTaker.{EventTexts, FailedAt, SinkState, joined_texts, with_event, sink_state}

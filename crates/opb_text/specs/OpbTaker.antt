@@ -1,7 +1,7 @@
 -- The abstract value of the taker that writes rows as text.
 use Rattle.std.specs.Prelude.{◌≡◌, Bool, Result, MatchResult}
-use Rattle.rota_core.specs.declared.ports.PortFault.{PortFault}
-use Rattle.rota_core.specs.declared.ports.Target.{Ghosts}
+use Rattle.byte_ports.specs.declared.ports.PortFault.{PortFault}
+use Rattle.byte_ports.specs.declared.ports.Target.{Ghosts}
 use Rattle.rota_items.specs.Events.{Event}
 use Rattle.rota_items.specs.declared.takers.Taker.{Ghosts as TakerGhosts}
 use Rattle.opb_text.specs.EventText.{opb_texts}

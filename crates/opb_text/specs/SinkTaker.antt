@@ -1,9 +1,9 @@
 -- The abstract value of a taker that writes a text into a sink for each event: of rows, or anything else that it takes one by one.
 use Rattle.std.specs.Prelude.{◌≡◌, ℕ, Bool, true, if◌then◌else◌, Option, Some, None, List, [], ◌∷◌, ◌++◌}
 use Rattle.std.specs.Io.KnownBytes.{append_known}
-use Rattle.rota_core.specs.Ports.{KnownBytes, Begins}
-use Rattle.rota_core.specs.declared.ports.PortFault.{PortFault}
-use Rattle.rota_core.specs.declared.ports.Target.{Ghosts}
+use Rattle.byte_ports.specs.Ports.{KnownBytes, Begins}
+use Rattle.byte_ports.specs.declared.ports.PortFault.{PortFault}
+use Rattle.byte_ports.specs.declared.ports.Target.{Ghosts}
 use Rattle.rota_items.specs.Events.{Event}
 use Rattle.rota_items.specs.declared.takers.Taker.{Ghosts as TakerGhosts}
 use Rattle.text_sink.specs.Sink.{bytes_put, sent_before, sent_by, sink_failed, target_name, target_of}

@@ -2,7 +2,7 @@
 ghost use Rattle.std.specs.Prelude.{◌≡◌, [], true, false, IsErr};
 ghost use Rattle.opb_text.specs.ModelText.{first_line, term_text};
 
-use rota_core::{PortFault, Target};
+use byte_ports::{PortFault, Target};
 use rota_items::{Counts, Part, Taker};
 use text_sink::Sink;
 

@@ -7,7 +7,8 @@ ghost use Rattle.opb_text.specs.OpbTaker.{taker_sink};
 ghost use Rattle.text_sink.specs.Sink.{PutsText, sink_failed};
 
 use crate::opb_taker::OpbTaker;
-use rota_core::{Instance, PortFault, Target};
+use byte_ports::{PortFault, Target};
+use rota_core::Instance;
 use rota_items::laws::constraints_are_no_objective;
 use rota_items::{counts, drive_constraints, drive_objective};
 

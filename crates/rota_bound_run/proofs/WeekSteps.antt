@@ -4,7 +4,7 @@ use Rattle.std.specs.Prelude.{Bool, Option, Some, None, is_some}
 use Rattle.std.proofs.Math.ListN.{set}
 use Rattle.rota_core.specs.InstanceTables.{InstanceTables}
 use Rattle.rota_core.specs.WeekTables.{WeekTables}
-use Rattle.rota_core.specs.declared.ports.Source.{Ghosts}
+use Rattle.byte_ports.specs.declared.ports.Source.{Ghosts}
 use Rattle.rota_pb.specs.PeriodFaults.{fault_in_week}
 use Rattle.rota_pb.specs.declared.fault.Fault.{Fault}
 use Rattle.rota_pb.specs.declared.fault.Fault.TheVariants.{Memory}

@@ -1,6 +1,6 @@
 -- The readers of a period's files.
 use Rattle.std.specs.Prelude.{◌≡◌, ℕ, ◌<◌, ◌⊎◌, ⊤, List, [], ◌∷◌, length, Option, Some, None, is_some}
-use Rattle.rota_core.specs.declared.ports.Source.{Ghosts as SourceGhosts}
+use Rattle.byte_ports.specs.declared.ports.Source.{Ghosts as SourceGhosts}
 use Rattle.rota_pb.specs.RunPorts.{Reader, reader_of}
 use Rattle.rota_bound_run.specs.declared.files.PeriodFiles.{PeriodFiles}
 use Rattle.rota_bound_run.specs.declared.files.WeekFiles.{WeekFiles}

@@ -7,7 +7,7 @@ ghost use Rattle.rota_bound_run.specs.BoundText.{bound_text, claim_line, optimal
 
 use crate::answer::Answer;
 use crate::claims::Claim;
-use rota_core::{PortFault, Target};
+use byte_ports::{PortFault, Target};
 use rota_pb::Fault;
 use text_sink::{Piece, Sink};
 

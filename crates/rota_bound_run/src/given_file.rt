@@ -11,7 +11,8 @@ ghost use Rattle.rota_bound_run.specs.PeriodFiles.{reader_if};
 ghost use Rattle.rota_bound_run.specs.PeriodRead.{read_given};
 ghost use Rattle.rota_bound_run.specs.PeriodSteps.{EndsAs};
 
-use rota_core::{Scenario, Source};
+use byte_ports::Source;
+use rota_core::Scenario;
 use rota_pb::{Fault, read_file};
 use rota_read::{GivenFacts, read_facts};
 use std::alloc::Global;

@@ -14,8 +14,9 @@ ghost use Rattle.rota_bound_run.specs.PlanJudged.{IsJudged, judge_all, judge_pla
 
 use crate::judged_week::judge_week;
 use crate::pasts::pasts_before;
+use byte_ports::Source;
 use rota_certificate::first_unmet;
-use rota_core::{Instance, Roster, Source};
+use rota_core::{Instance, Roster};
 use rota_pb::PeriodFault;
 use rota_read::GivenFacts;
 use std::alloc::Global;

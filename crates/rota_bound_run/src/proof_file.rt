@@ -7,8 +7,9 @@ ghost use Rattle.rota_pb.specs.WeekFiles.{FailsCheck};
 ghost use Rattle.rota_bound_run.specs.PeriodFiles.{reader_if};
 ghost use Rattle.rota_bound_run.specs.CertificateRead.{AreFreeTables, IsFreeCertificate, check_paths, read_proof};
 
+use byte_ports::Source;
 use rota_certificate::repeats_fact;
-use rota_core::{Certificate, FileFault, FileName, Kind, Leaf, Node, Prices, Scenario, Source};
+use rota_core::{Certificate, FileFault, FileName, Kind, Leaf, Node, Prices, Scenario};
 use rota_pb::{Fault, read_file};
 use rota_read::read_certificate;
 use std::alloc::{AllocError, Global};

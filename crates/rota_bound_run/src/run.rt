@@ -11,7 +11,7 @@ use crate::judged::judge_plan;
 use crate::proof_file::read_proof;
 use crate::ward::read_ward;
 use crate::weeks::read_weeks;
-use rota_core::{Source, Target};
+use byte_ports::{Source, Target};
 use rota_pb::PeriodFault;
 use std::alloc::Global;
 

@@ -12,7 +12,8 @@ ghost use Rattle.rota_bound_run.specs.PeriodSteps.{EndsAs};
 ghost use Rattle.rota_bound_run.specs.Wards.{IsWard, history_at, read_ward};
 ghost use Rattle.rota_bound_run.specs.WeeksRead.{IsLate};
 
-use rota_core::{FileFault, FileName, History, HistoryParts, Kind, Past, Scenario, Source};
+use byte_ports::Source;
+use rota_core::{FileFault, FileName, History, HistoryParts, Kind, Past, Scenario};
 use rota_pb::{Fault, read_file, read_history_from};
 use rota_read::laws::each_text_means_one_scenario;
 use rota_read::read_scenario;

@@ -10,7 +10,8 @@ ghost use Rattle.rota_bound_run.specs.WeeksRead.{AreWeeksFrom, IsLike, IsWeekAt,
 
 use crate::files::WeekFiles;
 use crate::ward::Ward;
-use rota_core::{Instance, Source, Week};
+use byte_ports::Source;
+use rota_core::{Instance, Week};
 use rota_pb::{Fault, PeriodFault, read_held, read_week_from};
 use std::alloc::Global;
 

@@ -9,13 +9,10 @@ pub mod HardRules
 pub mod InstanceTables
 pub mod Limits
 pub mod Lists
-pub mod MemoryPorts
 pub mod Numeral
 pub mod NumeralLaws
 pub mod Parts
 pub mod Pasts
-pub mod PortCalls
-pub mod Ports
 pub mod Prices
 pub mod PriceTables
 pub mod Problem
@@ -28,9 +25,6 @@ pub mod RuleNames
 pub mod Rules
 pub mod ScenarioTables
 pub mod Sizes
-pub mod SourceCalls
-pub mod StdPorts
 pub mod SumsBelow
-pub mod TargetCalls
 pub mod WeekTables
 pub mod Words

@@ -1,5 +1,4 @@
-//! The data that all crates of the product share: the tables of a rostering week, and the ports that read and
-//! write bytes.
+//! The data that all crates of the product share: the tables of a rostering week.
 //!
 //! Puts a shift on Sunday into a roster of the week that `instance` describes:
 //!
@@ -33,15 +32,12 @@ mod instance;
 mod instance_names;
 pub mod laws;
 mod limits;
-mod memory_ports;
 mod names;
-mod ports;
 mod prices;
 mod roster;
 mod roster_cells;
 mod rule;
 mod scenario;
-mod std_ports;
 mod true_indices;
 mod values;
 mod week;
@@ -57,15 +53,12 @@ pub use limits::{
     DAYS, MAX_CONTRACTS, MAX_FILE_LEN, MAX_NUMBER, MAX_NURSES, MAX_PRICE, MAX_SHIFTS, MAX_SKILLS,
     MAX_WEEKS,
 };
-pub use memory_ports::{CallPlan, MemorySource, MemoryTarget};
 pub use names::{add_name, index_of_name, is_name};
-pub use ports::{PortFault, Source, Target};
 pub use prices::{POINT, Prices};
 pub use roster::Roster;
 pub use roster_cells::Cells;
 pub use rule::{Rule, SOFT_RULES};
 pub use scenario::{Scenario, ScenarioParts};
-pub use std_ports::{FromRead, ToWrite};
 pub use true_indices::TrueIndices;
 pub use values::{Cell, Contract, Demand, Past, Span};
 pub use week::{Week, WeekParts};

@@ -3,7 +3,7 @@ use Rattle.std.proofs.Common.{◌≡◌, ℕ, ◌+◌, ◌<◌, refl, sym, ap, �
 use Rattle.std.proofs.Common.{List, [], ◌++◌, length, length-append, Result, Ok, Err, None, Some}
 use Rattle.std.specs.Io.KnownBytes.{prepend_known, IsAtEnd}
 use Rattle.std.proofs.lemmas.List.{append-nil}
-use Rattle.rota_core.specs.Ports.{KnownBytes}
+use Rattle.byte_ports.specs.Ports.{KnownBytes}
 use Rattle.solver_text.specs.declared.answer.Answer.{Answer as AnswerState}
 use Rattle.solver_text.specs.declared.outcome.AnswerFault.{AnswerFault}
 use Rattle.solver_text.specs.declared.outcome.Solved.{Solved}

@@ -1,8 +1,8 @@
 -- Texts written into a sink by a loop.
 use Rattle.std.proofs.Common.{◌≡◌, ℕ, ◌+◌, ◌<◌, List, [], ◌++◌, Result, Ok, Err, refl, sym}
 use Rattle.std.specs.Prelude.{IsErr}
-use Rattle.rota_core.specs.declared.ports.PortFault.{PortFault}
-use Rattle.rota_core.specs.declared.ports.Target.{Ghosts}
+use Rattle.byte_ports.specs.declared.ports.PortFault.{PortFault}
+use Rattle.byte_ports.specs.declared.ports.Target.{Ghosts}
 use Rattle.rota_core.specs.Lists.{concat_below}
 use Rattle.text_sink.specs.declared.sink.Sink.{Sink}
 use Rattle.text_sink.specs.Sink.{PutsText, bytes_put, sink_failed, target_of}

@@ -5,7 +5,7 @@ use Rattle.std.specs.Io.KnownBytes.{prepend_known, IsAtEnd}
 use Rattle.std.proofs.lemmas.Bool.{cases_lt}
 use Rattle.std.proofs.lemmas.List.{append-nil}
 use Rattle.rota_core.specs.Limits.{max_file_len}
-use Rattle.rota_core.specs.Ports.{KnownBytes}
+use Rattle.byte_ports.specs.Ports.{KnownBytes}
 use Rattle.rota_core.specs.declared.fault.FileName.{FileName}
 use Rattle.rota_core.specs.declared.fault.FileFault.{FileFault}
 use Rattle.rota_core.specs.declared.fault.FileFault.TheVariants as refusals

@@ -1,6 +1,6 @@
 -- The abstract value of the taker that writes literals.
 use Rattle.std.specs.Prelude.{◌≡◌, ℕ, ◌+◌, ◌-◌, ◌^◌, min, Bool}
-use Rattle.rota_core.specs.declared.ports.Target.{Ghosts}
+use Rattle.byte_ports.specs.declared.ports.Target.{Ghosts}
 use Rattle.opb_text.specs.SinkTaker.{EventTexts, FailedAt, SinkState}
 use Rattle.solver_text.specs.AnswerWriter.{literal_text, literals_of, writer_sink}
 use Rattle.solver_text.specs.declared.answer_writer.AnswerWriter.{AnswerWriter}

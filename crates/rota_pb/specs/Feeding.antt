@@ -1,7 +1,7 @@
 -- The result of feeding an answer with a reader's pieces.
 use Rattle.std.specs.Prelude.{◌≡◌, ℕ, ◌≤◌, List, [], length, Ok, Err}
 use Rattle.std.specs.Io.KnownBytes.{prepend_known}
-use Rattle.rota_core.specs.Ports.{KnownBytes}
+use Rattle.byte_ports.specs.Ports.{KnownBytes}
 use Rattle.rota_pb.specs.Imports.{Answer, Fault, Read}
 use Rattle.solver_text.specs.declared.answer.Answer.{Answer as AnswerState}
 use Rattle.solver_text.specs.declared.outcome.AnswerFault.{AnswerFault}

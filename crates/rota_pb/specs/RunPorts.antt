@@ -1,9 +1,9 @@
 -- A run's readers and writers, before and after it.
 use Rattle.std.specs.Prelude.{◌≡◌, true, List, ℕ, ◌⊎◌, ◌<◌, ◌≤◌, length, Some}
 use Rattle.std.specs.Io.KnownBytes.{IsAtEnd, prepend_known, append_known}
-use Rattle.rota_core.specs.Ports.{Begins, known_len}
-use Rattle.rota_core.specs.declared.ports.Source.{Ghosts as SourceGhosts}
-use Rattle.rota_core.specs.declared.ports.Target.{Ghosts as TargetGhosts}
+use Rattle.byte_ports.specs.Ports.{Begins, known_len}
+use Rattle.byte_ports.specs.declared.ports.Source.{Ghosts as SourceGhosts}
+use Rattle.byte_ports.specs.declared.ports.Target.{Ghosts as TargetGhosts}
 
 -- A port of a run: its state before and after the run, and its ghosts, which describe a state.
 pub record RunPort (Ghosts : Type 0 → Type 1) : Type 1 where

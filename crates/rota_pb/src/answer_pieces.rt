@@ -6,7 +6,7 @@ ghost use Rattle.rota_pb.specs.RunPorts.{reader_of};
 
 use crate::fault::Fault;
 use crate::file_bytes::PIECE;
-use rota_core::Source;
+use byte_ports::Source;
 use solver_text::laws::fault_of_a_beginning_stays;
 use solver_text::{Answer, Solved};
 use std::alloc::Global;

@@ -8,7 +8,8 @@ use crate::fault::Fault;
 use crate::report::write_report;
 use crate::week_files::{Choice, read_instance};
 use crate::written_solution::write_solution;
-use rota_core::{Instance, Source, Target};
+use byte_ports::{Source, Target};
+use rota_core::Instance;
 use rota_items::counts;
 use std::alloc::Global;
 

@@ -9,8 +9,9 @@ ghost use Rattle.rota_pb.specs.Steps.{send};
 use crate::fault::Fault;
 use crate::model_text::model_text_means_the_rules;
 use crate::week_files::{Choice, read_instance};
+use byte_ports::{Source, Target};
 use opb_text::{OpbTaker, put_model};
-use rota_core::{Instance, Source, Target};
+use rota_core::Instance;
 use std::alloc::Global;
 use text_sink::Sink;
 

@@ -8,7 +8,8 @@ ghost use Rattle.solver_text.specs.AnswerWriter.{literals_of, literals_text, pha
 ghost use Rattle.solver_text.specs.declared.answer_writer.Phase.TheVariants.{New, Started};
 ghost use Rattle.rota_pb.specs.Extending.{extension_answer};
 
-use rota_core::{Instance, PortFault, Roster, Target};
+use byte_ports::{PortFault, Target};
+use rota_core::{Instance, Roster};
 use rota_items::laws::{
     extension_truths_are_those_of_the_variables, instances_are_within_limits, variables_are_few,
 };

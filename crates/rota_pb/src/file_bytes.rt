@@ -5,7 +5,8 @@ ghost use Rattle.rota_pb.specs.RunPorts.{reader_of, IsReadUpTo};
 ghost use Rattle.rota_pb.specs.RunParts.{StopsReading};
 
 use crate::fault::Fault;
-use rota_core::{MAX_FILE_LEN, Source};
+use byte_ports::Source;
+use rota_core::MAX_FILE_LEN;
 use std::alloc::Global;
 
 // The number of bytes that one read asks for.

@@ -10,7 +10,8 @@ ghost use Rattle.rota_pb.specs.RunPorts.{writer_of};
 
 use crate::decoded::Decoded;
 use crate::fault::Fault;
-use rota_core::{PortFault, Rule, SOFT_RULES, Target};
+use byte_ports::{PortFault, Target};
+use rota_core::{Rule, SOFT_RULES};
 use solver_text::Status;
 use text_sink::{Piece, Sink};
 

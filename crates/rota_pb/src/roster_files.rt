@@ -5,7 +5,8 @@ ghost use Rattle.rota_pb.specs.WeekFiles.{read_roster as roster_reading};
 
 use crate::fault::Fault;
 use crate::file_bytes::read_file;
-use rota_core::{Instance, Roster, Source};
+use byte_ports::Source;
+use rota_core::{Instance, Roster};
 use rota_read::{read_fixed, read_solution};
 use std::alloc::Global;
 

@@ -11,7 +11,8 @@ ghost use Rattle.rota_pb.specs.WeekFiles.{join as joining, read_file as file_rea
 use crate::fault::Fault;
 use crate::file_bytes::read_file;
 use crate::roster_files::read_held;
-use rota_core::{History, Instance, Scenario, Source, Week};
+use byte_ports::Source;
+use rota_core::{History, Instance, Scenario, Week};
 use rota_read::{read_history, read_scenario, read_week};
 use std::alloc::Global;
 

@@ -12,8 +12,9 @@ ghost use Rattle.rota_pb.specs.Steps.{send};
 ghost use Rattle.rota_pb.specs.RunPorts.{writer_of};
 
 use crate::fault::Fault;
+use byte_ports::{PortFault, Target};
 use rota_core::laws::rosters_list_their_cells;
-use rota_core::{Cell, Instance, MAX_FILE_LEN, PortFault, Roster, Target};
+use rota_core::{Cell, Instance, MAX_FILE_LEN, Roster};
 use rota_read::day_name;
 use rota_read::laws::each_roster_has_its_text;
 use text_sink::{Piece, Sink};

@@ -1,6 +1,6 @@
 //! The example at the top of `rota_pb`, line for line: `tests/pages/repository.sh` compares them.
 use crate::jobs::encoding;
-use rota_core::{CallPlan, MemorySource, MemoryTarget};
+use byte_ports::{CallPlan, MemorySource, MemoryTarget};
 use rota_pb::{Choice, run_encode};
 use std::test::Fail;
 

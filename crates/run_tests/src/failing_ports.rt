@@ -7,7 +7,8 @@ use crate::job_runs::{
 use crate::jobs::{
     Job, decoding, decoding_held, encoding, extending, extending_held, holding, jobs,
 };
-use rota_core::{CallPlan, FileFault, FileName, Kind};
+use byte_ports::CallPlan;
+use rota_core::{FileFault, FileName, Kind};
 use rota_pb::Fault;
 use solver_text::AnswerFault;
 use std::alloc::{AllocError, Global};

@@ -1,6 +1,6 @@
 //! Runs over memory, and their results.
 use crate::jobs::{Job, Kind};
-use rota_core::{CallPlan, MemorySource, MemoryTarget};
+use byte_ports::{CallPlan, MemorySource, MemoryTarget};
 use rota_pb::{Choice, Fault, run_decode, run_encode, run_extend};
 use std::alloc::{AllocError, Global};
 

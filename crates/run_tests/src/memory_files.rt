@@ -4,8 +4,8 @@ ghost use Rattle.std.specs.List.{find};
 ghost use Rattle.std.specs.Str.{bytes_eq};
 ghost use Rattle.inrc2pb_job.specs.Paths.{file_of, nothing};
 
+use byte_ports::{CallPlan, MemorySource, MemoryTarget, PortFault, Target};
 use inrc2pb_job::{HasPath, Opens};
-use rota_core::{CallPlan, MemorySource, MemoryTarget, PortFault, Target};
 
 /// A file: its bytes, and its path.
 #[derive(Clone, Copy)]

@@ -3,7 +3,8 @@
 use crate::changes::{Base, Changes, texts_of};
 use crate::job_runs::{even, outcome};
 use crate::jobs::Job;
-use rota_core::{FileFault, FileName, Kind, MemoryTarget};
+use byte_ports::MemoryTarget;
+use rota_core::{FileFault, FileName, Kind};
 use rota_pb::Fault;
 use std::alloc::{AllocError, Global};
 use std::process::Abort;

@@ -1,6 +1,6 @@
 -- The abstract value of a writer of an answer, and the text that each of its calls writes.
 use Rattle.std.specs.Prelude.{◌≡◌, ℕ, ◌+◌, ◌%◌, ◌==◌, Bool, List, [], ◌∷◌, ◌++◌, length, codes, if◌then◌else◌}
-use Rattle.rota_core.specs.declared.ports.Target.{Ghosts}
+use Rattle.byte_ports.specs.declared.ports.Target.{Ghosts}
 use Rattle.text_sink.specs.declared.sink.Sink.{Sink}
 use Rattle.solver_text.specs.AnswerText.{after_blank, literal_word, answer_head, answer_text}
 use Rattle.solver_text.specs.declared.answer_writer.Phase.{Phase}

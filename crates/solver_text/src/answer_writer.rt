@@ -4,7 +4,7 @@ ghost use Rattle.text_sink.specs.Sink.{sink_failed, FinishesSink, PutsText};
 ghost use Rattle.solver_text.specs.AnswerText.{answer_head};
 ghost use Rattle.solver_text.specs.AnswerWriter.{literal_text, end_text};
 
-use rota_core::{PortFault, Target};
+use byte_ports::{PortFault, Target};
 use text_sink::Sink;
 
 // The text that a writer has written so far: nothing, the first lines and some literals, or the whole answer.

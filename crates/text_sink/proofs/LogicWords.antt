@@ -4,9 +4,9 @@ use Rattle.std.proofs.Common.{List, [], ◌++◌, length, take, drop, None, Some
 use Rattle.std.specs.Prelude.{Result, is_err, MatchResult, IsErr}
 use Rattle.std.specs.Io.KnownBytes.{append_known}
 use Rattle.std.proofs.lemmas.List.{append-nil, take-append-drop, take_at}
-use Rattle.rota_core.specs.Ports.{KnownBytes, Begins}
-use Rattle.rota_core.specs.declared.ports.PortFault.{PortFault}
-use Rattle.rota_core.specs.declared.ports.Target.{Ghosts}
+use Rattle.byte_ports.specs.Ports.{KnownBytes, Begins}
+use Rattle.byte_ports.specs.declared.ports.PortFault.{PortFault}
+use Rattle.byte_ports.specs.declared.ports.Target.{Ghosts}
 use Rattle.text_sink.specs.declared.sink.Sink.{Sink}
 use Rattle.text_sink.specs.Sink.{FinishesSink, PutsText, bytes_put, sink_failed, sent_before, sent_by, target_of}
 use Rattle.text_sink.specs.KnownFront.{known_front}

@@ -1,7 +1,7 @@
 -- The first bytes of known bytes.
 use Rattle.std.specs.Prelude.{List, ℕ, length, take, None, Some}
 use Rattle.std.specs.Option.{option_map}
-use Rattle.rota_core.specs.Ports.{KnownBytes}
+use Rattle.byte_ports.specs.Ports.{KnownBytes}
 
 -- the first bytes of the whole, as many as the part has; the whole, if the part is not known
 abbrev pub known_front : KnownBytes → KnownBytes → KnownBytes

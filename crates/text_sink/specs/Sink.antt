@@ -2,9 +2,9 @@
 use Rattle.std.specs.Prelude.{◌≡◌, ℕ, List, Bool, true, ◌||◌, Result, is_err, IsErr, MatchResult, OnOk}
 use Rattle.std.specs.Io.KnownBytes.{append_known}
 use Rattle.std.specs.Mem.{manually_drop_value}
-use Rattle.rota_core.specs.Ports.{KnownBytes, known_len, Begins}
-use Rattle.rota_core.specs.declared.ports.PortFault.{PortFault}
-use Rattle.rota_core.specs.declared.ports.Target.{Ghosts}
+use Rattle.byte_ports.specs.Ports.{KnownBytes, known_len, Begins}
+use Rattle.byte_ports.specs.declared.ports.PortFault.{PortFault}
+use Rattle.byte_ports.specs.declared.ports.Target.{Ghosts}
 use Rattle.text_sink.specs.declared.sink.Sink.{Sink}
 
 module _ {W : Type 0} {target : Ghosts W} where

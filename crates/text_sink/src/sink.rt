@@ -7,8 +7,8 @@ ghost use Rattle.text_sink.specs.Pieces.{piece_text, pieces_text};
 ghost use Rattle.text_sink.specs.TermText.{unit_text};
 
 use crate::text_buffer::{CAPACITY, MAX_DIGITS, MAX_TERM_LEN, TextBuffer, send};
+use byte_ports::{PortFault, Target};
 use itoa::Buffer;
-use rota_core::{PortFault, Target};
 use std::mem::ManuallyDrop;
 use std::snapshot::Snapshot;
 

@@ -1,15 +1,15 @@
 //! Text that waits to be sent.
 ghost use Rattle.std.specs.Prelude.{◌≡◌, ◌+◌, ◌≤◌, ◌||◌, [], ◌++◌, length, take, is_err, OnOk, OnErr};
 ghost use Rattle.std.specs.Io.KnownBytes.{append_known};
-ghost use Rattle.rota_core.specs.Ports.{Begins};
+ghost use Rattle.byte_ports.specs.Ports.{Begins};
 ghost use Rattle.rota_core.specs.Numeral.{numeral};
 ghost use Rattle.text_sink.specs.TermText.{unit_text};
 
 use crate::digits::{count_digits, ending};
 use crate::term_prefix::TermPrefix;
 use arrayvec::ArrayVec;
+use byte_ports::{PortFault, Target};
 use itoa::write_digits;
-use rota_core::{PortFault, Target};
 use std::marker::Model;
 
 /// The capacity of a buffer in bytes.

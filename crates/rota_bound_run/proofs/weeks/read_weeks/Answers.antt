@@ -2,7 +2,7 @@ use Rattle.std.proofs.Common.{◌≡◌, ℕ, ◌+◌, ◌<◌, ap, ◌∙◌, s
 use Rattle.std.proofs.lemmas.Result.{err_from_is_err_and}
 use Rattle.std.specs.Prelude.{Bool, slice_set}
 use Rattle.rota_core.specs.InstanceTables.{InstanceTables}
-use Rattle.rota_core.specs.declared.ports.Source.{Ghosts}
+use Rattle.byte_ports.specs.declared.ports.Source.{Ghosts}
 use Rattle.rota_pb.specs.declared.period_fault.PeriodFault.{PeriodFault}
 use Rattle.rota_bound_run.specs.PeriodFiles.{each_of, week_readers}
 use Rattle.rota_bound_run.specs.PeriodRead.{read_next, read_weeks}

@@ -1,7 +1,7 @@
 use Rattle.std.proofs.Common.{◌++◌, take, arith, length-append, length-take, inl, sym, ap, ◌∙◌}
 use Rattle.std.specs.Io.KnownBytes.{prepend_known}
 use Rattle.text_sink.proofs.LogicWords.{or_false}
-use Rattle.rota_core.specs.Ports.{KnownBytes}
+use Rattle.byte_ports.specs.Ports.{KnownBytes}
 use Rattle.rota_pb.proofs.Feeding.{prepend_known-append}
 use Rattle.rota_pb.proofs.file_bytes.read_within.Goals as goal
 

@@ -1,6 +1,6 @@
 use Rattle.std.proofs.Common.{◌≡◌, length}
 use Rattle.std.specs.Io.KnownBytes.{append_known}
-use Rattle.rota_core.specs.Ports.{Begins}
+use Rattle.byte_ports.specs.Ports.{Begins}
 use Rattle.text_sink.proofs.text_buffer.send.Given as goal
 
 abbrev pub invariant-loop-rest : goal.invariant-loop-rest

@@ -1,9 +1,9 @@
 -- The promises of a target's calls, as the trait `Target` makes them. The target is `old` before a call and `new` after it.
 use Rattle.std.specs.Prelude.{◌≡◌, ℕ, ◌<◌, ◌≤◌, false, List, length, Result, IfErr, IfOk, IsOk, OnOk}
-use Rattle.rota_core.specs.PortCalls.{FailsForGood, SendsOnWrite}
-use Rattle.rota_core.specs.Ports.{known_len}
-use Rattle.rota_core.specs.declared.ports.PortFault.{PortFault}
-use Rattle.rota_core.specs.declared.ports.Target.{Ghosts}
+use Rattle.byte_ports.specs.PortCalls.{FailsForGood, SendsOnWrite}
+use Rattle.byte_ports.specs.Ports.{known_len}
+use Rattle.byte_ports.specs.declared.ports.PortFault.{PortFault}
+use Rattle.byte_ports.specs.declared.ports.Target.{Ghosts}
 
 -- a write takes at most the bytes of the piece, and at least one if there is any
 pub record CountsBytes (piece : List ℕ) (result : Result ℕ PortFault) : Type 0 where

@@ -1,7 +1,7 @@
 //! The ports that bytes come from and go to.
 ghost use Rattle.std.specs.Prelude.{◌≡◌, ℕ, ◌<◌, ◌≤◌, Bool, ◌||◌, Option, List, Some, codes, length, is_err, true, false, IsErr, IsOk, IfOk, IfErr, OnOk, MatchResult};
-ghost use Rattle.rota_core.specs.Ports.{KnownBytes, known_len};
-ghost use Rattle.rota_core.specs.PortCalls.{LeavesAfterRead, SendsOnWrite, says_end};
+ghost use Rattle.byte_ports.specs.Ports.{KnownBytes, known_len};
+ghost use Rattle.byte_ports.specs.PortCalls.{LeavesAfterRead, SendsOnWrite, says_end};
 
 use std::error::Error;
 use std::fmt;

@@ -1,7 +1,7 @@
 -- The effects of a port's calls on its known bytes, and the failure of a port.
 use Rattle.std.specs.Prelude.{◌≡◌, ℕ, ◌<◌, Bool, true, false, ◌&&◌, ◌||◌, nat_eq, nat_lt, List, length, take, Result, Ok, Err, IsErr, is_err, MatchResult}
 use Rattle.std.specs.Io.KnownBytes.{append_known, prepend_known, IsAtEnd}
-use Rattle.rota_core.specs.Ports.{KnownBytes}
+use Rattle.byte_ports.specs.Ports.{KnownBytes}
 
 -- a read removes from the source the n bytes that it moved to the front of the buffer; it moves none in only three cases: at the end,
 -- into an empty buffer, and at an error

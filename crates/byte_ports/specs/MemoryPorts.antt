@@ -1,8 +1,8 @@
 -- How ports over memory move their bytes.
 use Rattle.std.specs.Prelude.{ℕ, ◌-◌, Bool, true, not, if◌then◌else◌, nat_lt, nat_eq, min, Option, Some, None, List, length}
-use Rattle.rota_core.specs.declared.memory_ports.MemorySource.{MemorySource}
-use Rattle.rota_core.specs.declared.memory_ports.MemoryTarget.{MemoryTarget}
-use Rattle.rota_core.specs.declared.memory_ports.CallPlan.{CallPlan}
+use Rattle.byte_ports.specs.declared.memory_ports.MemorySource.{MemorySource}
+use Rattle.byte_ports.specs.declared.memory_ports.MemoryTarget.{MemoryTarget}
+use Rattle.byte_ports.specs.declared.memory_ports.CallPlan.{CallPlan}
 
 -- whether a good call is left; `None` is an unlimited number of good calls
 abbrev pub has_call : Option ℕ → Bool

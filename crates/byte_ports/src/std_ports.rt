@@ -1,9 +1,9 @@
 //! The standard library's readers and writers as ports. Their bytes are not known.
 ghost use Rattle.std.specs.Prelude.{◌≡◌, ◌||◌, None, true, false, is_err, IsErr, Ok, MatchResult};
 ghost use Rattle.std.specs.Io.KnownBytes.{Keeps, ReadConsumes, WriteAppends};
-ghost use Rattle.rota_core.specs.SourceCalls.{ReadsInto};
-ghost use Rattle.rota_core.specs.StdPorts.{IsUnasked};
-ghost use Rattle.rota_core.specs.TargetCalls.{FlushesSent, WritesPiece};
+ghost use Rattle.byte_ports.specs.SourceCalls.{ReadsInto};
+ghost use Rattle.byte_ports.specs.StdPorts.{IsUnasked};
+ghost use Rattle.byte_ports.specs.TargetCalls.{FlushesSent, WritesPiece};
 
 use crate::ports::{PortFault, Source, Target};
 use std::io;
@@ -34,7 +34,7 @@ pub struct FromRead<R> {
 }
 
 impl<R: Read> FromRead<R> {
-    ghost use Rattle.rota_core.specs.StdPorts.{inner_reader};
+    ghost use Rattle.byte_ports.specs.StdPorts.{inner_reader};
 
     /// The reader as a source. It has neither failed nor reported its end.
     pub fn new(reader: R) -> FromRead<R>
@@ -51,7 +51,7 @@ impl<R: Read> FromRead<R> {
 }
 
 impl<R: Read> Source for FromRead<R> {
-    ghost use Rattle.rota_core.specs.StdPorts.{is_failed_reader, inner_reader};
+    ghost use Rattle.byte_ports.specs.StdPorts.{is_failed_reader, inner_reader};
 
     ghost left = { λ _. None };
 
@@ -87,7 +87,7 @@ pub struct ToWrite<W> {
 }
 
 impl<W: Write> ToWrite<W> {
-    ghost use Rattle.rota_core.specs.StdPorts.{inner_writer};
+    ghost use Rattle.byte_ports.specs.StdPorts.{inner_writer};
 
     /// The writer as a target. It has not failed.
     pub fn new(writer: W) -> ToWrite<W>
@@ -102,7 +102,7 @@ impl<W: Write> ToWrite<W> {
 }
 
 impl<W: Write> Target for ToWrite<W> {
-    ghost use Rattle.rota_core.specs.StdPorts.{is_failed_writer, inner_writer};
+    ghost use Rattle.byte_ports.specs.StdPorts.{is_failed_writer, inner_writer};
 
     ghost sent = { λ _. None };
 

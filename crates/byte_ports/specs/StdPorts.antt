@@ -1,7 +1,7 @@
 -- The state of a port over a reader or a writer of the standard library.
 use Rattle.std.specs.Prelude.{◌≡◌, ◌⊎◌, ℕ, Bool, true, List, length}
-use Rattle.rota_core.specs.declared.std_ports.FromRead.{FromRead}
-use Rattle.rota_core.specs.declared.std_ports.ToWrite.{ToWrite}
+use Rattle.byte_ports.specs.declared.std_ports.FromRead.{FromRead}
+use Rattle.byte_ports.specs.declared.std_ports.ToWrite.{ToWrite}
 
 abbrev pub inner_reader : {R : Type 0} → FromRead R → R
 inner_reader port = port.reader

@@ -1,7 +1,7 @@
 //! Ports over memory, for tests.
 ghost use Rattle.std.specs.Prelude.{◌≡◌, ◌<◌, ◌≤◌, ◌+◌, ◌-◌, ◌||◌, false, nat_eq, Some, [], length, is_err, IfOk, MatchResult, vec_len, vec_capacity};
-ghost use Rattle.rota_core.specs.SourceCalls.{ReadsInto};
-ghost use Rattle.rota_core.specs.TargetCalls.{FlushesSent, WritesPiece};
+ghost use Rattle.byte_ports.specs.SourceCalls.{ReadsInto};
+ghost use Rattle.byte_ports.specs.TargetCalls.{FlushesSent, WritesPiece};
 
 use crate::ports::{PortFault, Source, Target};
 use std::alloc::{AllocError, Global};
@@ -17,7 +17,7 @@ pub struct CallPlan {
 }
 
 impl CallPlan {
-    ghost use Rattle.rota_core.specs.MemoryPorts.{after_call, has_call};
+    ghost use Rattle.byte_ports.specs.MemoryPorts.{after_call, has_call};
 
     /// At most `max_piece` bytes per call, and `good_calls` calls before one fails.
     pub fn new(max_piece: usize, good_calls: Option<u64>) -> CallPlan
@@ -58,7 +58,7 @@ pub struct MemorySource<'a> {
 }
 
 impl<'a> MemorySource<'a> {
-    ghost use Rattle.rota_core.specs.MemoryPorts.{source_plan};
+    ghost use Rattle.byte_ports.specs.MemoryPorts.{source_plan};
 
     /// The source of these bytes.
     pub fn new(bytes: &'a [u8], plan: CallPlan) -> MemorySource<'a>
@@ -77,7 +77,7 @@ impl<'a> MemorySource<'a> {
 }
 
 impl<'a> Source for MemorySource<'a> {
-    ghost use Rattle.rota_core.specs.MemoryPorts.{is_failed_source, is_last_call, moves, plan_after, source_plan};
+    ghost use Rattle.byte_ports.specs.MemoryPorts.{is_failed_source, is_last_call, moves, plan_after, source_plan};
 
     ghost left = { λ s. Some s.rest.now };
 
@@ -127,7 +127,7 @@ pub struct MemoryTarget {
 }
 
 impl MemoryTarget {
-    ghost use Rattle.rota_core.specs.MemoryPorts.{room_of, takes, target_plan};
+    ghost use Rattle.byte_ports.specs.MemoryPorts.{room_of, takes, target_plan};
 
     /// An empty target with room for `room` bytes.
     pub fn new(alloc: Global, room: usize, plan: CallPlan) -> Result<MemoryTarget, AllocError>
@@ -169,7 +169,7 @@ impl MemoryTarget {
 }
 
 impl Target for MemoryTarget {
-    ghost use Rattle.rota_core.specs.MemoryPorts.{after_call, is_failed_target, is_last_call, plan_after, room_of, takes, target_plan};
+    ghost use Rattle.byte_ports.specs.MemoryPorts.{after_call, is_failed_target, is_last_call, plan_after, room_of, takes, target_plan};
 
     ghost sent = { λ t. Some t.bytes.items };
 

@@ -1,9 +1,9 @@
 -- The promises of a source's reads, as the trait `Source` makes them. The source is `old` before a read and `new` after it, the
 -- buffer `before` and `after`.
 use Rattle.std.specs.Prelude.{◌≡◌, ℕ, ◌≤◌, ◌||◌, false, List, length, Result, IfOk, IsOk}
-use Rattle.rota_core.specs.PortCalls.{FailsForGood, LeavesAfterRead, says_end}
-use Rattle.rota_core.specs.declared.ports.PortFault.{PortFault}
-use Rattle.rota_core.specs.declared.ports.Source.{Ghosts}
+use Rattle.byte_ports.specs.PortCalls.{FailsForGood, LeavesAfterRead, says_end}
+use Rattle.byte_ports.specs.declared.ports.PortFault.{PortFault}
+use Rattle.byte_ports.specs.declared.ports.Source.{Ghosts}
 
 -- a read moves the next bytes to the front of the buffer, and says whether the source has ended; an empty buffer is no error of a sound
 -- source
