@@ -7,16 +7,16 @@ use Rattle.std.proofs.lemmas.List.Sums.{count_by-le-length, sum_by-set}
 use Rattle.std.proofs.lemmas.Nat.{mul-add-lt}
 use Rattle.rota_core.specs.ScenarioTables.{ScenarioTables}
 use Rattle.rota_core.specs.declared.values.Demand.{Demand}
-use Rattle.rota_read.specs.Tokens.{Token}
-use Rattle.rota_read.specs.Reading.{Reading, read_layout}
-use Rattle.rota_read.specs.Layout.{◌>>=◌, has_row, shift_or, known_name}
-use Rattle.rota_read.specs.Files.{Fills}
+use Rattle.rota_layout.specs.Tokens.{Token}
+use Rattle.rota_layout.specs.Reading.{Reading, read_layout}
+use Rattle.rota_layout.specs.Layout.{◌>>=◌, has_row, shift_or, known_name}
+use Rattle.rota_layout.specs.Files.{Fills}
 use Rattle.rota_read.specs.WeekLayout.{demand, part_or, max_rows, requirement_rows}
-use Rattle.rota_read.specs.DayRows.{DayRows, no_day_rows, day_row, pair_index}
+use Rattle.rota_layout.specs.DayRows.{DayRows, no_day_rows, day_row, pair_index}
 use Rattle.rota_read.specs.WeekBound.{BoundEndsNoRows}
-use Rattle.rota_read.proofs.EndLemmas.{then_read-same}
-use Rattle.rota_read.proofs.FileLaws.{Found, fills-read}
-use Rattle.rota_read.proofs.SlotLaws.{known_name-below, known_name-free, shift_or-below}
+use Rattle.rota_layout.proofs.ReadingLaws.{then_read-same}
+use Rattle.rota_layout.proofs.ReadingLaws.{Found, fills-read}
+use Rattle.rota_layout.proofs.ReadingLaws.{known_name-below, known_name-free, shift_or-below}
 
 -- ---- the number of pairs without a row
 

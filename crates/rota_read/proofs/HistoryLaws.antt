@@ -9,12 +9,13 @@ use Rattle.rota_core.specs.declared.values.Past.{Past}
 use Rattle.rota_core.specs.ScenarioTables.{ScenarioTables, numbers_of}
 use Rattle.rota_core.specs.Defaults.{no_past}
 use Rattle.rota_core.specs.WeekTables.{HistoryTables, IsHistory, IsPast}
-use Rattle.rota_read.specs.Tokens.{Token, tokens}
-use Rattle.rota_read.specs.Layout.{has_row, known_row, repeat, value_of_each}
+use Rattle.rota_layout.specs.Tokens.{Token, tokens}
+use Rattle.rota_layout.specs.Layout.{has_row, repeat}
+use Rattle.rota_read.specs.SharedSlots.{known_row, value_of_each}
 use Rattle.rota_read.specs.HistoryLayout.{past, history}
 use Rattle.rota_read.specs.HistoryRows.{GivesEachPast}
-use Rattle.rota_read.specs.Files.{Fills, Spells}
-use Rattle.rota_read.proofs.SlotLaws.{number-within, known_name-below, known_name-free, shift_or-below}
+use Rattle.rota_layout.specs.Files.{Fills, Spells}
+use Rattle.rota_layout.proofs.ReadingLaws.{number-within, known_name-below, known_name-free, shift_or-below}
 
 -- ---- one past
 

@@ -9,12 +9,12 @@ use Rattle.std.proofs.lemmas.Bool.Decides.{nat_tests}
 use Rattle.std.proofs.lemmas.List.{append-nil}
 use Rattle.rota_core.specs.Words.{index_of, is_whitespace, is_sign, is_word_byte, IsWord}
 use Rattle.rota_core.specs.Numeral.{numeral}
-use Rattle.rota_read.specs.Tokens.{Token, next_line}
-use Rattle.rota_read.specs.TokenLines.{tokens_from}
-use Rattle.rota_read.specs.Layout.{Layout, end, slot, ◌>>=◌, is_sign_token, exactly, number, any_word, known_name}
-use Rattle.rota_read.specs.Files.{Fills}
+use Rattle.rota_layout.specs.Tokens.{Token, next_line}
+use Rattle.rota_layout.specs.TokenLines.{tokens_from}
+use Rattle.rota_layout.specs.Layout.{Layout, end, slot, ◌>>=◌, is_sign_token, exactly, number, any_word, known_name}
+use Rattle.rota_layout.specs.Files.{Fills}
 use Rattle.rota_core.specs.NumeralLaws.{ReadsBack}
-use Rattle.rota_read.proofs.TokenLemmas.{tokens_from-sign, one_blank, word_goes_on, word_ends}
+use Rattle.rota_layout.proofs.ReadingLaws.{tokens_from-sign, one_blank, word_goes_on, word_ends}
 
 -- The piece, in front of any bytes, is a number of tokens that fill the layout with the value.
 abbrev pub FillsAsPiece : {V : Type 0} → Layout V → List ℕ → V → Type 0

@@ -20,13 +20,13 @@ use Rattle.rota_core.proofs.LogicWords.{AllByRecursion-append, all-weaker}
 use Rattle.rota_core.specs.CellLists.{ListsCells}
 use Rattle.rota_core.specs.NumeralLaws.{ReadsBack}
 use Rattle.rota_core.specs.RisingLists.{RisesWithin}
-use Rattle.rota_read.specs.Layout.{day_names, setting, Layout, end, ◌>>=◌, exactly, number, any_word, known_name, none_taken}
-use Rattle.rota_read.specs.Layout.{many, one_more, repeat}
-use Rattle.rota_read.specs.Files.{Fills}
+use Rattle.rota_layout.specs.Layout.{day_names, setting, Layout, end, ◌>>=◌, exactly, number, any_word, known_name, none_taken}
+use Rattle.rota_layout.specs.Layout.{many, one_more, repeat}
+use Rattle.rota_layout.specs.Files.{Fills}
 use Rattle.rota_read.specs.RosterReading.{assignment_row}
 use Rattle.rota_read.specs.SolutionLayout.{is_same_cell, is_one_cell, assignment, solution, SpellsRoster}
 use Rattle.rota_read.specs.SolutionText.{name_at, spaced, ended, heading_text, assignment_text, text_of_cells, solution_text}
-use Rattle.rota_read.specs.Tokens.{tokens_after, tokens}
+use Rattle.rota_layout.specs.Tokens.{tokens_after, tokens}
 use Rattle.rota_core.specs.RosterCells.{cells_of}
 use Rattle.rota_read.proofs.CellLists.{is_one_cell-cells_of}
 use Rattle.rota_read.proofs.NameIndices.{holds-name_at, index_of-name_at}

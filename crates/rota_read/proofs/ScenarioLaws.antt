@@ -13,14 +13,17 @@ use Rattle.rota_core.specs.Words.{IsWord, is_among}
 use Rattle.rota_core.specs.ScenarioTables.{ScenarioTables, IsScenario, AreLimits, IsContract, IsShiftName, AreDistinct, reserved}
 use Rattle.rota_core.specs.declared.values.Span.{Span}
 use Rattle.rota_core.specs.declared.values.Contract.{Contract}
-use Rattle.rota_read.specs.Tokens.{Token, tokens}
+use Rattle.rota_layout.specs.Tokens.{Token, tokens}
 use Rattle.rota_read.specs.ScenarioLayout.{section, known_names, marks, successions, Named, none_named, new_row, contract}
 use Rattle.rota_read.specs.ScenarioLayout.{Nurse, nurse, scenario}
-use Rattle.rota_read.specs.Layout.{Layout, new_name, one_more, pair, setting, is_one_of, none_taken, known_row, value_of_each}
-use Rattle.rota_read.specs.Files.{Fills, Spells}
+use Rattle.rota_layout.specs.Layout.{Layout, one_more, setting, none_taken}
+use Rattle.rota_read.specs.SharedSlots.{new_name, pair, is_one_of, known_row, value_of_each}
+use Rattle.rota_layout.specs.Files.{Fills, Spells}
 use Rattle.rota_read.proofs.WordLaws.{IsToken, AreTokens, tokens-are_tokens}
-use Rattle.rota_read.proofs.SlotLaws.{all_push, length_push, repeat-keeps}
-use Rattle.rota_read.proofs.SlotLaws.{number-within, any_word-is_word, new_name-is_new, known_name-below}
+use Rattle.rota_layout.proofs.ReadingLaws.{all_push, length_push}
+use Rattle.rota_read.proofs.WordSlots.{repeat-keeps}
+use Rattle.rota_layout.proofs.ReadingLaws.{number-within, known_name-below}
+use Rattle.rota_read.proofs.WordSlots.{any_word-is_word, new_name-is_new}
 
 pub left : (front first second : List Token) → front ≡ first ++ second → AreTokens front → AreTokens first
 left front first second e all = (AllByRecursion-back IsToken first second (subst AreTokens e all)).0
@@ -37,11 +40,6 @@ pair-limits front span h =
     let c = b.5 in
     let d = c.5 in
     rw d.5.1 ((number-within 0 max_number a.1 a.0 a.4).1, (number-within 0 max_number c.1 c.0 c.4).1)
-
-pub setting-within : (name : List ℕ) (low high : ℕ) (front : List Token) (n : ℕ) → Fills (setting name low high) front n →
-    (low ≤ n) × (n ≤ high)
-unfolding Fills setting
-setting-within name low high front n h = number-within low high h.5.2 n h.5.5
 
 none_distinct : AreDistinct []
 unfolding IsDistinct
@@ -159,14 +157,6 @@ section-kept name maximum row none Keeps step front last all h k =
     let kept = repeat-keeps row Keeps step h.0 0 none h.2 last (right front h.1 h.2 h.3 all) h.5 k in
     let e : h.0 + 0 ≡ h.0 = omega arith in
     (h.0, setting-within name 1 maximum h.1 h.0 h.4, subst (λ n. Keeps n last) e kept)
-
--- rows of the same length, one after the other
-pub rows_length : {X Y : Type 0} (row : X → List Y) (len : ℕ) → ((x : X) → length (row x) ≡ len) →
-    (xs : List X) → length (flat_map row xs) ≡ length xs * len
-rows_length row len each [] = let e : 0 ≡ 0 * len = omega arith in e
-rows_length row len each (x ∷ xs) =
-    let e : suc (length xs) * len ≡ len + length xs * len = omega arith in
-    length-append (row x) (flat_map row xs) ∙ omega (arith, each x, rows_length row len each xs, e)
 
 value_row-keeps : {A : Type 0} (names : List (List ℕ)) (value : Layout A) (i : ℕ) (rows : List (Option A)) (front : List Token) (next : List (Option A)) →
     AreTokens front → Fills (known_row names value rows) front next → length rows ≡ length names → length next ≡ length names

@@ -2,10 +2,10 @@
 use Rattle.std.proofs.Common.{ℕ, List, Ok}
 use Rattle.rota_core.specs.InstanceTables.{InstanceTables, problem_of}
 use Rattle.rota_core.specs.RosterTables.{RosterTables}
-use Rattle.rota_read.specs.Reading.{read_text}
+use Rattle.rota_layout.specs.Reading.{read_text}
 use Rattle.rota_read.specs.RosterReading.{ReadsRosterFile}
 use Rattle.rota_read.specs.SolutionLayout.{solution, SpellsRoster}
-use Rattle.rota_read.proofs.FileLaws.{spells-read, fault_in-read}
+use Rattle.rota_layout.proofs.ReadingLaws.{spells-read, fault_in-read}
 
 -- a roster that is read is the roster that the text spells
 pub roster-read : (tables : InstanceTables) (text : List ℕ) (roster : RosterTables)

@@ -3,9 +3,9 @@ use Rattle.std.proofs.Common.{◌≡◌, ℕ, List, Option, Some, None, Vec, get
 use Rattle.std.proofs.lemmas.List.{map-set}
 use Rattle.std.proofs.Math.ListN as lists
 use Rattle.std.specs.Option.{option_map}
-use Rattle.rota_read.specs.Layout.{has_row}
+use Rattle.rota_layout.specs.Layout.{has_row}
 use Rattle.rota_read.specs.ScenarioRows.{successions_of}
-use Rattle.rota_read.proofs.NameSteps.{known_taken}
+use Rattle.rota_layout.proofs.ReadingLaws.{known_taken}
 
 module _ {Z : Type 0} (rows : List (Option (Vec ℕ Z))) (shift : ℕ) where
   -- a shift type has a row in both, or in neither

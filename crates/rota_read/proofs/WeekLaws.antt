@@ -11,16 +11,18 @@ use Rattle.rota_core.specs.Defaults.{no_demand}
 use Rattle.rota_core.specs.WeekTables.{WeekTables, IsWeek, IsDemand}
 use Rattle.rota_core.specs.declared.values.Demand.{Demand}
 use Rattle.rota_read.specs.declared.week.RequestRow.{RequestRow}
-use Rattle.rota_read.specs.Tokens.{Token, tokens}
-use Rattle.rota_read.specs.Layout.{◌>>=◌, one_more, many}
-use Rattle.rota_read.specs.DayRows.{DayRows, no_day_rows, day_row, pair_index}
+use Rattle.rota_layout.specs.Tokens.{Token, tokens}
+use Rattle.rota_layout.specs.Layout.{◌>>=◌, one_more, many}
+use Rattle.rota_layout.specs.DayRows.{DayRows, no_day_rows, day_row, pair_index}
 use Rattle.rota_read.specs.WeekLayout.{demand, part_or, max_rows, requirement_rows}
 use Rattle.rota_read.specs.WeekLayout.{request, asks, request_table, week}
-use Rattle.rota_read.specs.Files.{Fills, Spells}
+use Rattle.rota_layout.specs.Files.{Fills, Spells}
 use Rattle.rota_read.proofs.WordLaws.{AreTokens, tokens-are_tokens}
-use Rattle.rota_read.proofs.SlotLaws.{length_push, number-within, repeat-keeps}
-use Rattle.rota_read.proofs.DayTables.{all_rows, days-all, RowsAll, no_rows-all, row_set-all, day_table-all}
-use Rattle.rota_read.proofs.ScenarioLaws.{left, right, pair-limits, rows_length}
+use Rattle.rota_layout.proofs.ReadingLaws.{length_push, number-within}
+use Rattle.rota_read.proofs.WordSlots.{repeat-keeps}
+use Rattle.rota_layout.proofs.ReadingLaws.{all_rows, days-all, RowsAll, no_rows-all, row_set-all, day_table-all}
+use Rattle.rota_read.proofs.ScenarioLaws.{left, right, pair-limits}
+use Rattle.rota_layout.proofs.ReadingLaws.{rows_length}
 
 -- ---- the requirements
 

@@ -1,6 +1,7 @@
 -- The slots of a history file.
-use Rattle.rota_read.specs.Layout.{ℕ, List, codes, map, unwrap_or, max_number, ScenarioTables, numbers_of, Layout, end, ◌>>=◌}
-use Rattle.rota_read.specs.Layout.{exactly, number, any_word, shift_or, value_of_each}
+use Rattle.rota_layout.specs.Layout.{ℕ, List, codes, map, unwrap_or, max_number, ScenarioTables, numbers_of, Layout, end, ◌>>=◌}
+use Rattle.rota_layout.specs.Layout.{exactly, number, any_word, shift_or}
+use Rattle.rota_read.specs.SharedSlots.{value_of_each}
 use Rattle.rota_core.specs.declared.values.Past.{Past}
 use Rattle.rota_core.specs.Defaults.{no_past}
 use Rattle.rota_core.specs.WeekTables.{HistoryTables}

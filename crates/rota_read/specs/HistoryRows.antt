@@ -3,10 +3,10 @@ use Rattle.std.specs.Prelude.{◌≡◌, List, Option, Some, map, unwrap_or}
 use Rattle.rota_core.specs.declared.values.Past.{Past}
 use Rattle.rota_core.specs.ScenarioTables.{ScenarioTables}
 use Rattle.rota_core.specs.Defaults.{no_past}
-use Rattle.rota_read.specs.Tokens.{Token}
+use Rattle.rota_layout.specs.Tokens.{Token}
 use Rattle.rota_read.specs.HistoryLayout.{past}
-use Rattle.rota_read.specs.Layout.{value_of_each}
-use Rattle.rota_read.specs.Files.{Fills}
+use Rattle.rota_read.specs.SharedSlots.{value_of_each}
+use Rattle.rota_layout.specs.Files.{Fills}
 
 -- The rows give the past of each nurse, so no past is invented.
 abbrev pub GivesEachPast : ScenarioTables → Type 0

@@ -3,11 +3,11 @@ use Rattle.std.specs.Prelude.{◌≡◌, List, Result, Ok, Err}
 use Rattle.rota_core.specs.declared.values.Cell.{Cell}
 use Rattle.rota_core.specs.RosterTables.{RosterTables}
 use Rattle.rota_core.specs.Problem.{Problem}
-use Rattle.rota_read.specs.declared.fault.Fault.{Fault}
-use Rattle.rota_read.specs.declared.fault.Stop.{Stop}
-use Rattle.rota_read.specs.Reading.{Reading, Fails}
+use Rattle.rota_layout.specs.declared.fault.Fault.{Fault}
+use Rattle.rota_layout.specs.declared.fault.Stop.{Stop}
+use Rattle.rota_layout.specs.Reading.{Reading, Fails}
 use Rattle.rota_core.specs.ScenarioTables.{ScenarioTables}
-use Rattle.rota_read.specs.Layout.{Layout, one_more}
+use Rattle.rota_layout.specs.Layout.{Layout, one_more}
 use Rattle.rota_read.specs.SolutionLayout.{assignment, HasCells}
 
 -- one more assignment

@@ -1,7 +1,8 @@
 -- The slots of a scenario file. Each section gives the names of its rows; all but that of the skills give a value for each.
 use Rattle.std.specs.Prelude.{◌==◌, ◌∷◌, ◌++◌, ℕ, Bool, List, [], codes, length, map, flat_map}
-use Rattle.rota_read.specs.Layout.{unwrap_or, range_with_len, max_number, ScenarioTables, Layout, end, ◌>>=◌, exactly, number, any_word}
-use Rattle.rota_read.specs.Layout.{new_name, known_name, none_taken, is_one_of, many, one_more, repeat, value_of_each, pair, setting}
+use Rattle.rota_layout.specs.Layout.{unwrap_or, range_with_len, max_number, ScenarioTables, Layout, end, ◌>>=◌, exactly, number, any_word}
+use Rattle.rota_layout.specs.Layout.{known_name, none_taken, many, one_more, repeat, setting}
+use Rattle.rota_read.specs.SharedSlots.{new_name, is_one_of, value_of_each, pair}
 use Rattle.rota_core.specs.Limits.{max_contracts, max_nurses, max_shifts, max_skills, max_weeks}
 use Rattle.rota_core.specs.declared.values.Contract.{Contract}
 use Rattle.rota_core.specs.ScenarioTables.{reserved}

@@ -1,13 +1,13 @@
 -- The slots of a solution file, and the roster that it spells.
 use Rattle.std.specs.Prelude.{◌==◌, ◌&&◌, ◌≡◌}
-use Rattle.rota_read.specs.Layout.{ℕ, Bool, List, codes, list_any, max_number, ScenarioTables, Layout, end, ◌>>=◌}
-use Rattle.rota_read.specs.Layout.{exactly, number, any_word, known_name, none_taken, day_names, many, setting}
+use Rattle.rota_layout.specs.Layout.{ℕ, Bool, List, codes, list_any, max_number, ScenarioTables, Layout, end, ◌>>=◌}
+use Rattle.rota_layout.specs.Layout.{exactly, number, any_word, known_name, none_taken, day_names, many, setting}
 use Rattle.rota_core.specs.declared.values.Cell.{Cell}
 use Rattle.rota_core.specs.Problem.{Problem}
 use Rattle.rota_core.specs.Roster.{cell, InWeek}
 use Rattle.rota_core.specs.RosterTables.{RosterTables, HasShapeOf, set_of}
 use Rattle.rota_core.specs.InstanceTables.{InstanceTables, problem_of}
-use Rattle.rota_read.specs.Files.{Spells}
+use Rattle.rota_layout.specs.Files.{Spells}
 
 -- whether two cells have the same nurse, day, shift type and skill
 abbrev pub is_same_cell : Cell → Cell → Bool

@@ -10,7 +10,7 @@ use Rattle.rota_core.specs.RosterCells.{cells_of}
 use Rattle.rota_core.specs.HardRules.{KeepsOneCell}
 use Rattle.rota_core.specs.RosterTables.{RosterTables, HasShapeOf, set_of}
 use Rattle.rota_core.specs.ScenarioTables.{ScenarioTables}
-use Rattle.rota_read.specs.Layout.{day_names}
+use Rattle.rota_layout.specs.Layout.{day_names}
 use Rattle.rota_read.specs.SolutionLayout.{SpellsRoster}
 
 -- the name with this index

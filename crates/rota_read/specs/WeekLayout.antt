@@ -1,12 +1,13 @@
 -- The slots of a week's file.
 use Rattle.std.specs.Prelude.{◌==◌, ◌+◌, ◌*◌, ◌&&◌, ℕ, zero, suc, Bool, true, Option, Some, None, List, codes, length}
-use Rattle.rota_read.specs.Layout.{map, flat_map, count_by, range_with_len, option_map_or, max_number, DAYS, ScenarioTables, numbers_of}
-use Rattle.rota_read.specs.Layout.{Layout, end, ◌>>=◌, exactly, number, any_word, known_name, none_taken, day_names, many, pair, shift_or}
+use Rattle.rota_layout.specs.Layout.{map, flat_map, count_by, range_with_len, option_map_or, max_number, DAYS, ScenarioTables, numbers_of}
+use Rattle.rota_layout.specs.Layout.{Layout, end, ◌>>=◌, exactly, number, any_word, known_name, none_taken, day_names, many, shift_or}
+use Rattle.rota_read.specs.SharedSlots.{pair}
 use Rattle.rota_core.specs.declared.values.Demand.{Demand}
 use Rattle.rota_core.specs.Defaults.{no_demand}
 use Rattle.rota_core.specs.WeekTables.{WeekTables}
 use Rattle.rota_read.specs.declared.week.RequestRow.{RequestRow}
-use Rattle.rota_read.specs.DayRows.{DayRows, no_day_rows, day_row, day_table}
+use Rattle.rota_layout.specs.DayRows.{DayRows, no_day_rows, day_row, day_table}
 
 -- a minimum and an optimal number
 unfoldable pub demand : Layout Demand

@@ -5,7 +5,7 @@ use Rattle.std.specs.Option.{ForSome, option_map_or}
 use Rattle.rota_core.specs.Sizes.{DAYS}
 use Rattle.rota_core.specs.ScenarioTables.{ScenarioTables}
 use Rattle.rota_read.specs.declared.week.RequestRow.{RequestRow}
-use Rattle.rota_read.specs.Layout.{Layout, one_more}
+use Rattle.rota_layout.specs.Layout.{Layout, one_more}
 use Rattle.rota_read.specs.WeekLayout.{request}
 
 -- one more row of requests

@@ -1,42 +1,10 @@
-//! Reads days.
+//! The names of days.
 
-ghost use Rattle.std.specs.Prelude.{◌≡◌, ◌<◌, IfOk};
-ghost use Rattle.rota_core.specs.Words.{index_of};
-ghost use Rattle.rota_read.specs.Layout.{day_names, known_name, none_taken};
-ghost use Rattle.rota_read.specs.Reading.{read_layout, Reads};
+ghost use Rattle.std.specs.Prelude.{◌≡◌, ◌<◌};
+ghost use Rattle.rota_layout.specs.Layout.{day_names};
 ghost use Rattle.rota_read.specs.SolutionText.{name_at};
 
-use crate::cursor::Cursor;
-use crate::fault::Stop;
-use rota_core::{DAYS, Kind};
-
-impl<'a> Cursor<'a> {
-    /// A day, from 0 for `Mon`.
-    #[tactic(auto, using(crate::proofs::NameSteps::known_by_word))]
-    pub fn day(&mut self) -> Result<u8, Stop>
-        ensures read { Reads (λ d. d) result self.new (read_layout (known_name day_names none_taken) self.old) }
-        ensures below { IfOk result (λ d. d < DAYS) }
-    {
-        let name = self.word()?;
-        day_named(name.word).ok_or(name.fault(Kind::Unknown))
-    }
-}
-
-// The number of the day with this name, from 0 for `Mon`.
-fn day_named(word: &[u8]) -> Option<u8>
-    ensures { result ≡ index_of day_names word.now }
-{
-    match word {
-        b"Mon" => Some(0),
-        b"Tue" => Some(1),
-        b"Wed" => Some(2),
-        b"Thu" => Some(3),
-        b"Fri" => Some(4),
-        b"Sat" => Some(5),
-        b"Sun" => Some(6),
-        _ => None,
-    }
-}
+use rota_core::DAYS;
 
 /// The name of a day in the files: `Mon` for 0 to `Sun` for 6.
 pub fn day_name(day: u8) -> &'static [u8]

@@ -6,15 +6,15 @@ ghost use Rattle.rota_core.specs.Defaults.{no_past};
 ghost use Rattle.rota_core.specs.Limits.{AreLimited};
 ghost use Rattle.rota_core.specs.ScenarioTables.{numbers_of};
 ghost use Rattle.rota_core.specs.declared.fault.FileName.TheVariants as files;
-ghost use Rattle.rota_read.specs.Files.{Spells};
-ghost use Rattle.rota_read.specs.FileAnswers.{IsFaultOf};
+ghost use Rattle.rota_layout.specs.Files.{Spells};
+ghost use Rattle.rota_layout.specs.FileAnswers.{IsFaultOf};
 ghost use Rattle.rota_read.specs.HistoryLayout.{past, history};
-ghost use Rattle.rota_read.specs.Layout.{known_row, repeat, value_of_each};
-ghost use Rattle.rota_read.specs.Reading.{read_layout, Reads, read_text, ReadsFile};
+ghost use Rattle.rota_layout.specs.Layout.{repeat};
+ghost use Rattle.rota_read.specs.SharedSlots.{known_row, value_of_each};
+ghost use Rattle.rota_layout.specs.Reading.{read_layout, Reads, read_text, ReadsFile};
 
-use crate::cursor::Cursor;
-use crate::fault::Stop;
 use rota_core::{FileFault, FileName, History, HistoryParts, MAX_NUMBER, Past, Scenario};
+use rota_layout::{Cursor, Stop};
 use std::alloc::{AllocError, Global};
 
 // Stands in for a nurse without a row. A history has none: see `each_nurse_has_a_past`.
@@ -27,66 +27,72 @@ const NO_PAST: Past = Past {
     off_run: 0,
 };
 
-impl<'a> Cursor<'a> {
-    #[tactic(auto, unfolding(crate::specs::HistoryLayout::past, crate::specs::Reading::read_layout))]
-    fn past(&mut self, scenario: &Scenario) -> Result<Past, Stop>
-        ensures { Reads (λ p. p) result self.new (read_layout (past scenario.now.shifts) self.old) }
-    {
-        let assignments = self.number(0, MAX_NUMBER)?;
-        let weekends = self.number(0, MAX_NUMBER)?;
-        let last = self.shift_or(b"None", scenario)?;
-        let shift_run = self.number(0, MAX_NUMBER)?;
-        let work_run = self.number(0, MAX_NUMBER)?;
-        let off_run = self.number(0, MAX_NUMBER)?;
-        Ok(Past {
-            assignments,
-            weekends,
-            last,
-            shift_run,
-            work_run,
-            off_run,
-        })
-    }
+#[tactic(auto, unfolding(crate::specs::HistoryLayout::past, rota_layout::specs::Reading::read_layout))]
+fn past(cursor: &mut Cursor<'_>, scenario: &Scenario) -> Result<Past, Stop>
+    ensures { Reads (λ p. p) result cursor.new (read_layout (past scenario.now.shifts) cursor.old) }
+{
+    let assignments = cursor.number(0, MAX_NUMBER)?;
+    let weekends = cursor.number(0, MAX_NUMBER)?;
+    let last = cursor.shift_or(b"None", scenario)?;
+    let shift_run = cursor.number(0, MAX_NUMBER)?;
+    let work_run = cursor.number(0, MAX_NUMBER)?;
+    let off_run = cursor.number(0, MAX_NUMBER)?;
+    Ok(Past {
+        assignments,
+        weekends,
+        last,
+        shift_run,
+        work_run,
+        off_run,
+    })
+}
 
-    #[tactic(auto, using(crate::proofs::NameSteps::known_taken), unfolding(crate::specs::Layout::known_row, crate::specs::Reading::read_layout))]
-    fn past_row(&mut self, scenario: &Scenario, pasts: &mut [Option<Past>]) -> Result<(), Stop>
-        requires { length pasts.old ≡ length scenario.now.nurses }
-        ensures { Reads (λ _. pasts.new) result self.new (read_layout (known_row scenario.now.nurses (past scenario.now.shifts) pasts.old) self.old) }
-    {
-        let nurse = self.nurse(scenario)?;
-        let row = usize::from(nurse);
-        self.unless_taken(pasts[row].is_some())?;
-        let past = self.past(scenario)?;
-        pasts[row] = Some(past);
-        Ok(())
-    }
+#[tactic(auto, using(rota_layout::proofs::ReadingLaws::known_taken), unfolding(crate::specs::SharedSlots::known_row, rota_layout::specs::Reading::read_layout))]
+fn past_row(
+    cursor: &mut Cursor<'_>,
+    scenario: &Scenario,
+    pasts: &mut [Option<Past>],
+) -> Result<(), Stop>
+    requires { length pasts.old ≡ length scenario.now.nurses }
+    ensures { Reads (λ _. pasts.new) result cursor.new (read_layout (known_row scenario.now.nurses (past scenario.now.shifts) pasts.old) cursor.old) }
+{
+    let nurse = cursor.nurse(scenario)?;
+    let row = usize::from(nurse);
+    cursor.unless_taken(pasts[row].is_some())?;
+    let past = past(cursor, scenario)?;
+    pasts[row] = Some(past);
+    Ok(())
+}
 
-    #[tactic(auto, using(crate::proofs::RowSteps::row_steps))]
-    fn rows_of_nurses(
-        &mut self,
-        scenario: &Scenario,
-        count: u16,
-        pasts: &mut [Option<Past>],
-    ) -> Result<(), Stop>
-        requires { length pasts.old ≡ length scenario.now.nurses }
-        ensures { Reads (λ _. pasts.new) result self.new (read_layout (repeat count (known_row scenario.now.nurses (past scenario.now.shifts)) pasts.old) self.old) }
-    {
-        for _ in 0..count {
-            self.past_row(scenario, pasts)?;
-        }
-        Ok(())
+#[tactic(auto, using(rota_layout::proofs::ReadingLaws::row_steps))]
+fn rows_of_nurses(
+    cursor: &mut Cursor<'_>,
+    scenario: &Scenario,
+    count: u16,
+    pasts: &mut [Option<Past>],
+) -> Result<(), Stop>
+    requires { length pasts.old ≡ length scenario.now.nurses }
+    ensures { Reads (λ _. pasts.new) result cursor.new (read_layout (repeat count (known_row scenario.now.nurses (past scenario.now.shifts)) pasts.old) cursor.old) }
+{
+    for _ in 0..count {
+        past_row(cursor, scenario, pasts)?;
     }
+    Ok(())
+}
 
-    // The row of each nurse, ordered by nurse.
-    #[tactic(auto, unfolding(crate::specs::Layout::value_of_each))]
-    fn past_rows(&mut self, alloc: Global, scenario: &Scenario) -> Result<Vec<Option<Past>>, Stop>
-        ensures { Reads (λ v. v.items) result self.new (read_layout (value_of_each scenario.now.nurses (past scenario.now.shifts)) self.old) }
-    {
-        let count = scenario.nurses();
-        let mut pasts = no_rows(alloc, count)?;
-        self.rows_of_nurses(scenario, count, &mut pasts)?;
-        Ok(pasts)
-    }
+// The row of each nurse, ordered by nurse.
+#[tactic(auto, unfolding(crate::specs::SharedSlots::value_of_each))]
+fn past_rows(
+    cursor: &mut Cursor<'_>,
+    alloc: Global,
+    scenario: &Scenario,
+) -> Result<Vec<Option<Past>>, Stop>
+    ensures { Reads (λ v. v.items) result cursor.new (read_layout (value_of_each scenario.now.nurses (past scenario.now.shifts)) cursor.old) }
+{
+    let count = scenario.nurses();
+    let mut pasts = no_rows(alloc, count)?;
+    rows_of_nurses(cursor, scenario, count, &mut pasts)?;
+    Ok(pasts)
 }
 
 fn no_rows(alloc: Global, count: u16) -> Result<Vec<Option<Past>>, AllocError>
@@ -106,7 +112,7 @@ fn each_past(alloc: Global, pasts: &[Option<Past>]) -> Result<Vec<Past>, AllocEr
 }
 
 // The rows of a history, from the whole text.
-#[tactic(auto, using(crate::proofs::EndLemmas::front_fails), unfolding(crate::specs::HistoryLayout::history, crate::specs::Layout::exactly, crate::specs::Reading::read_layout, crate::specs::Reading::read_text))]
+#[tactic(auto, using(rota_layout::proofs::ReadingLaws::front_fails), unfolding(crate::specs::HistoryLayout::history, rota_layout::specs::Layout::exactly, rota_layout::specs::Reading::read_layout, rota_layout::specs::Reading::read_text))]
 fn history_parts(alloc: Global, scenario: &Scenario, text: &[u8]) -> Result<HistoryParts, Stop>
     ensures read { ReadsFile history_of result (read_text (history scenario.now) text.now) }
     ensures limits { IfOk result (λ _. AreLimited (numbers_of scenario.now)) }
@@ -116,7 +122,7 @@ fn history_parts(alloc: Global, scenario: &Scenario, text: &[u8]) -> Result<Hist
     let week = cursor.number(0, MAX_NUMBER)?;
     cursor.word()?;
     cursor.exactly(b"NURSE_HISTORY")?;
-    let pasts = cursor.past_rows(alloc, scenario)?;
+    let pasts = past_rows(&mut cursor, alloc, scenario)?;
     cursor.finish()?;
     Ok(HistoryParts {
         nurses: scenario.nurses(),
@@ -141,7 +147,7 @@ fn history_parts(alloc: Global, scenario: &Scenario, text: &[u8]) -> Result<Hist
 /// token's line, or `Ended`, with the line of the last token (1 if there is none). A text of more than
 /// `MAX_FILE_LEN` bytes has `Limit` on line 0. `Memory` is returned only if memory runs out before a fault
 /// was found.
-#[tactic(auto, using(crate::proofs::FileLaws::file_steps))]
+#[tactic(auto, using(rota_layout::proofs::ReadingLaws::file_steps))]
 pub fn read_history(alloc: Global, scenario: &Scenario, text: &[u8]) -> Result<History, FileFault>
     ensures spelled { IfOk result (Spells (history scenario.now) text.now) }
     ensures numbers { IfOk result (λ h. h.numbers ≡ numbers_of scenario.now) }

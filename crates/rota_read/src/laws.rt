@@ -1,11 +1,8 @@
 //! The laws of the files. Each law holds for all texts, and does nothing when it runs.
 ghost use Rattle.rota_core.specs.ScenarioTables.{ScenarioTables};
-ghost use Rattle.std.specs.Prelude.{ℕ};
-ghost use Rattle.rota_read.specs.CertificateLayout.{certificate};
-ghost use Rattle.rota_read.specs.FactsLayout.{facts};
 ghost use Rattle.rota_read.specs.HistoryLayout.{history};
 ghost use Rattle.rota_read.specs.HistoryRows.{GivesEachPast};
-ghost use Rattle.rota_read.specs.OneMeaning.{OneMeaning};
+ghost use Rattle.rota_layout.specs.OneMeaning.{OneMeaning};
 ghost use Rattle.rota_read.specs.ScenarioLayout.{scenario};
 ghost use Rattle.rota_read.specs.SolutionLayout.{solution};
 ghost use Rattle.rota_read.specs.SolutionText.{EachRosterHasItsText};
@@ -15,13 +12,13 @@ ghost use Rattle.rota_read.specs.WeekLayout.{week};
 use rota_core::laws::{numerals_read_back, rosters_list_their_cells};
 
 /// Every text spells one scenario or has one fault, and never both.
-#[tactic(auto, using(crate::proofs::FileLaws::one_meaning))]
+#[tactic(auto, using(rota_layout::proofs::ReadingLaws::one_meaning))]
 pub fn each_text_means_one_scenario()
     ensures { OneMeaning scenario }
 {}
 
 /// For each scenario, every text spells one history or has one fault, and never both.
-#[tactic(auto, using(crate::proofs::FileLaws::one_meaning))]
+#[tactic(auto, using(rota_layout::proofs::ReadingLaws::one_meaning))]
 pub fn each_text_means_one_history()
     ensures { (tables : ScenarioTables) → OneMeaning (history tables) }
 {}
@@ -33,7 +30,7 @@ pub fn each_nurse_has_a_past()
 {}
 
 /// For each scenario, every text spells one week or has one fault, and never both.
-#[tactic(auto, using(crate::proofs::FileLaws::one_meaning))]
+#[tactic(auto, using(rota_layout::proofs::ReadingLaws::one_meaning))]
 pub fn each_text_means_one_week()
     ensures { (tables : ScenarioTables) → OneMeaning (week tables) }
 {}
@@ -45,21 +42,9 @@ pub fn no_requirement_is_cut_off()
     ensures { BoundEndsNoRows }
 {}
 
-/// For each scenario and number of weeks, every text spells one certificate or has one fault, and never both.
-#[tactic(auto, using(crate::proofs::FileLaws::one_meaning))]
-pub fn each_text_means_one_certificate()
-    ensures { (tables : ScenarioTables) (weeks : ℕ) → OneMeaning (certificate tables weeks) }
-{}
-
-/// For each scenario and number of weeks, every text spells one list of facts or has one fault, and never both.
-#[tactic(auto, using(crate::proofs::FileLaws::one_meaning))]
-pub fn each_text_means_one_list_of_facts()
-    ensures { (tables : ScenarioTables) (weeks : ℕ) → OneMeaning (facts tables weeks) }
-{}
-
 /// For each scenario, every text spells the assignments of one solution or has one fault, and never
 /// both.
-#[tactic(auto, using(crate::proofs::FileLaws::one_meaning))]
+#[tactic(auto, using(rota_layout::proofs::ReadingLaws::one_meaning))]
 pub fn each_text_means_one_solution()
     ensures { (tables : ScenarioTables) → OneMeaning (solution tables) }
 {}

@@ -13,30 +13,21 @@
 //! ```
 #![tactic(auto)]
 
-mod certificate;
 mod contracts;
-mod cursor;
-mod day_rows;
 mod days;
-mod facts;
-mod fault;
 mod history;
 pub mod laws;
 mod names;
 mod nurses;
-mod prices;
 mod requirements;
 mod rows;
 mod scenario;
 mod shift_types;
-mod slots;
 mod solution;
 mod week;
 mod week_tables;
 
-pub use certificate::read_certificate;
 pub use days::day_name;
-pub use facts::{GivenFacts, read_facts};
 pub use history::read_history;
 pub use scenario::read_scenario;
 pub use solution::{read_fixed, read_solution};

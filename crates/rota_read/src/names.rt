@@ -1,18 +1,16 @@
-//! Reads names: new names, and known names by their indices.
+//! Reads the names of a scenario file: new names, and known names by their indices.
 
-ghost use Rattle.std.specs.Prelude.{◌≡◌, true, false, ◌<◌, ◌++◌, IfOk, MatchResult, length};
-ghost use Rattle.std.specs.Option.{ForSome};
-ghost use Rattle.rota_core.specs.declared.fault.Kind.TheVariants.{Repeated};
+ghost use Rattle.std.specs.Prelude.{◌≡◌, false, ◌<◌, ◌++◌, IfOk, length};
 ghost use Rattle.rota_core.specs.Words.{is_among};
 ghost use Rattle.rota_core.specs.Parts.{bytes_of};
 ghost use Rattle.rota_core.specs.ScenarioTables.{reserved};
-ghost use Rattle.rota_read.specs.Layout.{new_name, known_name, none_taken, is_one_of, shift_or};
-ghost use Rattle.rota_read.specs.Reading.{read_layout, Reads};
+ghost use Rattle.rota_layout.specs.Layout.{known_name, none_taken};
+ghost use Rattle.rota_read.specs.SharedSlots.{new_name, is_one_of};
+ghost use Rattle.rota_layout.specs.Reading.{read_layout, Reads};
 
-use crate::cursor::Cursor;
-use crate::fault::{Fault, Stop};
 use indexmap::IndexSet;
-use rota_core::{Kind, Scenario, index_of_name, is_name};
+use rota_core::{Kind, index_of_name, is_name};
+use rota_layout::{Cursor, Stop};
 
 pub(crate) fn is_taken(taken: &[usize], index: usize) -> bool
     ensures { result ≡ is_one_of taken.now index }
@@ -26,103 +24,37 @@ fn is_reserved(word: &[u8]) -> bool
     word == b"None".as_slice() || word == b"Any".as_slice()
 }
 
-impl<'a> Cursor<'a> {
-    /// Refuses the previous name if it is taken.
-    pub(crate) fn unless_taken(&self, taken: bool) -> Result<(), Stop>
-        ensures { MatchResult result
-            (λ _. taken ≡ false)
-            (λ e. (taken ≡ true) × (e ≡ Stop.Fault (record { kind = Repeated; line = self.now.last }))) }
-    {
-        if taken {
-            return Err(Stop::Fault(Fault {
-                kind: Kind::Repeated,
-                line: self.last_line(),
-            }));
-        }
-        Ok(())
-    }
+/// A word that is none of the names.
+#[tactic(auto, using(crate::proofs::NewNames::new_by_word))]
+pub fn new_name<'a>(cursor: &mut Cursor<'a>, names: &IndexSet<Vec<u8>>) -> Result<&'a [u8], Stop>
+    ensures read { Reads (λ w. w.now) result cursor.new (read_layout (new_name (bytes_of names.now)) cursor.old) }
+    ensures new { IfOk result (λ w. is_among (bytes_of names.now) w.now ≡ false) }
+{
+    let name = cursor.word()?;
+    cursor.unless_taken(is_name(names, name.word))?;
+    Ok(name.word)
+}
 
-    /// A word that is none of the names.
-    #[tactic(auto, using(crate::proofs::NameSteps::new_by_word))]
-    pub fn new_name(&mut self, names: &IndexSet<Vec<u8>>) -> Result<&'a [u8], Stop>
-        ensures read { Reads (λ w. w.now) result self.new (read_layout (new_name (bytes_of names.now)) self.old) }
-        ensures new { IfOk result (λ w. is_among (bytes_of names.now) w.now ≡ false) }
-    {
-        let name = self.word()?;
-        self.unless_taken(is_name(names, name.word))?;
-        Ok(name.word)
-    }
+/// A new name that is not reserved.
+#[tactic(auto, using(crate::proofs::NewNames::new_by_word))]
+pub fn new_shift_name<'a>(
+    cursor: &mut Cursor<'a>,
+    names: &IndexSet<Vec<u8>>,
+) -> Result<&'a [u8], Stop>
+    ensures read { Reads (λ w. w.now) result cursor.new (read_layout (new_name (reserved ++ bytes_of names.now)) cursor.old) }
+    ensures new { IfOk result (λ w. is_among (bytes_of names.now) w.now ≡ false) }
+{
+    let name = cursor.word()?;
+    cursor.unless_taken(is_reserved(name.word) || is_name(names, name.word))?;
+    Ok(name.word)
+}
 
-    /// A new name that is not reserved.
-    #[tactic(auto, using(crate::proofs::NameSteps::new_by_word))]
-    pub fn new_shift_name(&mut self, names: &IndexSet<Vec<u8>>) -> Result<&'a [u8], Stop>
-        ensures read { Reads (λ w. w.now) result self.new (read_layout (new_name (reserved ++ bytes_of names.now)) self.old) }
-        ensures new { IfOk result (λ w. is_among (bytes_of names.now) w.now ≡ false) }
-    {
-        let name = self.word()?;
-        self.unless_taken(is_reserved(name.word) || is_name(names, name.word))?;
-        Ok(name.word)
-    }
-
-    /// The index of a name.
-    #[tactic(auto, using(crate::proofs::NameSteps::known_by_word))]
-    pub fn known_name(&mut self, names: &IndexSet<Vec<u8>>) -> Result<usize, Stop>
-        ensures read { Reads (λ n. n) result self.new (read_layout (known_name (bytes_of names.now) none_taken) self.old) }
-        ensures below { IfOk result (λ n. n < length (bytes_of names.now)) }
-    {
-        let name = self.word()?;
-        index_of_name(names, name.word).ok_or(name.fault(Kind::Unknown))
-    }
-
-    /// The number of a nurse.
-    #[tactic(auto, using(crate::proofs::NameSteps::known_by_word))]
-    pub fn nurse(&mut self, scenario: &Scenario) -> Result<u16, Stop>
-        ensures read { Reads (λ n. n) result self.new (read_layout (known_name scenario.now.nurses none_taken) self.old) }
-        ensures below { IfOk result (λ n. n < length scenario.now.nurses) }
-    {
-        let name = self.word()?;
-        scenario
-            .find_nurse(name.word)
-            .ok_or(name.fault(Kind::Unknown))
-    }
-
-    /// The number of a shift type.
-    #[tactic(auto, using(crate::proofs::NameSteps::known_by_word))]
-    pub fn shift(&mut self, scenario: &Scenario) -> Result<u8, Stop>
-        ensures read { Reads (λ s. s) result self.new (read_layout (known_name scenario.now.shifts none_taken) self.old) }
-        ensures below { IfOk result (λ s. s < length scenario.now.shifts) }
-    {
-        let name = self.word()?;
-        scenario
-            .find_shift(name.word)
-            .ok_or(name.fault(Kind::Unknown))
-    }
-
-    /// The number of a skill.
-    #[tactic(auto, using(crate::proofs::NameSteps::known_by_word))]
-    pub fn skill(&mut self, scenario: &Scenario) -> Result<u8, Stop>
-        ensures read { Reads (λ k. k) result self.new (read_layout (known_name scenario.now.skills none_taken) self.old) }
-        ensures below { IfOk result (λ k. k < length scenario.now.skills) }
-    {
-        let name = self.word()?;
-        scenario
-            .find_skill(name.word)
-            .ok_or(name.fault(Kind::Unknown))
-    }
-
-    /// The number of a shift type, or `None` if the token is this word.
-    #[tactic(auto, using(crate::proofs::NameSteps::shift_by_word))]
-    pub fn shift_or(&mut self, word: &[u8], scenario: &Scenario) -> Result<Option<u8>, Stop>
-        ensures read { Reads (λ s. s) result self.new (read_layout (shift_or word.now scenario.now.shifts) self.old) }
-        ensures below { IfOk result (λ s. ForSome s (λ n. n < length scenario.now.shifts)) }
-    {
-        let name = self.word()?;
-        if name.word == word {
-            return Ok(None);
-        }
-        let Some(shift) = scenario.find_shift(name.word) else {
-            return Err(name.fault(Kind::Unknown));
-        };
-        Ok(Some(shift))
-    }
+/// The index of a name.
+#[tactic(auto, using(rota_layout::proofs::ReadingLaws::known_by_word))]
+pub fn known_name(cursor: &mut Cursor<'_>, names: &IndexSet<Vec<u8>>) -> Result<usize, Stop>
+    ensures read { Reads (λ n. n) result cursor.new (read_layout (known_name (bytes_of names.now) none_taken) cursor.old) }
+    ensures below { IfOk result (λ n. n < length (bytes_of names.now)) }
+{
+    let name = cursor.word()?;
+    index_of_name(names, name.word).ok_or(name.fault(Kind::Unknown))
 }

@@ -3,20 +3,21 @@
 ghost use Rattle.std.specs.Prelude.{◌≡◌, ◌≤◌, [], codes, length, IfOk, IfErr, OnOk};
 ghost use Rattle.rota_core.specs.declared.fault.FileName.TheVariants as files;
 ghost use Rattle.rota_core.specs.Parts.{bytes_of, scenario_of};
-ghost use Rattle.rota_read.specs.FileAnswers.{IsFaultOf};
-ghost use Rattle.rota_read.specs.Files.{Spells};
-ghost use Rattle.rota_read.specs.Reading.{read_layout, read_text, Reads, ReadsFile};
+ghost use Rattle.rota_layout.specs.FileAnswers.{IsFaultOf};
+ghost use Rattle.rota_layout.specs.Files.{Spells};
+ghost use Rattle.rota_layout.specs.Reading.{read_layout, read_text, Reads, ReadsFile};
 ghost use Rattle.rota_read.specs.ScenarioRows.{tables_of, IsEmpty};
-ghost use Rattle.rota_read.specs.Layout.{new_name, one_more};
+ghost use Rattle.rota_layout.specs.Layout.{one_more};
+ghost use Rattle.rota_read.specs.SharedSlots.{new_name};
 ghost use Rattle.rota_read.specs.ScenarioLayout.{section, scenario};
 
-use crate::contracts::{ContractRows, no_contracts};
-use crate::cursor::Cursor;
-use crate::fault::Stop;
-use crate::nurses::{NurseRows, contract_column, no_nurses, skill_table};
-use crate::shift_types::{ShiftRows, no_shift_types};
+use crate::contracts::{ContractRows, contracts_part, no_contracts};
+use crate::nurses::{NurseRows, contract_column, no_nurses, nurses_part, skill_table};
+use crate::rows::new_names;
+use crate::shift_types::{ShiftRows, no_shift_types, shifts_part, successions_part};
 use indexmap::IndexSet;
 use rota_core::{FileFault, FileName, MAX_SKILLS, MAX_WEEKS, Scenario, ScenarioParts};
+use rota_layout::{Cursor, Stop};
 use std::alloc::{AllocError, Global};
 
 // The contents of the sections of a scenario file.
@@ -90,44 +91,46 @@ impl ScenarioRows {
     }
 }
 
-impl<'a> Cursor<'a> {
-    #[tactic(auto, unfolding(crate::specs::ScenarioLayout::section, crate::specs::Reading::read_layout))]
-    fn skills_part(&mut self, alloc: Global, names: &mut IndexSet<Vec<u8>>) -> Result<(), Stop>
-        requires { bytes_of names.old ≡ [] }
-        ensures read { Reads (λ _. bytes_of names.new) result self.new (read_layout (section (codes "SKILLS") MAX_SKILLS (one_more new_name) []) self.old) }
-        ensures few { OnOk result (length (bytes_of names.new) ≤ MAX_SKILLS) }
-    {
-        let count = self.setting(b"SKILLS", 1, MAX_SKILLS)?;
-        self.new_names(alloc, count, names)
-    }
+#[tactic(auto, unfolding(crate::specs::ScenarioLayout::section, rota_layout::specs::Reading::read_layout))]
+fn skills_part(
+    cursor: &mut Cursor<'_>,
+    alloc: Global,
+    names: &mut IndexSet<Vec<u8>>,
+) -> Result<(), Stop>
+    requires { bytes_of names.old ≡ [] }
+    ensures read { Reads (λ _. bytes_of names.new) result cursor.new (read_layout (section (codes "SKILLS") MAX_SKILLS (one_more new_name) []) cursor.old) }
+    ensures few { OnOk result (length (bytes_of names.new) ≤ MAX_SKILLS) }
+{
+    let count = cursor.setting(b"SKILLS", 1, MAX_SKILLS)?;
+    new_names(cursor, alloc, count, names)
+}
 
-    // Reads each section into rows that one caller owns.
-    #[tactic(auto, unfolding(crate::specs::ScenarioLayout::scenario, crate::specs::Reading::read_layout))]
-    fn sections(&mut self, alloc: Global, rows: &mut ScenarioRows) -> Result<(), Stop>
-        requires { IsEmpty rows.old }
-        ensures { Reads (λ _. tables_of rows.new) result self.new (read_layout scenario self.old) }
-    {
-        self.exactly(b"SCENARIO")?;
-        self.exactly(b"=")?;
-        rows.name.extend_from_slice(self.word()?.word)?;
-        rows.weeks = self.setting(b"WEEKS", 1, MAX_WEEKS)?;
-        self.skills_part(alloc, &mut rows.skills)?;
-        self.shifts_part(alloc, &mut rows.shifts)?;
-        self.successions_part(alloc, &rows.shifts.names, &mut rows.forbidden)?;
-        self.contracts_part(alloc, &mut rows.contracts)?;
-        let contracts = &rows.contracts.names;
-        self.nurses_part(alloc, contracts, &rows.skills, &mut rows.nurses)
-    }
+// Reads each section into rows that one caller owns.
+#[tactic(auto, unfolding(crate::specs::ScenarioLayout::scenario, rota_layout::specs::Reading::read_layout))]
+fn sections(cursor: &mut Cursor<'_>, alloc: Global, rows: &mut ScenarioRows) -> Result<(), Stop>
+    requires { IsEmpty rows.old }
+    ensures { Reads (λ _. tables_of rows.new) result cursor.new (read_layout scenario cursor.old) }
+{
+    cursor.exactly(b"SCENARIO")?;
+    cursor.exactly(b"=")?;
+    rows.name.extend_from_slice(cursor.word()?.word)?;
+    rows.weeks = cursor.setting(b"WEEKS", 1, MAX_WEEKS)?;
+    skills_part(cursor, alloc, &mut rows.skills)?;
+    shifts_part(cursor, alloc, &mut rows.shifts)?;
+    successions_part(cursor, alloc, &rows.shifts.names, &mut rows.forbidden)?;
+    contracts_part(cursor, alloc, &mut rows.contracts)?;
+    let contracts = &rows.contracts.names;
+    nurses_part(cursor, alloc, contracts, &rows.skills, &mut rows.nurses)
 }
 
 /// The parts of a scenario, from the whole text.
-#[tactic(auto, using(crate::proofs::EndLemmas::front_fails), unfolding(crate::specs::Reading::read_text))]
+#[tactic(auto, using(rota_layout::proofs::ReadingLaws::front_fails), unfolding(rota_layout::specs::Reading::read_text))]
 fn scenario_parts(alloc: Global, text: &[u8]) -> Result<ScenarioParts, Stop>
     ensures { ReadsFile scenario_of result (read_text scenario text.now) }
 {
     let mut cursor = Cursor::open(text)?;
     let mut rows = ScenarioRows::new(alloc);
-    cursor.sections(alloc, &mut rows)?;
+    sections(&mut cursor, alloc, &mut rows)?;
     cursor.finish()?;
     Ok(rows.into_parts(alloc)?)
 }
@@ -146,7 +149,7 @@ fn scenario_parts(alloc: Global, text: &[u8]) -> Result<ScenarioParts, Stop>
 /// token's line, or `Ended`, with the line of the last token (1 if there is none). A text of more than
 /// `MAX_FILE_LEN` bytes has `Limit` on line 0. `Memory` is returned only if memory runs out before a fault
 /// was found.
-#[tactic(auto, using(crate::proofs::FileLaws::file_steps))]
+#[tactic(auto, using(rota_layout::proofs::ReadingLaws::file_steps))]
 pub fn read_scenario(alloc: Global, text: &[u8]) -> Result<Scenario, FileFault>
     ensures spelled { IfOk result (Spells scenario text.now) }
     ensures fault { IfErr result (IsFaultOf files.Scenario scenario text.now) }

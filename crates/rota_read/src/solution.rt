@@ -4,61 +4,62 @@ ghost use Rattle.std.specs.Prelude.{List, ◌∷◌, ◌++◌, [], IfOk, IfErr};
 ghost use Rattle.rota_core.specs.declared.fault.FileName.TheVariants as files;
 ghost use Rattle.rota_core.specs.InstanceTables.{problem_of};
 ghost use Rattle.rota_core.specs.RosterTables.{HasShapeOf};
-ghost use Rattle.rota_read.specs.FileAnswers.{IsFaultOf};
-ghost use Rattle.rota_read.specs.Layout.{repeat};
-ghost use Rattle.rota_read.specs.Reading.{read_layout, Reads, read_text};
+ghost use Rattle.rota_layout.specs.FileAnswers.{IsFaultOf};
+ghost use Rattle.rota_layout.specs.Layout.{repeat};
+ghost use Rattle.rota_layout.specs.Reading.{read_layout, Reads, read_text};
 ghost use Rattle.rota_read.specs.SolutionLayout.{solution, HasCells, SpellsRoster};
 ghost use Rattle.rota_read.specs.RosterReading.{assignment_row, ReadsRoster, ReadsRosterFile};
 
-use crate::cursor::Cursor;
-use crate::fault::Stop;
 use rota_core::{Cell, FileFault, FileName, Instance, MAX_NUMBER, Roster};
+use rota_layout::{Cursor, Stop};
 use std::alloc::Global;
 
-impl<'a> Cursor<'a> {
-    // Reads one more assignment, and puts it into the roster.
-    #[tactic(auto, using(crate::proofs::NameSteps::known_taken), unfolding(crate::specs::RosterReading::assignment_row, crate::specs::SolutionLayout::assignment, crate::specs::Layout::one_more, crate::specs::Reading::read_layout))]
-    fn assignment_row(&mut self, instance: &Instance, roster: &mut Roster) -> Result<Cell, Stop>
-        requires { HasShapeOf (problem_of instance.now) roster.old }
-        ensures read { (rows : List Cell) → HasCells (problem_of instance.now) roster.old rows →
-            Reads (λ one. rows ++ one ∷ []) result self.new (read_layout (assignment_row instance.now.scenario rows) self.old) }
-        ensures put { (rows : List Cell) → HasCells (problem_of instance.now) roster.old rows →
-            IfOk result (λ one. HasCells (problem_of instance.now) roster.new (rows ++ one ∷ [])) }
-    {
-        let scenario = instance.scenario();
-        let nurse = self.nurse(scenario)?;
-        let day = self.day()?;
-        let shift = self.shift(scenario)?;
-        let skill = self.skill(scenario)?;
-        let cell = Cell {
-            nurse,
-            day,
-            shift,
-            skill,
-        };
-        self.unless_taken(!roster.put(cell))?;
-        Ok(cell)
-    }
+// Reads one more assignment, and puts it into the roster.
+#[tactic(auto, using(rota_layout::proofs::ReadingLaws::known_taken), unfolding(crate::specs::RosterReading::assignment_row, crate::specs::SolutionLayout::assignment, rota_layout::specs::Layout::one_more, rota_layout::specs::Reading::read_layout))]
+fn assignment_row(
+    cursor: &mut Cursor<'_>,
+    instance: &Instance,
+    roster: &mut Roster,
+) -> Result<Cell, Stop>
+    requires { HasShapeOf (problem_of instance.now) roster.old }
+    ensures read { (rows : List Cell) → HasCells (problem_of instance.now) roster.old rows →
+        Reads (λ one. rows ++ one ∷ []) result cursor.new (read_layout (assignment_row instance.now.scenario rows) cursor.old) }
+    ensures put { (rows : List Cell) → HasCells (problem_of instance.now) roster.old rows →
+        IfOk result (λ one. HasCells (problem_of instance.now) roster.new (rows ++ one ∷ [])) }
+{
+    let scenario = instance.scenario();
+    let nurse = cursor.nurse(scenario)?;
+    let day = cursor.day()?;
+    let shift = cursor.shift(scenario)?;
+    let skill = cursor.skill(scenario)?;
+    let cell = Cell {
+        nurse,
+        day,
+        shift,
+        skill,
+    };
+    cursor.unless_taken(!roster.put(cell))?;
+    Ok(cell)
+}
 
-    // The roster of `count` assignments.
-    fn assignment_rows(
-        &mut self,
-        alloc: Global,
-        instance: &Instance,
-        count: u16,
-    ) -> Result<Roster, Stop>
-        ensures { ReadsRoster (problem_of instance.now) result self.new (read_layout (repeat count (assignment_row instance.now.scenario) []) self.old) }
-    {
-        let mut roster = Roster::new(alloc, instance)?;
-        for _ in 0..count {
-            self.assignment_row(instance, &mut roster)?;
-        }
-        Ok(roster)
+// The roster of `count` assignments.
+fn assignment_rows(
+    cursor: &mut Cursor<'_>,
+    alloc: Global,
+    instance: &Instance,
+    count: u16,
+) -> Result<Roster, Stop>
+    ensures { ReadsRoster (problem_of instance.now) result cursor.new (read_layout (repeat count (assignment_row instance.now.scenario) []) cursor.old) }
+{
+    let mut roster = Roster::new(alloc, instance)?;
+    for _ in 0..count {
+        assignment_row(cursor, instance, &mut roster)?;
     }
+    Ok(roster)
 }
 
 // The roster of a solution, from the whole text.
-#[tactic(auto, using(crate::proofs::EndLemmas::front_fails), unfolding(crate::specs::SolutionLayout::solution, crate::specs::Layout::exactly, crate::specs::Layout::many, crate::specs::RosterReading::assignment_row, crate::specs::Reading::read_layout, crate::specs::Reading::read_text))]
+#[tactic(auto, using(rota_layout::proofs::ReadingLaws::front_fails), unfolding(crate::specs::SolutionLayout::solution, rota_layout::specs::Layout::exactly, rota_layout::specs::Layout::many, crate::specs::RosterReading::assignment_row, rota_layout::specs::Reading::read_layout, rota_layout::specs::Reading::read_text))]
 fn solution_roster(alloc: Global, instance: &Instance, text: &[u8]) -> Result<Roster, Stop>
     ensures { ReadsRosterFile (problem_of instance.now) result (read_text (solution instance.now.scenario) text.now) }
 {
@@ -67,7 +68,7 @@ fn solution_roster(alloc: Global, instance: &Instance, text: &[u8]) -> Result<Ro
     cursor.number(0, MAX_NUMBER)?;
     cursor.word()?;
     let count = cursor.setting(b"ASSIGNMENTS", 0, MAX_NUMBER)?;
-    let roster = cursor.assignment_rows(alloc, instance, count)?;
+    let roster = assignment_rows(&mut cursor, alloc, instance, count)?;
     cursor.finish()?;
     Ok(roster)
 }

@@ -2,22 +2,21 @@
 
 ghost use Rattle.std.specs.Prelude.{◌≡◌, ◌+◌, [], length, IfOk, IfErr, OnOk};
 ghost use Rattle.std.specs.List.{All};
-ghost use Rattle.rota_read.specs.Layout.{repeat};
+ghost use Rattle.rota_layout.specs.Layout.{repeat};
 ghost use Rattle.rota_core.specs.Parts.{week_tables_of};
 ghost use Rattle.rota_core.specs.Limits.{AreLimited};
 ghost use Rattle.rota_core.specs.ScenarioTables.{numbers_of};
 ghost use Rattle.rota_core.specs.declared.fault.FileName.TheVariants as files;
-ghost use Rattle.rota_read.specs.Files.{Spells};
-ghost use Rattle.rota_read.specs.FileAnswers.{IsFaultOf};
-ghost use Rattle.rota_read.specs.Reading.{read_layout, read_text, Reads, ReadsFile};
+ghost use Rattle.rota_layout.specs.Files.{Spells};
+ghost use Rattle.rota_layout.specs.FileAnswers.{IsFaultOf};
+ghost use Rattle.rota_layout.specs.Reading.{read_layout, read_text, Reads, ReadsFile};
 ghost use Rattle.rota_read.specs.WeekRows.{request_row, IsRequest};
 ghost use Rattle.rota_read.specs.WeekLayout.{week};
 
-use crate::cursor::Cursor;
-use crate::day_rows::day_table;
-use crate::fault::Stop;
+use crate::requirements::requirement_rows;
 use crate::week_tables::requests_of;
 use rota_core::{Demand, FileFault, FileName, MAX_NUMBER, Scenario, Week, WeekParts};
+use rota_layout::{Cursor, Stop, day_table};
 use std::alloc::Global;
 
 // The demand if no row gives it.
@@ -34,41 +33,43 @@ pub struct RequestRow {
     pub day: u8,
 }
 
-impl<'a> Cursor<'a> {
-    #[tactic(auto, unfolding(crate::specs::WeekRows::request_row, crate::specs::WeekLayout::request, crate::specs::Layout::one_more, crate::specs::Reading::read_layout))]
-    fn request_row(&mut self, scenario: &Scenario, rows: &mut Vec<RequestRow>) -> Result<(), Stop>
-        requires { All (IsRequest (length scenario.now.nurses) (length scenario.now.shifts)) rows.old.items }
-        ensures read { Reads (λ _. rows.new.items) result self.new (read_layout (request_row scenario.now rows.old.items) self.old) }
-        ensures within { OnOk result (All (IsRequest (length scenario.now.nurses) (length scenario.now.shifts)) rows.new.items) }
-        ensures longer { OnOk result (length rows.new.items ≡ length rows.old.items + 1) }
-    {
-        let nurse = self.nurse(scenario)?;
-        let shift = self.shift_or(b"Any", scenario)?;
-        let day = self.day()?;
-        Ok(rows.push(RequestRow { nurse, shift, day })?)
-    }
+#[tactic(auto, unfolding(crate::specs::WeekRows::request_row, crate::specs::WeekLayout::request, rota_layout::specs::Layout::one_more, rota_layout::specs::Reading::read_layout))]
+fn request_row(
+    cursor: &mut Cursor<'_>,
+    scenario: &Scenario,
+    rows: &mut Vec<RequestRow>,
+) -> Result<(), Stop>
+    requires { All (IsRequest (length scenario.now.nurses) (length scenario.now.shifts)) rows.old.items }
+    ensures read { Reads (λ _. rows.new.items) result cursor.new (read_layout (request_row scenario.now rows.old.items) cursor.old) }
+    ensures within { OnOk result (All (IsRequest (length scenario.now.nurses) (length scenario.now.shifts)) rows.new.items) }
+    ensures longer { OnOk result (length rows.new.items ≡ length rows.old.items + 1) }
+{
+    let nurse = cursor.nurse(scenario)?;
+    let shift = cursor.shift_or(b"Any", scenario)?;
+    let day = cursor.day()?;
+    Ok(rows.push(RequestRow { nurse, shift, day })?)
+}
 
-    #[tactic(auto, using(crate::proofs::RowSteps::row_steps))]
-    fn request_rows(
-        &mut self,
-        alloc: Global,
-        scenario: &Scenario,
-        count: u16,
-    ) -> Result<Vec<RequestRow>, Stop>
-        ensures read { Reads (λ v. v.items) result self.new (read_layout (repeat count (request_row scenario.now) []) self.old) }
-        ensures within { IfOk result (λ v. All (IsRequest (length scenario.now.nurses) (length scenario.now.shifts)) v.items) }
-        ensures count { IfOk result (λ v. length v.items ≡ count) }
-    {
-        let mut rows = Vec::new(alloc);
-        for _ in 0..count {
-            self.request_row(scenario, &mut rows)?;
-        }
-        Ok(rows)
+#[tactic(auto, using(rota_layout::proofs::ReadingLaws::row_steps))]
+fn request_rows(
+    cursor: &mut Cursor<'_>,
+    alloc: Global,
+    scenario: &Scenario,
+    count: u16,
+) -> Result<Vec<RequestRow>, Stop>
+    ensures read { Reads (λ v. v.items) result cursor.new (read_layout (repeat count (request_row scenario.now) []) cursor.old) }
+    ensures within { IfOk result (λ v. All (IsRequest (length scenario.now.nurses) (length scenario.now.shifts)) v.items) }
+    ensures count { IfOk result (λ v. length v.items ≡ count) }
+{
+    let mut rows = Vec::new(alloc);
+    for _ in 0..count {
+        request_row(cursor, scenario, &mut rows)?;
     }
+    Ok(rows)
 }
 
 // The rows of a week, from the whole text.
-#[tactic(auto, using(crate::proofs::EndLemmas::front_fails), unfolding(crate::specs::WeekLayout::week, crate::specs::Layout::exactly, crate::specs::Layout::many, crate::specs::WeekRows::request_row, crate::specs::Reading::read_layout, crate::specs::Reading::read_text))]
+#[tactic(auto, using(rota_layout::proofs::ReadingLaws::front_fails), unfolding(crate::specs::WeekLayout::week, rota_layout::specs::Layout::exactly, rota_layout::specs::Layout::many, crate::specs::WeekRows::request_row, rota_layout::specs::Reading::read_layout, rota_layout::specs::Reading::read_text))]
 fn week_parts(alloc: Global, scenario: &Scenario, text: &[u8]) -> Result<WeekParts, Stop>
     ensures read { ReadsFile week_tables_of result (read_text (week scenario.now) text.now) }
     ensures within { IfOk result (λ _. AreLimited (numbers_of scenario.now)) }
@@ -77,10 +78,10 @@ fn week_parts(alloc: Global, scenario: &Scenario, text: &[u8]) -> Result<WeekPar
     cursor.exactly(b"WEEK_DATA")?;
     cursor.word()?;
     cursor.exactly(b"REQUIREMENTS")?;
-    let requirements = cursor.requirement_rows(alloc, scenario)?;
+    let requirements = requirement_rows(&mut cursor, alloc, scenario)?;
     cursor.exactly(b"=")?;
     let count = cursor.number(0, MAX_NUMBER)?;
-    let requests = cursor.request_rows(alloc, scenario, count)?;
+    let requests = request_rows(&mut cursor, alloc, scenario, count)?;
     cursor.finish()?;
     let nurses = scenario.nurses();
     let shifts = scenario.shifts();
@@ -115,7 +116,7 @@ fn week_parts(alloc: Global, scenario: &Scenario, text: &[u8]) -> Result<WeekPar
 /// token's line, or `Ended`, with the line of the last token (1 if there is none). A text of more than
 /// `MAX_FILE_LEN` bytes has `Limit` on line 0. `Memory` is returned only if memory runs out before a fault
 /// was found.
-#[tactic(auto, using(crate::proofs::FileLaws::file_steps))]
+#[tactic(auto, using(rota_layout::proofs::ReadingLaws::file_steps))]
 pub fn read_week(alloc: Global, scenario: &Scenario, text: &[u8]) -> Result<Week, FileFault>
     ensures spelled { IfOk result (Spells (week scenario.now) text.now) }
     ensures numbers { IfOk result (λ w. w.numbers ≡ numbers_of scenario.now) }

@@ -1,4 +1,4 @@
-use Rattle.rota_read.proofs.FileLaws.{spells-read}
+use Rattle.rota_layout.proofs.ReadingLaws.{spells-read}
 use Rattle.rota_read.proofs.HistoryLaws.{spells-is_history, spells-numbers}
 use Rattle.rota_read.proofs.history.read_history.Goals as goal
 

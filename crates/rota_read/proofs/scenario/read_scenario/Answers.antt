@@ -1,4 +1,4 @@
-use Rattle.rota_read.proofs.FileLaws.{spells-read}
+use Rattle.rota_layout.proofs.ReadingLaws.{spells-read}
 use Rattle.rota_read.proofs.ScenarioLaws.{spells-is_scenario}
 use Rattle.rota_read.proofs.scenario.read_scenario.Goals as goal
 

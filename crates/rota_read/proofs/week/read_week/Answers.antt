@@ -1,4 +1,4 @@
-use Rattle.rota_read.proofs.FileLaws.{spells-read}
+use Rattle.rota_layout.proofs.ReadingLaws.{spells-read}
 use Rattle.rota_read.proofs.WeekLaws.{spells-is_week, spells-numbers}
 use Rattle.rota_read.proofs.week.read_week.Goals as goal
 

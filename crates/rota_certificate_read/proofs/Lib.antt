@@ -1,0 +1,3 @@
+pub mod CertificateLaws
+pub mod FactsLaws
+pub mod PricesLaws

@@ -1,0 +1,4 @@
+pub mod CertificateLayout
+pub mod CertificateRows
+pub mod FactsLayout
+pub mod PricesLayout

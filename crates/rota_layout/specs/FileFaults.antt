@@ -1,0 +1,10 @@
+-- The fault of a text, with the name of the file, as the contract of a private function sees it.
+use Rattle.rota_core.specs.declared.fault.FileName.{FileName}
+use Rattle.rota_core.specs.declared.fault.FileFault.{FileFault}
+use Rattle.rota_core.specs.declared.fault.FileFault.TheVariants as errors
+use Rattle.rota_layout.specs.declared.fault.Stop.{Stop}
+use Rattle.rota_layout.specs.declared.fault.Stop.TheVariants as stops
+
+abbrev pub fault_in : FileName → Stop → FileFault
+fault_in file stops.Memory = errors.Memory
+fault_in file (stops.Fault f) = errors.Bad f.kind file f.line

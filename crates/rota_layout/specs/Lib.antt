@@ -1,0 +1,10 @@
+pub mod DayPairs
+pub mod DayRows
+pub mod FileAnswers
+pub mod FileFaults
+pub mod Files
+pub mod Layout
+pub mod OneMeaning
+pub mod Reading
+pub mod TokenLines
+pub mod Tokens
