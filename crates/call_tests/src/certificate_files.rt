@@ -1,8 +1,9 @@
 //! Certificates' files: their values, and their faults.
 use crate::week_files::two_nurses;
+use rota_certificate_read::read_certificate;
 use rota_core::Kind::{Ended, Limit, NoNumber, OtherWord, Trailing, Unknown};
 use rota_core::{Certificate, DayChoice, Fact, FileFault, FileName, Kind, Node, Prices};
-use rota_read::{read_certificate, read_scenario};
+use rota_read::read_scenario;
 use std::alloc::Global;
 use std::process::Abort;
 

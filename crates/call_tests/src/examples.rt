@@ -5,8 +5,10 @@ ghost use Rattle.rota_core.specs.RosterTables.{HasShapeOf};
 use crate::week_files::{instance_of, one_nurse_one_shift, run_in_the_history};
 use byte_ports::{CallPlan, MemoryTarget, Target};
 use opb_text::{OpbTaker, Sink};
+use rota_certificate_read::{read_certificate, read_facts};
 use rota_core::{Cell, FileFault, Instance, Roster, Rule};
 use rota_items::{Counts, Judge, Part, Taker, verdict_of};
+use rota_layout::{Cursor, Stop};
 use rota_read::{read_history, read_scenario};
 use solver_text::{Answer, Status};
 use std::alloc::Global;
@@ -52,6 +54,18 @@ fn example_of_rota_core(rt: &impl Abort, alloc: Global, instance: &Instance) -> 
 }
 
 #[test]
+fn slots_are_read(rt: HostRuntime) -> Result<(), Fail> {
+    assert_eq!(rt; example_of_rota_layout(&rt), Ok(()));
+    Ok(())
+}
+
+fn example_of_rota_layout(rt: &impl Abort) -> Result<(), Stop> {
+    let mut cursor = Cursor::open(b"ROWS = 12")?;
+    assert_eq!(rt; cursor.setting(b"ROWS", 0, 100)?, 12);
+    cursor.finish()
+}
+
+#[test]
 fn example_of_rota_read(rt: HostRuntime) -> Result<(), Fail> {
     let (alloc, text) = (rt.alloc(), one_nurse_one_shift().scenario);
     let scenario = read_scenario(alloc, text)?;
@@ -59,6 +73,19 @@ fn example_of_rota_read(rt: HostRuntime) -> Result<(), Fail> {
     if let Err(fault) = read_history(alloc, &scenario, b"HISTORY\n0 s1\n") {
         let line = format!(in alloc; "{fault}")?;
         assert_eq!(rt; line.as_str(), "history line 2: end of file");
+    }
+    Ok(())
+}
+
+#[test]
+fn example_of_rota_certificate_read(rt: HostRuntime) -> Result<(), Fail> {
+    let (alloc, text) = (rt.alloc(), one_nurse_one_shift().scenario);
+    let scenario = read_scenario(alloc, text)?;
+    let given = read_facts(alloc, &scenario, 1, b"FACTS s1\nROWS = 1\nHOLDS EVEN\n")?;
+    assert_eq!(rt; given.conditions.len(), 1);
+    if let Err(fault) = read_certificate(alloc, &scenario, 1, b"CERTIFICATE s1\n") {
+        let line = format!(in alloc; "{fault}")?;
+        assert_eq!(rt; line.as_str(), "certificate line 1: end of file");
     }
     Ok(())
 }

@@ -1,8 +1,9 @@
 //! Facts' files: their values, and their faults.
 use crate::week_files::two_nurses;
+use rota_certificate_read::{GivenFacts, read_facts};
 use rota_core::Kind::{Ended, Limit, NoNumber, OtherWord, Trailing, Unknown};
 use rota_core::{ChargeKind, ChargeLimit, DayChoice, Fact, FileFault, FileName, Kind, NurseLimit};
-use rota_read::{GivenFacts, read_facts, read_scenario};
+use rota_read::read_scenario;
 use std::alloc::Global;
 use std::process::Abort;
 

@@ -1,8 +1,9 @@
 //! Tables of prices in certificates: their values, and their faults.
 use crate::week_files::two_nurses;
+use rota_certificate_read::read_certificate;
 use rota_core::Kind::{Ended, Limit, NoNumber, OtherWord, Repeated, Unknown};
 use rota_core::{Certificate, DAYS, FileFault, FileName, Kind, MAX_FILE_LEN, MAX_PRICE, Prices};
-use rota_read::{read_certificate, read_scenario};
+use rota_read::read_scenario;
 use std::alloc::{AllocError, Global};
 use std::process::Abort;
 use std::test::Fail;

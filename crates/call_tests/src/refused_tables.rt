@@ -2,10 +2,9 @@
 //! memory ran out. `tests/program/refused_memory.sh` refuses each allocation in turn and compares the lines.
 use crate::answers::of_pieces;
 use crate::week_files::{instance_of, one_nurse_one_shift};
+use rota_certificate_read::{read_certificate, read_facts};
 use rota_core::{Bits, FileFault, Instance, Roster, Scenario};
-use rota_read::{
-    read_certificate, read_facts, read_history, read_scenario, read_solution, read_week,
-};
+use rota_read::{read_history, read_scenario, read_solution, read_week};
 use solver_text::Answer;
 use std::alloc::Global;
 use std::fmt::Debug;

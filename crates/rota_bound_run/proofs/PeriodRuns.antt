@@ -9,7 +9,7 @@ use Rattle.rota_core.specs.RosterTables.{RosterTables, set_of}
 use Rattle.rota_core.specs.ScenarioTables.{ScenarioTables}
 use Rattle.byte_ports.specs.declared.ports.Source.{Ghosts}
 use Rattle.rota_certificate.specs.Plans.{History}
-use Rattle.rota_read.specs.FactsLayout.{GivenTables}
+use Rattle.rota_certificate_read.specs.FactsLayout.{GivenTables}
 use Rattle.rota_pb.specs.PeriodFaults.{fault_in_week}
 use Rattle.rota_pb.specs.RunPorts.{Reader, reader_of}
 use Rattle.rota_pb.specs.Steps.{EndsInTurn, Step, ◌>>=◌, check, stopped, went_on}

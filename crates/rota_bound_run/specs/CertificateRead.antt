@@ -8,7 +8,7 @@ use Rattle.rota_core.specs.declared.fault.FileFault.TheVariants as refusals
 use Rattle.rota_core.specs.declared.fault.FileName.TheVariants as names
 use Rattle.rota_core.specs.declared.fault.Kind.TheVariants.{Repeated}
 use Rattle.rota_certificate.specs.CasePaths.{RepeatsFact}
-use Rattle.rota_read.specs.CertificateLayout.{IsCertificateOf, SpellsCertificate, certificate, leaf_with, node_of}
+use Rattle.rota_certificate_read.specs.CertificateLayout.{IsCertificateOf, SpellsCertificate, certificate, leaf_with, node_of}
 use Rattle.rota_pb.specs.RunPorts.{IsRead}
 use Rattle.rota_pb.specs.Steps.{Step, ◌>>=◌, call, check}
 use Rattle.rota_pb.specs.WeekFiles.{FailsCheck}

@@ -3,7 +3,7 @@ use Rattle.std.specs.Prelude.{◌≡◌, ℕ, Bool, List, [], ◌∷◌, ◌++�
 use Rattle.rota_core.specs.InstanceTables.{InstanceTables}
 use Rattle.rota_core.specs.ScenarioTables.{ScenarioTables}
 use Rattle.rota_core.specs.declared.fault.FileName.TheVariants as names
-use Rattle.rota_read.specs.FactsLayout.{GivenTables, facts, no_facts}
+use Rattle.rota_certificate_read.specs.FactsLayout.{GivenTables, facts, no_facts}
 use Rattle.rota_pb.specs.Steps.{Step, ◌>>=◌, find}
 use Rattle.rota_pb.specs.WeekFiles.{read_file}
 use Rattle.rota_bound_run.specs.PeriodFiles.{FilesOfWeek, OptionalReader, absent, named}

@@ -6,7 +6,7 @@ use Rattle.rota_certificate.specs.CountedCharges.{IsFirstUnmetCondition, plan_fr
 use Rattle.rota_certificate.specs.Facts.{Case}
 use Rattle.rota_certificate.specs.Optimality.{KeepAndMeet}
 use Rattle.rota_certificate.specs.Plans.{plan_cost}
-use Rattle.rota_read.specs.FactsLayout.{GivenTables}
+use Rattle.rota_certificate_read.specs.FactsLayout.{GivenTables}
 use Rattle.rota_pb.specs.RunPorts.{Reader}
 use Rattle.rota_pb.specs.declared.period_fault.PeriodFault.TheVariants.{Unmet}
 use Rattle.rota_pb.specs.Steps.{◌>>=◌, check}

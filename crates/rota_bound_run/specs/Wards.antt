@@ -4,7 +4,7 @@ use Rattle.rota_core.specs.Parts.{history_of}
 use Rattle.rota_core.specs.ScenarioTables.{ScenarioTables, numbers_of}
 use Rattle.rota_core.specs.WeekTables.{HistoryTables, IsHistory}
 use Rattle.rota_core.specs.declared.fault.FileName.TheVariants as names
-use Rattle.rota_read.specs.Files.{Spells}
+use Rattle.rota_layout.specs.Files.{Spells}
 use Rattle.rota_read.specs.HistoryLayout.{history}
 use Rattle.rota_read.specs.ScenarioLayout.{scenario}
 use Rattle.rota_pb.specs.RunPorts.{Reader}

@@ -4,7 +4,7 @@ ghost use Rattle.rota_core.specs.Certificates.{AreConditionsFor};
 ghost use Rattle.rota_core.specs.Limits.{max_number};
 ghost use Rattle.rota_core.specs.ScenarioTables.{numbers_of};
 ghost use Rattle.rota_core.specs.declared.fault.FileName.TheVariants as names;
-ghost use Rattle.rota_read.specs.FactsLayout.{facts, given_of};
+ghost use Rattle.rota_certificate_read.specs.FactsLayout.{facts, given_of};
 ghost use Rattle.rota_pb.specs.RunPorts.{reader_of};
 ghost use Rattle.rota_pb.specs.WeekFiles.{read_file as file_reading};
 ghost use Rattle.rota_bound_run.specs.PeriodFiles.{reader_if};
@@ -12,9 +12,9 @@ ghost use Rattle.rota_bound_run.specs.PeriodRead.{read_given};
 ghost use Rattle.rota_bound_run.specs.PeriodSteps.{EndsAs};
 
 use byte_ports::Source;
+use rota_certificate_read::{GivenFacts, read_facts};
 use rota_core::Scenario;
 use rota_pb::{Fault, read_file};
-use rota_read::{GivenFacts, read_facts};
 use std::alloc::Global;
 
 // The facts of the file, for plans of this number of weeks.

@@ -3,7 +3,7 @@ ghost use Rattle.std.specs.Prelude.{◌≡◌, ◌<◌, [], IfOk, IfSome, length
 ghost use Rattle.rota_core.specs.Certificates.{AreConditionsFor};
 ghost use Rattle.rota_core.specs.InstanceTables.{problem_of};
 ghost use Rattle.rota_core.specs.RosterTables.{set_of};
-ghost use Rattle.rota_read.specs.FactsLayout.{given_of};
+ghost use Rattle.rota_certificate_read.specs.FactsLayout.{given_of};
 ghost use Rattle.rota_pb.specs.RunPorts.{reader_of};
 ghost use Rattle.rota_certificate.specs.CountedCharges.{IsPlanned, numbers_in, plan_from};
 ghost use Rattle.rota_certificate.specs.PeriodBounds.{AreGivenFor, IsPeriod};
@@ -16,9 +16,9 @@ use crate::judged_week::judge_week;
 use crate::pasts::pasts_before;
 use byte_ports::Source;
 use rota_certificate::first_unmet;
+use rota_certificate_read::GivenFacts;
 use rota_core::{Instance, Roster};
 use rota_pb::PeriodFault;
-use rota_read::GivenFacts;
 use std::alloc::Global;
 
 /// Rosters of the weeks that keep the hard rules, and the sum of their penalties.

@@ -1,7 +1,7 @@
 //! The certificate, from its file.
 ghost use Rattle.std.specs.Prelude.{◌≡◌, ◌<◌, ◌≤◌, IfOk, MatchResult, is_some};
 ghost use Rattle.rota_core.specs.declared.fault.FileName.TheVariants as names;
-ghost use Rattle.rota_read.specs.CertificateLayout.{IsCertificateOf, SpellsCertificate, certificate};
+ghost use Rattle.rota_certificate_read.specs.CertificateLayout.{IsCertificateOf, SpellsCertificate, certificate};
 ghost use Rattle.rota_pb.specs.RunPorts.{IsRead, reader_of};
 ghost use Rattle.rota_pb.specs.WeekFiles.{FailsCheck};
 ghost use Rattle.rota_bound_run.specs.PeriodFiles.{reader_if};
@@ -9,9 +9,9 @@ ghost use Rattle.rota_bound_run.specs.CertificateRead.{AreFreeTables, IsFreeCert
 
 use byte_ports::Source;
 use rota_certificate::repeats_fact;
+use rota_certificate_read::read_certificate;
 use rota_core::{Certificate, FileFault, FileName, Kind, Leaf, Node, Prices, Scenario};
 use rota_pb::{Fault, read_file};
-use rota_read::read_certificate;
 use std::alloc::{AllocError, Global};
 
 // The certificate of the file, for plans of this number of weeks.

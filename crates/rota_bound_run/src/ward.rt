@@ -3,7 +3,7 @@ ghost use Rattle.std.specs.Prelude.{◌≡◌, ◌+◌, ◌<◌, ◌⊎◌, IfEr
 ghost use Rattle.rota_core.specs.ScenarioTables.{numbers_of};
 ghost use Rattle.rota_core.specs.WeekTables.{IsHistory};
 ghost use Rattle.rota_core.specs.declared.fault.FileName.TheVariants as names;
-ghost use Rattle.rota_read.specs.Files.{Spells};
+ghost use Rattle.rota_layout.specs.Files.{Spells};
 ghost use Rattle.rota_read.specs.ScenarioLayout.{scenario as scenario_layout};
 ghost use Rattle.rota_pb.specs.RunPorts.{reader_of};
 ghost use Rattle.rota_pb.specs.WeekFiles.{read_file as file_reading};

@@ -7,7 +7,7 @@ use Rattle.rota_core.specs.InstanceTables.{InstanceTables}
 use Rattle.rota_core.specs.Numeral.{numeral}
 use Rattle.rota_core.specs.ScenarioTables.{ScenarioTables}
 use Rattle.std.proofs.lemmas.List.Concat.{flat_map-append}
-use Rattle.rota_read.specs.Layout.{day_names}
+use Rattle.rota_layout.specs.Layout.{day_names}
 use Rattle.rota_read.specs.SolutionText.{spaced, ended, name_at, heading_text, assignment_text}
 use Rattle.rota_read.specs.SolutionText.{rows_text}
 

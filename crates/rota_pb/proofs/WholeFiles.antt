@@ -9,10 +9,10 @@ use Rattle.byte_ports.specs.Ports.{KnownBytes}
 use Rattle.rota_core.specs.declared.fault.FileName.{FileName}
 use Rattle.rota_core.specs.declared.fault.FileFault.{FileFault}
 use Rattle.rota_core.specs.declared.fault.FileFault.TheVariants as refusals
-use Rattle.rota_read.specs.declared.fault.Fault.{Fault as TextFault}
-use Rattle.rota_read.specs.Layout.{Layout}
-use Rattle.rota_read.specs.Files.{HasFault, too_long, misses_slot, goes_on, Spells}
-use Rattle.rota_read.specs.FileAnswers.{IsFaultOf}
+use Rattle.rota_layout.specs.declared.fault.Fault.{Fault as TextFault}
+use Rattle.rota_layout.specs.Layout.{Layout}
+use Rattle.rota_layout.specs.Files.{HasFault, too_long, misses_slot, goes_on, Spells}
+use Rattle.rota_layout.specs.FileAnswers.{IsFaultOf}
 use Rattle.rota_pb.specs.declared.fault.Fault.{Fault}
 use Rattle.rota_pb.specs.declared.fault.Fault.TheVariants.{Memory, Read}
 use Rattle.rota_pb.specs.WeekFiles.{FailsCheck}

@@ -8,8 +8,8 @@ pub use Rattle.rota_core.specs.declared.fault.FileName.{FileName}
 pub use Rattle.rota_items.specs.Linear.{Constraint, Model, Satisfies, SatisfiesModel, objective_value}
 pub use Rattle.rota_items.specs.Variables.{roster_of, unit_number}
 pub use Rattle.rota_items.specs.Imports.{Cell, InWeek, KeepsHardRules, Roster, Rule, Problem, soft_rules}
-pub use Rattle.rota_read.specs.Files.{HasFault, Spells}
-pub use Rattle.rota_read.specs.Layout.{Layout}
+pub use Rattle.rota_layout.specs.Files.{HasFault, Spells}
+pub use Rattle.rota_layout.specs.Layout.{Layout}
 pub use Rattle.rota_read.specs.SolutionLayout.{SpellsRoster, solution}
 pub use Rattle.rota_pb.specs.declared.fault.Fault.{Fault}
 pub use Rattle.rota_pb.specs.declared.fault.Fault.TheVariants.{Answer, Breaks, File, Memory, NoRoster, Read, Unmet, Write}

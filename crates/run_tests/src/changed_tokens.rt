@@ -3,10 +3,9 @@
 use crate::changes::{Base, texts_of};
 use crate::file_faults::read_tables;
 use crate::jobs::Kind as JobKind;
+use rota_certificate_read::{read_certificate, read_facts};
 use rota_core::{FileFault, FileName, Instance, Kind};
-use rota_read::{
-    read_certificate, read_facts, read_fixed, read_history, read_scenario, read_solution, read_week,
-};
+use rota_read::{read_fixed, read_history, read_scenario, read_solution, read_week};
 use std::alloc::{AllocError, Global};
 use std::process::Abort;
 use std::test::Fail;

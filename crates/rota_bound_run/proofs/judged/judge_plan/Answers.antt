@@ -1,6 +1,6 @@
 use Rattle.std.proofs.Common.{length, refl}
 use Rattle.std.proofs.lemmas.Result.{err_from_is_err_and}
-use Rattle.rota_read.specs.FactsLayout.{given_of}
+use Rattle.rota_certificate_read.specs.FactsLayout.{given_of}
 use Rattle.rota_pb.specs.Steps.{stopped, went_on}
 use Rattle.rota_bound_run.proofs.PeriodRuns.{is-zero, judges-no-rosters, judges-some, not-zero}
 use Rattle.rota_bound_run.proofs.judged.judge_plan.Goals as goal

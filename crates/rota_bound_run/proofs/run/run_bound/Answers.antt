@@ -1,6 +1,6 @@
 use Rattle.std.proofs.Common.{◌≡◌, ℕ, ◌<◌, ap, ◌∙◌, refl, arith, subst, length, Ok, Err}
 use Rattle.std.proofs.lemmas.Result.{err_from_is_err_and}
-use Rattle.rota_read.specs.FactsLayout.{given_of}
+use Rattle.rota_certificate_read.specs.FactsLayout.{given_of}
 use Rattle.rota_pb.specs.RunPorts.{reader_of}
 use Rattle.rota_pb.specs.Steps.{went_on}
 use Rattle.rota_bound_run.specs.Bounding.{bound_run}

@@ -4,9 +4,9 @@ use Rattle.rota_core.specs.ScenarioTables.{ScenarioTables}
 use Rattle.rota_core.specs.declared.fault.FileFault.{FileFault}
 use Rattle.rota_core.specs.declared.fault.FileFault.TheVariants as refusals
 use Rattle.rota_core.specs.declared.fault.FileName.TheVariants as names
-use Rattle.rota_read.specs.FileAnswers.{IsFaultOf}
-use Rattle.rota_read.specs.Files.{Spells}
-use Rattle.rota_read.specs.OneMeaning.{OneMeaning}
+use Rattle.rota_layout.specs.FileAnswers.{IsFaultOf}
+use Rattle.rota_layout.specs.Files.{Spells}
+use Rattle.rota_layout.specs.OneMeaning.{OneMeaning}
 use Rattle.rota_read.specs.ScenarioLayout.{scenario}
 use Rattle.rota_pb.specs.RunParts.{fault_of_file}
 use Rattle.rota_pb.specs.declared.fault.Fault.TheVariants.{Memory}
