@@ -26,10 +26,8 @@ use Rattle.rota_layout.specs.Layout.{codes, max_number, repeat}
 use Rattle.rota_layout.specs.Reading.{read_text}
 use Rattle.rota_layout.specs.Tokens.{Token}
 use Rattle.rota_certificate_read.proofs.FactsLaws.{fact-exists}
-use Rattle.rota_layout.proofs.ReadingLaws.{spells-read, fault_in-read}
 use Rattle.rota_certificate_read.proofs.PricesLaws.{table-for_week}
-use Rattle.rota_layout.proofs.ReadingLaws.{setting-within}
-use Rattle.rota_layout.proofs.ReadingLaws.{all_push, length_push, number-within}
+use Rattle.rota_layout.proofs.ReadingLaws.{spells-read, fault_in-read, setting-within, all_push, length_push, number-within}
 
 -- ---- the lists of prices
 

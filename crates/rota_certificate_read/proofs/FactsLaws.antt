@@ -17,9 +17,8 @@ use Rattle.rota_layout.specs.Files.{Fills, Spells}
 use Rattle.rota_layout.specs.Layout.{codes, day_names, none_taken, repeat}
 use Rattle.rota_layout.specs.Reading.{read_text}
 use Rattle.rota_layout.specs.Tokens.{Token}
-use Rattle.rota_layout.proofs.ReadingLaws.{spells-read, fault_in-read}
-use Rattle.rota_layout.proofs.ReadingLaws.{setting-within}
-use Rattle.rota_layout.proofs.ReadingLaws.{all_push, known_name-below, length_push, number-within, shift_or-below}
+use Rattle.rota_layout.proofs.ReadingLaws.{spells-read, fault_in-read, setting-within, all_push, known_name-below, length_push}
+use Rattle.rota_layout.proofs.ReadingLaws.{number-within, shift_or-below}
 
 module _ (t : ScenarioTables) (weeks : ℕ) where
   week-below : (front : List Token) (week : ℕ) → Fills (week_number weeks) front week → week < weeks

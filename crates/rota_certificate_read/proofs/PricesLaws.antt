@@ -10,9 +10,7 @@ use Rattle.rota_certificate_read.specs.PricesLayout.{price_row, price_table}
 use Rattle.rota_layout.specs.DayRows.{DayRows, no_day_rows, day_row, pair_index}
 use Rattle.rota_layout.specs.Files.{Fills}
 use Rattle.rota_layout.specs.Reading.{Reading, read_layout}
-use Rattle.rota_layout.proofs.ReadingLaws.{fills-read}
-use Rattle.rota_layout.proofs.ReadingLaws.{days-all, RowsAll, no_rows-all, row_set-all, day_table-all}
-use Rattle.rota_layout.proofs.ReadingLaws.{number-within}
+use Rattle.rota_layout.proofs.ReadingLaws.{fills-read, days-all, RowsAll, no_rows-all, row_set-all, day_table-all, number-within}
 
 abbrev IsPrice : ℕ → Type 0
 IsPrice price = price ≤ max_price

@@ -14,9 +14,7 @@ use Rattle.rota_layout.specs.Files.{Fills}
 use Rattle.rota_read.specs.WeekLayout.{demand, part_or, max_rows, requirement_rows}
 use Rattle.rota_layout.specs.DayRows.{DayRows, no_day_rows, day_row, pair_index}
 use Rattle.rota_read.specs.WeekBound.{BoundEndsNoRows}
-use Rattle.rota_layout.proofs.ReadingLaws.{then_read-same}
-use Rattle.rota_layout.proofs.ReadingLaws.{Found, fills-read}
-use Rattle.rota_layout.proofs.ReadingLaws.{known_name-below, known_name-free, shift_or-below}
+use Rattle.rota_layout.proofs.ReadingLaws.{then_read-same, Found, fills-read, known_name-below, known_name-free, shift_or-below}
 
 -- ---- the number of pairs without a row
 

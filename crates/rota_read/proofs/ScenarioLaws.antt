@@ -20,10 +20,8 @@ use Rattle.rota_layout.specs.Layout.{Layout, one_more, setting, none_taken}
 use Rattle.rota_read.specs.SharedSlots.{new_name, pair, is_one_of, known_row, value_of_each}
 use Rattle.rota_layout.specs.Files.{Fills, Spells}
 use Rattle.rota_read.proofs.WordLaws.{IsToken, AreTokens, tokens-are_tokens}
-use Rattle.rota_layout.proofs.ReadingLaws.{all_push, length_push}
-use Rattle.rota_read.proofs.WordSlots.{repeat-keeps}
-use Rattle.rota_layout.proofs.ReadingLaws.{number-within, known_name-below}
-use Rattle.rota_read.proofs.WordSlots.{any_word-is_word, new_name-is_new}
+use Rattle.rota_layout.proofs.ReadingLaws.{all_push, length_push, number-within, known_name-below, setting-within, rows_length}
+use Rattle.rota_read.proofs.WordSlots.{repeat-keeps, any_word-is_word, new_name-is_new}
 
 pub left : (front first second : List Token) → front ≡ first ++ second → AreTokens front → AreTokens first
 left front first second e all = (AllByRecursion-back IsToken first second (subst AreTokens e all)).0

@@ -18,10 +18,9 @@ use Rattle.rota_read.specs.WeekLayout.{demand, part_or, max_rows, requirement_ro
 use Rattle.rota_read.specs.WeekLayout.{request, asks, request_table, week}
 use Rattle.rota_layout.specs.Files.{Fills, Spells}
 use Rattle.rota_read.proofs.WordLaws.{AreTokens, tokens-are_tokens}
-use Rattle.rota_layout.proofs.ReadingLaws.{length_push, number-within}
 use Rattle.rota_read.proofs.WordSlots.{repeat-keeps}
-use Rattle.rota_layout.proofs.ReadingLaws.{all_rows, days-all, RowsAll, no_rows-all, row_set-all, day_table-all}
 use Rattle.rota_read.proofs.ScenarioLaws.{left, right, pair-limits}
+use Rattle.rota_layout.proofs.ReadingLaws.{length_push, number-within, all_rows, days-all, RowsAll, no_rows-all, row_set-all, day_table-all}
 use Rattle.rota_layout.proofs.ReadingLaws.{rows_length}
 
 -- ---- the requirements
