@@ -2,7 +2,7 @@
 use Rattle.std.proofs.Common.{◌≡◌, ℕ, suc, ◌+◌, ◌-◌, ◌<◌, ◌≤◌, Ok, refl, arith}
 use Rattle.rota_layout.specs.declared.fault.Stop.{Stop}
 use Rattle.rota_layout.specs.Reading.{Reading, then_read, read_layout, Fails}
-use Rattle.rota_layout.specs.Layout.{Layout, ◌>>=◌, repeat}
+use Rattle.rota_layout.specs.Layout.{Layout, repeat}
 use Rattle.rota_layout.proofs.EndLemmas.{front_fails}
 
 module _ {S : Type 0} (row : S → Layout S) (state : S) (count i : ℕ) (left : Reading) where

@@ -1,5 +1,5 @@
 -- The meaning of a token that fits a slot.
-use Rattle.std.proofs.Common.{◌≡◌, ℕ, zero, suc, ◌+◌, ◌<◌, ◌≤◌, nat_le, Bool, true, false, ◌&&◌, if◌then◌else◌}
+use Rattle.std.proofs.Common.{◌≡◌, ℕ, suc, ◌<◌, ◌≤◌, nat_le, Bool, true, false, ◌&&◌, if◌then◌else◌}
 use Rattle.std.proofs.Common.{List, [], ◌∷◌, ◌++◌, length, Option, Some, None, Result, Ok, Err, refl, ap, ◌∙◌, subst, arith}
 use Rattle.std.specs.List.{AllByRecursion}
 use Rattle.std.specs.Option.{ForSome, option_map_or}
@@ -8,13 +8,13 @@ use Rattle.std.proofs.lemmas.Bool.Decides.{nat_tests}
 use Rattle.std.proofs.lemmas.List.{length-append}
 use Rattle.std.proofs.lemmas.List.Quantifiers.{position-Some}
 use Rattle.std.specs.Str.{bytes_eq}
-use Rattle.rota_core.proofs.LogicWords.{AllByRecursion-append, AllByRecursion-back}
-use Rattle.rota_core.specs.Words.{IsWord, is_among, index_of}
+use Rattle.rota_core.proofs.LogicWords.{AllByRecursion-append}
+use Rattle.rota_core.specs.Words.{index_of}
 use Rattle.rota_core.specs.declared.fault.Kind.{Kind}
 use Rattle.rota_core.specs.declared.fault.Kind.TheVariants as kinds
 use Rattle.rota_layout.specs.Tokens.{Token}
 use Rattle.rota_core.specs.Decimal.{decimal, is_decimal}
-use Rattle.rota_layout.specs.Layout.{Layout, is_sign_token, number, known_name, setting, shift_or}
+use Rattle.rota_layout.specs.Layout.{is_sign_token, number, known_name, setting, shift_or}
 use Rattle.rota_layout.specs.Files.{Fills}
 
 pub all_push : {X : Type 0} (P : X → Type 0) (xs : List X) (x : X) → AllByRecursion P xs → P x →

@@ -61,6 +61,9 @@ pub struct Token<'a> {
 }
 
 /// The rest of a file.
+///
+/// The functions that read return a value, or stop with the text's one fault: the fault of the first token that does not
+/// fit, with the token's line, or `Ended`, with the line of the previous token, if no token is left.
 #[derive(Drop)]
 pub struct Cursor<'a> {
     bytes: &'a [u8],
@@ -84,7 +87,7 @@ impl<'a> Model for Cursor<'a> {
 }
 
 impl<'a> Cursor<'a> {
-    /// The start of the text, if the text is not too long.
+    /// The start of the text. It fails with `Limit` on line 0 if the text has more than `MAX_FILE_LEN` bytes.
     #[tactic(auto, unfolding(crate::specs::Reading::opened))]
     pub fn open(text: &'a [u8]) -> Result<Self, Stop>
         ensures { ReadsFile (λ cursor. cursor) result (opened text.now) }

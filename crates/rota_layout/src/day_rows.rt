@@ -11,7 +11,7 @@ use rota_core::{DAYS, Scenario};
 use std::alloc::{AllocError, Global};
 
 impl<'a> Cursor<'a> {
-    /// Reads a skill that no row has with the shift type, and returns the index of the two.
+    /// Reads a skill, and returns the index of the shift type and it. It fails with `Repeated` if a row has the two.
     #[tactic(auto, using(crate::proofs::NameSteps::known_taken), unfolding(crate::specs::DayPairs::new_pair, crate::specs::Reading::read_layout))]
     pub fn new_pair<T>(
         &mut self,

@@ -10,7 +10,7 @@ use crate::fault::Stop;
 use rota_core::{DAYS, Kind};
 
 impl<'a> Cursor<'a> {
-    /// A day, from 0 for `Mon`.
+    /// A day, from 0 for `Mon`. It fails with `Unknown` for another word.
     #[tactic(auto, using(crate::proofs::NameSteps::known_by_word))]
     pub fn day(&mut self) -> Result<u8, Stop>
         ensures read { Reads (λ d. d) result self.new (read_layout (known_name day_names none_taken) self.old) }

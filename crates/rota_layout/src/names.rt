@@ -11,7 +11,7 @@ use crate::fault::{Fault, Stop};
 use rota_core::{Kind, Scenario};
 
 impl<'a> Cursor<'a> {
-    /// Refuses the previous name if it is taken.
+    /// Fails with `Repeated`, on the line of the previous token, if the name there is taken.
     pub fn unless_taken(&self, taken: bool) -> Result<(), Stop>
         ensures { MatchResult result
             (λ _. taken ≡ false)
@@ -26,7 +26,7 @@ impl<'a> Cursor<'a> {
         Ok(())
     }
 
-    /// The number of a nurse.
+    /// The number of a nurse. It fails with `Unknown` for another word.
     #[tactic(auto, using(crate::proofs::NameSteps::known_by_word))]
     pub fn nurse(&mut self, scenario: &Scenario) -> Result<u16, Stop>
         ensures read { Reads (λ n. n) result self.new (read_layout (known_name scenario.now.nurses none_taken) self.old) }
@@ -38,7 +38,7 @@ impl<'a> Cursor<'a> {
             .ok_or(name.fault(Kind::Unknown))
     }
 
-    /// The number of a shift type.
+    /// The number of a shift type. It fails with `Unknown` for another word.
     #[tactic(auto, using(crate::proofs::NameSteps::known_by_word))]
     pub fn shift(&mut self, scenario: &Scenario) -> Result<u8, Stop>
         ensures read { Reads (λ s. s) result self.new (read_layout (known_name scenario.now.shifts none_taken) self.old) }
@@ -50,7 +50,7 @@ impl<'a> Cursor<'a> {
             .ok_or(name.fault(Kind::Unknown))
     }
 
-    /// The number of a skill.
+    /// The number of a skill. It fails with `Unknown` for another word.
     #[tactic(auto, using(crate::proofs::NameSteps::known_by_word))]
     pub fn skill(&mut self, scenario: &Scenario) -> Result<u8, Stop>
         ensures read { Reads (λ k. k) result self.new (read_layout (known_name scenario.now.skills none_taken) self.old) }
@@ -62,7 +62,7 @@ impl<'a> Cursor<'a> {
             .ok_or(name.fault(Kind::Unknown))
     }
 
-    /// The number of a shift type, or `None` if the token is this word.
+    /// The number of a shift type, or `None` for this word. It fails with `Unknown` for another one.
     #[tactic(auto, using(crate::proofs::NameSteps::shift_by_word))]
     pub fn shift_or(&mut self, word: &[u8], scenario: &Scenario) -> Result<Option<u8>, Stop>
         ensures read { Reads (λ s. s) result self.new (read_layout (shift_or word.now scenario.now.shifts) self.old) }

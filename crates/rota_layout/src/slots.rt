@@ -39,11 +39,7 @@ impl Token<'_> {
 }
 
 impl<'a> Cursor<'a> {
-    /// The next token.
-    ///
-    /// # Errors
-    ///
-    /// `Ended` if there is none.
+    /// The next token. It fails with `Ended` if there is none.
     pub fn token(&mut self) -> Result<Token<'a>, Stop>
         ensures { MatchResult result
             (λ t. (self.old.rest ≡ record { word = t.word.now; line = t.line } ∷ self.new.rest)
@@ -57,7 +53,7 @@ impl<'a> Cursor<'a> {
         }))
     }
 
-    /// The next token, if it is a word.
+    /// The next token, which is to be a word. It fails with `OtherWord` for a sign.
     #[tactic(auto, unfolding(crate::specs::Layout::any_word, crate::specs::Reading::read_layout))]
     pub fn word(&mut self) -> Result<Token<'a>, Stop>
         ensures read { Reads (λ t. t.word.now) result self.new (read_layout any_word self.old) }
@@ -70,7 +66,7 @@ impl<'a> Cursor<'a> {
         Ok(token)
     }
 
-    /// The end of the file.
+    /// The end of the file. It fails with `Trailing` if a token is left.
     pub fn finish(&mut self) -> Result<(), Stop>
         ensures { ReadsFile (λ _. tt) result (check_end self.old.rest) }
     {
@@ -80,7 +76,7 @@ impl<'a> Cursor<'a> {
         }
     }
 
-    /// This word or sign.
+    /// This word or sign. It fails with `OtherWord` for another one.
     #[tactic(auto, unfolding(crate::specs::Layout::exactly, crate::specs::Reading::read_layout))]
     pub fn exactly(&mut self, wanted: &[u8]) -> Result<(), Stop>
         ensures { Reads (λ _. wanted.now) result self.new (read_layout (exactly wanted.now) self.old) }
@@ -92,7 +88,7 @@ impl<'a> Cursor<'a> {
         Ok(())
     }
 
-    /// A number between the limits.
+    /// A number between the limits. It fails with `NoNumber` for another token, and with `Limit` for another number.
     pub fn number(&mut self, low: u16, high: u16) -> Result<u16, Stop>
         ensures read { Reads (λ n. n) result self.new (read_layout (number low high) self.old) }
         ensures above { IfOk result (λ n. low ≤ n) }
@@ -101,7 +97,7 @@ impl<'a> Cursor<'a> {
         Ok(self.long_number(u32::from(low), u32::from(high))? as u16)
     }
 
-    /// A number between the limits, which may be as large as a price.
+    /// A number between the limits, which may be as large as a price. It fails as `number` does.
     #[tactic(auto, unfolding(crate::specs::Layout::number, crate::specs::Reading::read_layout))]
     pub fn long_number(&mut self, low: u32, high: u32) -> Result<u32, Stop>
         requires { high ≤ MAX_PRICE }
@@ -119,7 +115,7 @@ impl<'a> Cursor<'a> {
         Ok(value)
     }
 
-    /// A name, `=` and a number between the limits.
+    /// This name, `=` and a number between the limits. It fails as `exactly` and `number` do.
     #[tactic(auto, unfolding(crate::specs::Layout::setting, crate::specs::Reading::read_layout))]
     pub fn setting(&mut self, name: &[u8], low: u16, high: u16) -> Result<u16, Stop>
         ensures read { Reads (λ n. n) result self.new (read_layout (setting name.now low high) self.old) }

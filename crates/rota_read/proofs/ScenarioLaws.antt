@@ -1,8 +1,8 @@
 -- The scenario that a text spells is within the limits.
-use Rattle.std.proofs.Common.{◌≡◌, ℕ, suc, ◌+◌, ◌*◌, ◌<◌, ◌≤◌, Bool, true, false, ◌||◌, refl, sym, ap, ◌∙◌, subst, arith}
+use Rattle.std.proofs.Common.{◌≡◌, ℕ, suc, ◌+◌, ◌*◌, ◌<◌, Bool, true, false, ◌||◌, refl, sym, ap, ◌∙◌, subst, arith}
 use Rattle.std.proofs.Common.{List, [], ◌∷◌, ◌++◌, length, map, codes, replicate, Option, Some, None, unwrap_or}
-use Rattle.std.specs.List.{AllByRecursion, IsDistinct, flat_map}
-use Rattle.std.proofs.lemmas.List.{length-append, length-map, length-replicate, length-set}
+use Rattle.std.specs.List.{AllByRecursion, IsDistinct}
+use Rattle.std.proofs.lemmas.List.{length-map, length-replicate, length-set}
 use Rattle.std.proofs.lemmas.List.FromFn.{length-map-range_with_len}
 use Rattle.std.specs.Str.{bytes_eq}
 use Rattle.std.specs.Cmp.Lexicographic.{nat_list_eq_equiv}
@@ -16,7 +16,7 @@ use Rattle.rota_core.specs.declared.values.Contract.{Contract}
 use Rattle.rota_layout.specs.Tokens.{Token, tokens}
 use Rattle.rota_read.specs.ScenarioLayout.{section, known_names, marks, successions, Named, none_named, new_row, contract}
 use Rattle.rota_read.specs.ScenarioLayout.{Nurse, nurse, scenario}
-use Rattle.rota_layout.specs.Layout.{Layout, one_more, setting, none_taken}
+use Rattle.rota_layout.specs.Layout.{Layout, one_more, none_taken}
 use Rattle.rota_read.specs.SharedSlots.{new_name, pair, is_one_of, known_row, value_of_each}
 use Rattle.rota_layout.specs.Files.{Fills, Spells}
 use Rattle.rota_read.proofs.WordLaws.{IsToken, AreTokens, tokens-are_tokens}

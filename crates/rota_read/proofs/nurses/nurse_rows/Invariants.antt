@@ -9,4 +9,5 @@ use Rattle.rota_read.proofs.nurses.nurse_rows.Given as goal
 abbrev pub invariant-loop : goal.invariant-loop
 invariant-loop l =
     let row = new_row [] (nurse (bytes_of l.contracts) (bytes_of l.skills)) in
-    read_layout (repeat (l.count - l.counter) row (nurses_of l.rows)) l.cursor ≡ read_layout (repeat l.count row (nurses_of l.fn.rows)) l.fn.cursor
+    read_layout (repeat (l.count - l.counter) row (nurses_of l.rows)) l.cursor ≡
+    read_layout (repeat l.count row (nurses_of l.fn.rows)) l.fn.cursor
