@@ -1,7 +1,7 @@
 //! The costs of a roster.
 use crate::files::Stop;
 use rota_core::{Instance, Rule};
-use rota_items::{Judge, Verdict, verdict_of};
+use rota_judge::{Judge, Verdict, verdict_of};
 use rota_read::read_solution;
 use std::fs;
 use std::rt::Files;

@@ -7,9 +7,11 @@ use byte_ports::{CallPlan, MemoryTarget, Target};
 use opb_text::{OpbTaker, Sink};
 use rota_certificate_read::{read_certificate, read_facts};
 use rota_core::{Cell, FileFault, Instance, Roster, Rule};
-use rota_items::{Counts, Judge, Part, Taker, verdict_of};
+use rota_items::{Counter, Counts, Part, Taker, counts, drive_constraints};
+use rota_judge::{Judge, verdict_of};
 use rota_layout::{Cursor, Stop};
 use rota_read::{read_history, read_scenario};
+use rota_rules::early_excess;
 use solver_text::{Answer, Status};
 use std::alloc::Global;
 use std::process::Abort;
@@ -104,10 +106,10 @@ fn check_first_cell(rt: &impl Abort, alloc: Global, instance: &Instance) -> Resu
         shift: 0,
         skill: 0,
     });
-    example_of_rota_items(rt, instance, &roster)
+    example_of_rota_judge(rt, instance, &roster)
 }
 
-fn example_of_rota_items(rt: &impl Abort, instance: &Instance, roster: &Roster) -> Result<(), Fail>
+fn example_of_rota_judge(rt: &impl Abort, instance: &Instance, roster: &Roster) -> Result<(), Fail>
     requires { HasShapeOf (problem_of instance.now) roster.now }
 {
     let verdict = verdict_of(&instance, Judge::of_roster(&instance, &roster));
@@ -116,6 +118,25 @@ fn example_of_rota_items(rt: &impl Abort, instance: &Instance, roster: &Roster) 
         assert_eq!(rt; cost, wanted, "{rule}");
     }
     assert!(rt; verdict.unmet.is_none());
+    Ok(())
+}
+
+#[test]
+fn example_of_rota_rules(rt: HostRuntime) -> Result<(), Fail> {
+    assert_eq!(rt; early_excess(15, 12, &[3, 2]), 2);
+    Ok(())
+}
+
+#[test]
+fn rows_are_counted(rt: HostRuntime) -> Result<(), Fail> {
+    let instance = instance_of(rt.alloc(), &one_nurse_one_shift())?;
+    example_of_rota_items(&rt, &instance)
+}
+
+fn example_of_rota_items(rt: &impl Abort, instance: &Instance) -> Result<(), Fail> {
+    let mut counter = Counter::new();
+    let Ok(()) = drive_constraints(&instance, &mut counter);
+    assert_eq!(rt; counter.counts, counts(&instance));
     Ok(())
 }
 

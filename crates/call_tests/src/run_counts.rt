@@ -1,6 +1,7 @@
 //! The numbers of windows and patterns, and early charges.
 use rota_core::Span;
-use rota_items::{early_excess, patterns_of, windows_of};
+use rota_items::{patterns_of, windows_of};
+use rota_rules::early_excess;
 
 const MOST: u16 = u16::MAX;
 

@@ -11,8 +11,8 @@ use Rattle.rota_core.specs.RosterTables.{HasShapeOf, RosterTables, set_of}
 use Rattle.rota_core.specs.Sizes.{Numbers}
 use Rattle.rota_core.specs.declared.values.Past.{Past}
 use Rattle.rota_core.proofs.LogicWords.{AllByRecursion-append}
-use Rattle.rota_items.specs.Bounds.{penalty_limit}
-use Rattle.rota_items.specs.Penalty.{penalty}
+use Rattle.rota_rules.specs.CostBounds.{penalty_limit}
+use Rattle.rota_rules.specs.Penalty.{penalty}
 use Rattle.rota_certificate.specs.CountedCharges.{HaveShapes, IsPlanned, numbers_in, plan_from}
 use Rattle.rota_certificate.specs.PeriodBounds.{IsPeriod}
 use Rattle.rota_certificate.proofs.CountedPlans.{numbers-at}

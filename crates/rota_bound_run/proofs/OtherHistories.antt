@@ -7,13 +7,13 @@ use Rattle.rota_core.specs.SumsBelow.{sum_below}
 use Rattle.rota_core.specs.declared.rule.Rule.{Rule}
 use Rattle.rota_core.specs.declared.rule.Rule.TheVariants.{H1, H2, H3, H4, H5}
 use Rattle.rota_core.specs.declared.values.Past.{Past}
-use Rattle.rota_items.specs.FirstUnmet.{FirstBroken}
-use Rattle.rota_items.specs.Penalty.{penalty}
-use Rattle.rota_items.specs.rules.ConsecutiveAssignments.Cost.{consecutive_assignment_cost_of}
-use Rattle.rota_items.specs.rules.ConsecutiveDaysOff.Cost.{consecutive_day_off_cost_of}
-use Rattle.rota_items.specs.rules.TotalAssignments.Cost.{assignment_cost_of}
-use Rattle.rota_items.specs.rules.WorkedWeekends.Cost.{worked_weekend_cost_of}
-use Rattle.rota_items.proofs.Lists.{sum_below-same}
+use Rattle.rota_judge.specs.FirstUnmet.{FirstBroken}
+use Rattle.rota_rules.specs.Penalty.{penalty}
+use Rattle.rota_rules.specs.ConsecutiveAssignments.{consecutive_assignment_cost_of}
+use Rattle.rota_rules.specs.ConsecutiveDaysOff.{consecutive_day_off_cost_of}
+use Rattle.rota_rules.specs.TotalAssignments.{assignment_cost_of}
+use Rattle.rota_rules.specs.WorkedWeekends.{worked_weekend_cost_of}
+use Rattle.rota_rules.proofs.LogicWords.{sum_below-same}
 use Rattle.rota_certificate.specs.Plans.{History, after, history_after}
 
 -- the histories have the same pasts of the week's nurses

@@ -6,8 +6,8 @@ use Rattle.rota_core.specs.Problem.{Problem}
 use Rattle.rota_core.specs.Roster.{Roster}
 use Rattle.rota_core.specs.RosterTables.{RosterTables, set_of}
 use Rattle.rota_core.specs.declared.values.Past.{Past}
-use Rattle.rota_items.specs.Bounds.{penalty_limit}
-use Rattle.rota_items.specs.Penalty.{penalty}
+use Rattle.rota_rules.specs.CostBounds.{penalty_limit}
+use Rattle.rota_rules.specs.Penalty.{penalty}
 use Rattle.rota_certificate.specs.Plans.{History, history_after}
 use Rattle.rota_bound_run.specs.declared.judged_week.JudgedWeek.{JudgedWeek}
 

@@ -3,7 +3,7 @@ use Rattle.std.specs.Prelude.{◌≤◌, [], ◌∷◌}
 use Rattle.rota_core.specs.HardRules.{KeepsHardRules}
 use Rattle.rota_core.specs.Problem.{Problem}
 use Rattle.rota_core.specs.Roster.{Roster}
-use Rattle.rota_items.specs.Penalty.{penalty}
+use Rattle.rota_rules.specs.Penalty.{penalty}
 use Rattle.rota_certificate.specs.Optimality.{AreOptimal}
 use Rattle.rota_bound_run.specs.Claims.{Holds}
 use Rattle.rota_bound_run.specs.declared.claims.Claim.{Claim}

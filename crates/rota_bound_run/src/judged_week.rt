@@ -12,8 +12,8 @@ ghost use Rattle.rota_bound_run.specs.PeriodSteps.{EndsAs};
 use crate::pasts::{are_pasts, pasts_after};
 use byte_ports::Source;
 use rota_core::{FileFault, FileName, Instance, Kind, Past, Roster};
-use rota_items::laws::{instances_are_within_limits, penalty_is_small};
-use rota_items::{Judge, verdict_of};
+use rota_rules::laws::{instances_are_within_limits, penalty_is_small};
+use rota_judge::{Judge, verdict_of};
 use rota_pb::{Fault, read_roster};
 use std::alloc::Global;
 

@@ -10,9 +10,9 @@ use Rattle.rota_core.specs.SumsBelow.{sum_below}
 use Rattle.rota_core.specs.declared.certificate.ChargeKind.{ChargeKind}
 use Rattle.rota_core.specs.declared.certificate.ChargeKind.TheVariants.{Assignments, ShiftRuns, Weekends, WorkDays}
 use Rattle.rota_core.specs.declared.values.Past.{Past}
-use Rattle.rota_items.specs.CountedTotals.{charged_excess}
-use Rattle.rota_items.specs.rules.TotalAssignments.Cost.{assignments_of}
-use Rattle.rota_items.specs.rules.WorkedWeekends.Cost.{worked_weekend}
+use Rattle.rota_rules.specs.CountedTotals.{charged_excess}
+use Rattle.rota_rules.specs.TotalAssignments.{assignments_of}
+use Rattle.rota_rules.specs.WorkedWeekends.{worked_weekend}
 use Rattle.rota_certificate.specs.CountedCharges.{choice_on, run_charges, total_charges}
 use Rattle.rota_certificate.specs.DayCharges.{past_after}
 use Rattle.rota_certificate.specs.Facts.{charges_in_week}

@@ -11,12 +11,12 @@ use Rattle.rota_core.specs.Roster.{Roster, cell}
 use Rattle.rota_core.specs.Problem.{Problem}
 use Rattle.rota_core.specs.declared.values.Past.{Past}
 use Rattle.rota_core.specs.declared.values.Span.{Span}
-use Rattle.rota_items.specs.HardRows.{is_forbidden_after}
-use Rattle.rota_items.specs.RunItemParts.{day_cost}
-use Rattle.rota_items.specs.Runs.{run_length}
-use Rattle.rota_items.specs.rules.ConsecutiveAssignments.Cost.{history_on, work_run_weight}
-use Rattle.rota_items.specs.rules.ConsecutiveDaysOff.Cost.{off_run_weight}
-use Rattle.rota_items.specs.rules.ShiftOffRequests.Cost.{request_weight}
+use Rattle.rota_rules.specs.Successions.{is_forbidden_after}
+use Rattle.rota_rules.specs.Runs.{day_cost}
+use Rattle.rota_rules.specs.Runs.{run_length}
+use Rattle.rota_rules.specs.ConsecutiveAssignments.{history_on, work_run_weight}
+use Rattle.rota_rules.specs.ConsecutiveDaysOff.{off_run_weight}
+use Rattle.rota_rules.specs.ShiftOffRequests.{request_weight}
 use Rattle.rota_certificate.specs.FirstBelow.{first_below}
 use Rattle.rota_certificate.specs.DayCharges.{fixed_charge, is_shift, over_charge, past_after, requests_against, run_charge, run_on}
 use Rattle.rota_certificate.specs.DayCharges.{shift_charges, under_charge, weekend_charge, weekend_on}

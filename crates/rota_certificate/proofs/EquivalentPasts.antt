@@ -9,8 +9,8 @@ use Rattle.rota_core.specs.Problem.{Problem}
 use Rattle.rota_core.specs.declared.values.Contract.{Contract}
 use Rattle.rota_core.specs.declared.values.Past.{Past}
 use Rattle.rota_core.specs.declared.values.Span.{Span}
-use Rattle.rota_items.specs.HardRows.{is_forbidden_after}
-use Rattle.rota_items.specs.rules.TotalAssignments.Cost.{assignment_weight}
+use Rattle.rota_rules.specs.Successions.{is_forbidden_after}
+use Rattle.rota_rules.specs.TotalAssignments.{assignment_weight}
 use Rattle.rota_certificate.specs.EquivalentPasts.{AreEquivalent, AreEquivalentNumbers, HaveSameLimits, IsSameForEquivalent}
 use Rattle.rota_certificate.specs.DayCharges.{assignment_above, day_cost, fixed_charge, is_shift, missing_total, over_charge, past_after, run_charge, run_on}
 use Rattle.rota_certificate.specs.DayCharges.{shift_charges, totals_cost, under_charge, weekend_above, weekend_charge, weekend_on, weighted}

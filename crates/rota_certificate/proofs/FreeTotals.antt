@@ -5,7 +5,7 @@ use Rattle.std.specs.Prelude.{Option, Some, None}
 use Rattle.rota_core.specs.Sizes.{DAYS}
 use Rattle.rota_core.specs.Problem.{Problem}
 use Rattle.rota_core.specs.declared.values.Past.{Past}
-use Rattle.rota_items.specs.rules.TotalAssignments.Cost.{assignment_weight}
+use Rattle.rota_rules.specs.TotalAssignments.{assignment_weight}
 use Rattle.rota_certificate.specs.DayCharges.{day_cost, missing_total, past_after}
 use Rattle.rota_certificate.specs.Minimums.{least_below, not_allowed}
 use Rattle.rota_certificate.specs.NurseBounds.{LeafWeek, Terms, allowed_rebate, choice_value, is_barred, least_days, rest_after}

@@ -10,7 +10,7 @@ use Rattle.rota_core.specs.HardRules.{KeepsHardRules}
 use Rattle.rota_core.specs.Roster.{Roster}
 use Rattle.rota_core.specs.Prices.{ArePrices, Prices}
 use Rattle.rota_core.specs.Problem.{Problem}
-use Rattle.rota_items.specs.rules.OptimalCoverage.Cost.{optimum_cost}
+use Rattle.rota_rules.specs.OptimalCoverage.{optimum_cost}
 use Rattle.rota_certificate.specs.Facts.{Case, IsIn, has_choice}
 use Rattle.rota_certificate.specs.LeafBounds.{leaf_place_bounds, leaf_weeks, may_choose}
 use Rattle.rota_certificate.specs.NurseBounds.{LeafWeek}

@@ -11,9 +11,9 @@ use Rattle.rota_core.specs.Sizes.{DAYS, Numbers}
 use Rattle.rota_core.specs.declared.certificate.ChargeKind.TheVariants.{Assignments, Weekends}
 use Rattle.rota_core.specs.declared.values.Contract.{Contract}
 use Rattle.rota_core.specs.declared.values.Past.{Past}
-use Rattle.rota_items.specs.CountedTotals.{added_excess}
-use Rattle.rota_items.specs.rules.TotalAssignments.Cost.{assignment_weight, assignments_of, below_min_total}
-use Rattle.rota_items.specs.rules.WorkedWeekends.Cost.{worked_weekend}
+use Rattle.rota_rules.specs.CountedTotals.{added_excess}
+use Rattle.rota_rules.specs.TotalAssignments.{assignment_weight, assignments_of, below_min_total}
+use Rattle.rota_rules.specs.WorkedWeekends.{worked_weekend}
 use Rattle.rota_certificate.specs.DayCharges.{start_cost}
 use Rattle.rota_certificate.specs.Facts.{charges_in_week}
 use Rattle.rota_certificate.specs.LeafBounds.{nurse_count}

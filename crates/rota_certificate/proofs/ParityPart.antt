@@ -6,15 +6,15 @@ use Rattle.rota_core.specs.HardRules.{is_off, nurses_at, works}
 use Rattle.rota_core.specs.Roster.{Roster}
 use Rattle.rota_core.specs.Problem.{Problem}
 use Rattle.rota_core.specs.declared.certificate.ChargeKind.TheVariants.{ShiftRuns}
-use Rattle.rota_items.specs.Penalty.{penalty}
-use Rattle.rota_items.specs.Runs.{run_cost}
-use Rattle.rota_items.specs.rules.CompleteWeekends.Cost.{complete_weekend_cost_of, exactly_one}
-use Rattle.rota_items.specs.rules.ConsecutiveAssignments.Cost.{consecutive_assignment_cost_of}
-use Rattle.rota_items.specs.rules.ConsecutiveDaysOff.Cost.{consecutive_day_off_cost_of}
-use Rattle.rota_items.specs.rules.OptimalCoverage.Cost.{optimum_cost}
-use Rattle.rota_items.specs.rules.ShiftOffRequests.Cost.{request_weight}
-use Rattle.rota_items.specs.rules.TotalAssignments.Cost.{above_max_total, assignment_cost_of, below_min_total}
-use Rattle.rota_items.specs.rules.WorkedWeekends.Cost.{above_max_weekends, worked_weekend_cost_of}
+use Rattle.rota_rules.specs.Penalty.{penalty}
+use Rattle.rota_rules.specs.Runs.{run_cost}
+use Rattle.rota_rules.specs.CompleteWeekends.{complete_weekend_cost_of, exactly_one}
+use Rattle.rota_rules.specs.ConsecutiveAssignments.{consecutive_assignment_cost_of}
+use Rattle.rota_rules.specs.ConsecutiveDaysOff.{consecutive_day_off_cost_of}
+use Rattle.rota_rules.specs.OptimalCoverage.{optimum_cost}
+use Rattle.rota_rules.specs.ShiftOffRequests.{request_weight}
+use Rattle.rota_rules.specs.TotalAssignments.{above_max_total, assignment_cost_of, below_min_total}
+use Rattle.rota_rules.specs.WorkedWeekends.{above_max_weekends, worked_weekend_cost_of}
 use Rattle.rota_certificate.specs.Facts.{charges_in_week}
 use Rattle.rota_certificate.specs.NurseCosts.{fixed_cost, requests_of, tariff_cost}
 use Rattle.rota_certificate.specs.declared.tariffs.Tariff.{Tariff}

@@ -14,7 +14,7 @@ use Rattle.rota_core.specs.declared.certificate.Fact.{Fact}
 use Rattle.rota_core.specs.declared.certificate.Fact.TheVariants.{Charges, Choice, EvenShiftRuns, Nurses}
 use Rattle.rota_core.specs.declared.certificate.NurseLimit.{NurseLimit}
 use Rattle.rota_core.specs.declared.values.Demand.{Demand}
-use Rattle.rota_items.specs.rules.OptimalCoverage.Cost.{optimum_cost, optimum_weight}
+use Rattle.rota_rules.specs.OptimalCoverage.{optimum_cost, optimum_weight}
 use Rattle.rota_certificate.specs.Facts.{Case, IsIn, is_fact}
 use Rattle.rota_certificate.specs.NurseCosts.{paid}
 use Rattle.rota_certificate.specs.PlaceBounds.{place_bound, place_cost}

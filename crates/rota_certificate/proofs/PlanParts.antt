@@ -5,8 +5,8 @@ use Rattle.std.proofs.lemmas.List.Sums.{sum_by-cons}
 use Rattle.rota_core.specs.SumsBelow.{sum_below}
 use Rattle.rota_core.specs.declared.certificate.ChargeKind.{ChargeKind}
 use Rattle.rota_core.specs.declared.certificate.ChargeKind.TheVariants.{Assignments, ShiftRuns, Weekends, WorkDays}
-use Rattle.rota_items.specs.Penalty.{penalty}
-use Rattle.rota_items.specs.rules.OptimalCoverage.Cost.{optimum_cost}
+use Rattle.rota_rules.specs.Penalty.{penalty}
+use Rattle.rota_rules.specs.OptimalCoverage.{optimum_cost}
 use Rattle.rota_certificate.specs.Facts.{charges_in_week, charges_of_nurse}
 use Rattle.rota_certificate.specs.NurseCosts.{fixed_cost, nurse_cost, tariff_cost}
 use Rattle.rota_certificate.specs.Plans.{Plan, PlannedWeek, plan_cost}

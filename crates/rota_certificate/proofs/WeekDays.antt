@@ -14,13 +14,13 @@ use Rattle.rota_core.specs.declared.certificate.ChargeKind.TheVariants.{ShiftRun
 use Rattle.rota_core.specs.declared.values.Contract.{Contract}
 use Rattle.rota_core.specs.declared.values.Past.{Past}
 use Rattle.rota_core.specs.declared.values.Span.{Span}
-use Rattle.rota_items.specs.HardRows.{is_forbidden_after}
-use Rattle.rota_items.specs.RunItemParts.{day_cost}
-use Rattle.rota_items.specs.Runs.{is_over, run_cost, run_over, run_under, run_length}
-use Rattle.rota_items.specs.rules.CompleteWeekends.Cost.{complete_weekend_cost_of}
-use Rattle.rota_items.specs.rules.ConsecutiveAssignments.Cost.{history_on, work_run_weight}
-use Rattle.rota_items.specs.rules.ConsecutiveDaysOff.Cost.{consecutive_day_off_cost_of, off_run_weight}
-use Rattle.rota_items.specs.rules.ShiftOffRequests.Cost.{request_weight}
+use Rattle.rota_rules.specs.Successions.{is_forbidden_after}
+use Rattle.rota_rules.specs.Runs.{day_cost}
+use Rattle.rota_rules.specs.Runs.{is_over, run_cost, run_over, run_under, run_length}
+use Rattle.rota_rules.specs.CompleteWeekends.{complete_weekend_cost_of}
+use Rattle.rota_rules.specs.ConsecutiveAssignments.{history_on, work_run_weight}
+use Rattle.rota_rules.specs.ConsecutiveDaysOff.{consecutive_day_off_cost_of, off_run_weight}
+use Rattle.rota_rules.specs.ShiftOffRequests.{request_weight}
 use Rattle.rota_certificate.specs.DayCharges as charges
 use Rattle.rota_certificate.specs.DayCharges.{assignment_above, is_shift, over_charge, past_after, run_charge, run_on, shift_charges, under_charge}
 use Rattle.rota_certificate.specs.DayCharges.{totals_cost, weekend_above, weekend_charge, weekend_on, weighted}

@@ -11,7 +11,7 @@ use Rattle.rota_core.specs.declared.certificate.ChargeKind.{ChargeKind}
 use Rattle.rota_core.specs.declared.certificate.ChargeKind.TheVariants.{Assignments, ShiftRuns, Weekends, WorkDays}
 use Rattle.rota_core.specs.declared.certificate.Condition.{Condition}
 use Rattle.rota_core.specs.declared.values.Past.{Past}
-use Rattle.rota_items.specs.CountedTotals.{charged_excess}
+use Rattle.rota_rules.specs.CountedTotals.{charged_excess}
 use Rattle.rota_certificate.specs.DayCharges.{over_charge, shift_charges}
 use Rattle.rota_certificate.specs.Facts.{Case, IsIn, charges_in_week, is_fact}
 use Rattle.rota_certificate.specs.FirstBelow.{first_below}

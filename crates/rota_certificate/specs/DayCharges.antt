@@ -7,10 +7,10 @@ use Rattle.rota_core.specs.declared.values.Contract.{Contract}
 use Rattle.rota_core.specs.declared.values.Span.{Span}
 use Rattle.rota_core.specs.declared.values.Past.{Past}
 use Rattle.rota_core.specs.Problem.{Problem}
-use Rattle.rota_items.specs.rules.CompleteWeekends.Cost.{complete_weekend_weight, exactly_one}
-use Rattle.rota_items.specs.rules.ConsecutiveAssignments.Cost.{work_run_weight}
-use Rattle.rota_items.specs.rules.ConsecutiveDaysOff.Cost.{off_run_weight}
-use Rattle.rota_items.specs.rules.ShiftOffRequests.Cost.{request_weight}
+use Rattle.rota_rules.specs.CompleteWeekends.{complete_weekend_weight, exactly_one}
+use Rattle.rota_rules.specs.ConsecutiveAssignments.{work_run_weight}
+use Rattle.rota_rules.specs.ConsecutiveDaysOff.{off_run_weight}
+use Rattle.rota_rules.specs.ShiftOffRequests.{request_weight}
 use Rattle.rota_certificate.specs.Minimums.{not_allowed}
 use Rattle.rota_certificate.specs.declared.tariffs.Tariff.{Tariff}
 

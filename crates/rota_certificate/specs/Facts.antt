@@ -12,10 +12,10 @@ use Rattle.rota_core.specs.declared.certificate.ChargeLimit.{ChargeLimit}
 use Rattle.rota_core.specs.declared.certificate.Condition.{Condition}
 use Rattle.rota_core.specs.declared.certificate.Fact.{Fact}
 use Rattle.rota_core.specs.declared.certificate.Fact.TheVariants.{Charges, Choice, EvenShiftRuns, Nurses}
-use Rattle.rota_items.specs.Runs.{run_cost, run_over}
-use Rattle.rota_items.specs.rules.ConsecutiveAssignments.Cost.{history_on}
-use Rattle.rota_items.specs.rules.TotalAssignments.Cost.{above_max_total}
-use Rattle.rota_items.specs.rules.WorkedWeekends.Cost.{above_max_weekends}
+use Rattle.rota_rules.specs.Runs.{run_cost, run_over}
+use Rattle.rota_rules.specs.ConsecutiveAssignments.{history_on}
+use Rattle.rota_rules.specs.TotalAssignments.{above_max_total}
+use Rattle.rota_rules.specs.WorkedWeekends.{above_max_weekends}
 use Rattle.rota_certificate.specs.Plans.{Plan, PlannedWeek}
 
 -- the number of the nurse's charges of the kind in a week: the days too many or too few in her runs of a shift type (S2), the days beyond

@@ -8,12 +8,12 @@ use Rattle.rota_core.specs.Roster.{Roster, cell}
 use Rattle.rota_core.specs.SumsBelow.{sum_below}
 use Rattle.rota_core.specs.HardRules.{works}
 use Rattle.rota_core.specs.declared.certificate.ChargeKind.TheVariants.{Assignments, ShiftRuns, Weekends, WorkDays}
-use Rattle.rota_items.specs.Runs.{run_under}
-use Rattle.rota_items.specs.rules.CompleteWeekends.Cost.{complete_weekend_cost_of}
-use Rattle.rota_items.specs.rules.ConsecutiveAssignments.Cost.{work_run_weight}
-use Rattle.rota_items.specs.rules.ConsecutiveDaysOff.Cost.{consecutive_day_off_cost_of}
-use Rattle.rota_items.specs.rules.ShiftOffRequests.Cost.{request_weight}
-use Rattle.rota_items.specs.rules.TotalAssignments.Cost.{assignment_weight, below_min_total}
+use Rattle.rota_rules.specs.Runs.{run_under}
+use Rattle.rota_rules.specs.CompleteWeekends.{complete_weekend_cost_of}
+use Rattle.rota_rules.specs.ConsecutiveAssignments.{work_run_weight}
+use Rattle.rota_rules.specs.ConsecutiveDaysOff.{consecutive_day_off_cost_of}
+use Rattle.rota_rules.specs.ShiftOffRequests.{request_weight}
+use Rattle.rota_rules.specs.TotalAssignments.{assignment_weight, below_min_total}
 use Rattle.rota_certificate.specs.Facts.{charges_in_week, has_choice}
 use Rattle.rota_certificate.specs.NurseBounds.{LeafWeek}
 use Rattle.rota_certificate.specs.Plans.{Plan, PlannedWeek}

@@ -2,7 +2,7 @@
 -- shift type and a skill. `unit` is the value of a point, in the unit of the prices: 1000, or 0 if the soft rules are left out.
 use Rattle.std.specs.Prelude.{ℕ, ◌+◌, ◌-◌, ◌*◌, max, nat_lt, if◌then◌else◌}
 use Rattle.rota_core.specs.declared.values.Demand.{Demand}
-use Rattle.rota_items.specs.rules.OptimalCoverage.Cost.{optimum_weight}
+use Rattle.rota_rules.specs.OptimalCoverage.{optimum_weight}
 
 -- the cost of this number of nurses at a place with this demand, and their prices
 abbrev pub place_cost : ℕ → Demand → (price nurses : ℕ) → ℕ

@@ -9,7 +9,7 @@ use Rattle.rota_core.specs.declared.certificate.Fact.{Fact}
 use Rattle.rota_core.specs.declared.certificate.Fact.TheVariants.{Nurses}
 use Rattle.rota_core.specs.declared.certificate.NurseLimit.{NurseLimit}
 use Rattle.rota_core.specs.declared.values.Demand.{Demand}
-use Rattle.rota_items.specs.rules.OptimalCoverage.Cost.{optimum_weight}
+use Rattle.rota_rules.specs.OptimalCoverage.{optimum_weight}
 use Rattle.rota_certificate.specs.Facts.{Case}
 use Rattle.rota_certificate.specs.PlaceBounds.{place_bound}
 

@@ -7,11 +7,11 @@ use Rattle.rota_core.specs.HardRules.{KeepsHardRules, is_off, is_on, works}
 use Rattle.rota_core.specs.Problem.{Problem}
 use Rattle.rota_core.specs.Roster.{Roster}
 use Rattle.rota_core.specs.declared.values.Past.{Past}
-use Rattle.rota_items.specs.Penalty.{penalty}
-use Rattle.rota_items.specs.Runs.{run_length}
-use Rattle.rota_items.specs.rules.ConsecutiveAssignments.Cost.{history_on}
-use Rattle.rota_items.specs.rules.TotalAssignments.Cost.{assignments_of}
-use Rattle.rota_items.specs.rules.WorkedWeekends.Cost.{worked_weekend}
+use Rattle.rota_rules.specs.Penalty.{penalty}
+use Rattle.rota_rules.specs.Runs.{run_length}
+use Rattle.rota_rules.specs.ConsecutiveAssignments.{history_on}
+use Rattle.rota_rules.specs.TotalAssignments.{assignments_of}
+use Rattle.rota_rules.specs.WorkedWeekends.{worked_weekend}
 use Rattle.rota_certificate.specs.FirstBelow.{first_below}
 
 -- a history: the past of each nurse

@@ -9,9 +9,9 @@ use Rattle.rota_core.specs.declared.certificate.ChargeKind.TheVariants.{Assignme
 use Rattle.rota_core.specs.declared.certificate.ChargeLimit.{ChargeLimit}
 use Rattle.rota_core.specs.declared.certificate.Fact.{Fact}
 use Rattle.rota_core.specs.declared.certificate.Fact.TheVariants.{Charges, EvenShiftRuns}
-use Rattle.rota_items.specs.rules.ConsecutiveAssignments.Cost.{shift_run_weight, work_run_weight}
-use Rattle.rota_items.specs.rules.TotalAssignments.Cost.{assignment_weight}
-use Rattle.rota_items.specs.rules.WorkedWeekends.Cost.{worked_weekend_weight}
+use Rattle.rota_rules.specs.ConsecutiveAssignments.{shift_run_weight, work_run_weight}
+use Rattle.rota_rules.specs.TotalAssignments.{assignment_weight}
+use Rattle.rota_rules.specs.WorkedWeekends.{worked_weekend_weight}
 use Rattle.rota_certificate.specs.Facts.{Case}
 use Rattle.rota_certificate.specs.Minimums.{not_allowed}
 use Rattle.rota_certificate.specs.declared.limits.Limit.{Limit}

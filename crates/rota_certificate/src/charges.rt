@@ -8,7 +8,7 @@ ghost use Rattle.rota_certificate.specs.ShiftCharges.{ended_charge, going_charge
 ghost use Rattle.rota_certificate.specs.Nearness.{IsNear, most_days};
 
 use rota_core::{Contract, DAYS, Instance, Past, Span};
-use rota_items::{COMPLETE_WEEKEND_WEIGHT, OFF_RUN_WEIGHT, REQUEST_WEIGHT, WORK_RUN_WEIGHT};
+use rota_rules::{COMPLETE_WEEKEND_WEIGHT, OFF_RUN_WEIGHT, REQUEST_WEIGHT, WORK_RUN_WEIGHT};
 
 // The length of the run on the shift type at the end of the past.
 fn run_on(past: Past, shift: u8) -> u16

@@ -15,7 +15,7 @@ use crate::rebates::NOT_ALLOWED;
 use crate::stages::Stage;
 use crate::tariffs::Tariff;
 use rota_core::{Contract, DAYS, Past};
-use rota_items::ASSIGNMENT_WEIGHT;
+use rota_rules::ASSIGNMENT_WEIGHT;
 
 // The cost of this number of charges at this weight, but not more than `NOT_ALLOWED`.
 fn weighted(weight: u64, charges: u64) -> u64

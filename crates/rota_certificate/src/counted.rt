@@ -5,7 +5,7 @@ ghost use Rattle.rota_core.specs.HardRules.{KeepsHardRules, is_on};
 ghost use Rattle.rota_core.specs.InstanceTables.{problem_of};
 ghost use Rattle.rota_core.specs.RosterTables.{HasShapeOf, set_of};
 ghost use Rattle.rota_core.specs.Sizes.{DAYS};
-ghost use Rattle.rota_items.specs.CountedTotals.{charged_excess};
+ghost use Rattle.rota_rules.specs.CountedTotals.{charged_excess};
 ghost use Rattle.rota_certificate.specs.CountedCharges.{IsCountedWeek, IsPlanned, choice_on, numbers_in, plan_from, run_charges, total_charges};
 ghost use Rattle.rota_certificate.specs.Facts.{charges_of_all, charges_of_nurse};
 ghost use Rattle.rota_certificate.specs.Nearness.{IsNear, most_days};

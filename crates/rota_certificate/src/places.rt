@@ -6,7 +6,7 @@ ghost use Rattle.rota_core.specs.Limits.{max_number, max_weeks};
 ghost use Rattle.rota_core.specs.PriceTables.{IsForWeek, prices_of};
 ghost use Rattle.rota_core.specs.Prices.{max_price};
 ghost use Rattle.rota_core.specs.SumsBelow.{sum_below};
-ghost use Rattle.rota_items.specs.rules.OptimalCoverage.Cost.{optimum_weight};
+ghost use Rattle.rota_rules.specs.OptimalCoverage.{optimum_weight};
 ghost use Rattle.rota_certificate.specs.CaseLimits.{IsLimitedCase, IsLimitedDemand, most_nurses};
 ghost use Rattle.rota_certificate.specs.CertificateBounds.{thousandths};
 ghost use Rattle.rota_certificate.specs.LeafBounds.{leaf_place_bounds};
@@ -18,7 +18,7 @@ use crate::costs::times;
 use crate::demand::{Place, case_demand};
 use crate::stages::{LentLeaf, LentWeek};
 use rota_core::{Condition, DAYS, Demand, Instance};
-use rota_items::OPTIMUM_WEIGHT;
+use rota_rules::OPTIMUM_WEIGHT;
 
 // The price of this number of nurses.
 fn price_of(price: u32, nurses: u16) -> u64

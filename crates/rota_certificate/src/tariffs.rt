@@ -13,7 +13,7 @@ use crate::limits::{Limit, counts, forbids, limit_of};
 use crate::rebates::NOT_ALLOWED;
 use crate::surcharges::Surcharged;
 use rota_core::{ChargeKind, Condition};
-use rota_items::{ASSIGNMENT_WEIGHT, SHIFT_RUN_WEIGHT, WORK_RUN_WEIGHT, WORKED_WEEKEND_WEIGHT};
+use rota_rules::{ASSIGNMENT_WEIGHT, SHIFT_RUN_WEIGHT, WORK_RUN_WEIGHT, WORKED_WEEKEND_WEIGHT};
 
 /// The cost of a charge of each kind, in thousandths of a point.
 #[derive(Clone, Copy)]

@@ -19,7 +19,7 @@ use crate::leaves::leaf_bound;
 use crate::paths::{case_at, go_on, with};
 use crate::stages::{LentLeaf, LentWeek};
 use rota_core::{Certificate, Condition, Fact, Instance, Leaf, Node, POINT, Prices};
-use rota_items::STEP;
+use rota_rules::STEP;
 use std::alloc::{AllocError, Global};
 
 // A step of the penalty, and two, in thousandths of a point.

@@ -1,46 +1,23 @@
-pub mod AlikeRosters
 pub mod CellCounts
-pub mod Common
-pub mod DayLaw
-pub mod DayPatterns
-pub mod DayTerms
-pub mod EachPattern
-pub mod EarlyCharges
-pub mod Extension
-pub mod ExtensionTruths
-pub mod FirstUnmet
-pub mod HardRules
-pub mod HeldModel
-pub mod InstanceLimits
-pub mod ItemCounting
-pub mod ItemLaw
-pub mod ItemLists
-pub mod ItemRows
-pub mod JudgedItems
-pub mod JudgedModel
-pub mod JudgedRows
-pub mod JudgedVerdict
-pub mod LawProofs
+mod Common
+mod DayLaw
+mod DayPatterns
+mod DayTerms
+mod EachPattern
+mod ItemCounting
+mod ItemLists
+mod ItemRows
 pub mod Lists
 pub mod ListsAre
-pub mod LiteralTaking
-pub mod LoopSteps
-pub mod ModelCounts
-pub mod ModelMeaning
-pub mod ModelRows
-pub mod ModelTerms
-pub mod Numbers
-pub mod ObjectiveBound
-pub mod ObjectiveTaking
-pub mod Occurrence
+mod LoopSteps
+mod ObjectiveTaking
 pub mod PatternItems
 pub mod RisingCells
-pub mod RowTaking
+mod RowParts
+mod RowTaking
 pub mod RuleSizes
 pub mod RunLaw
 pub mod SlackBound
-pub mod SlackValues
 pub mod SoftRules
 pub mod SoundTerms
 pub mod Taking
-pub mod VerdictMeaning

@@ -6,6 +6,7 @@ use Rattle.rota_items.proofs.Common.Imports.{◌≤◌, length, ◌∙◌, count
 use Rattle.rota_items.proofs.Common.Imports.{length-concat_below, concat_below, ◌++◌, length-append, add-one, append-nil, take_all}
 use Rattle.rota_items.proofs.Common.Imports.{flat_map-append, take_at_read, map-append, Cell, Item, numbered, slack_count}
 pub use Rattle.rota_core.proofs.LogicWords.{all-weaker}
+use Rattle.rota_rules.proofs.LogicWords.{sum_below-same}
 use Rattle.std.proofs.lemmas.List.Concat.{flat_map-cons}
 use Rattle.std.proofs.lemmas.List.Sums.{sum_by_push}
 
@@ -61,9 +62,6 @@ pub sum_by-same : {X : Type 0} (f g : X → ℕ) (xs : List X) → AllByRecursio
 sum_by-same f g [] same = refl
 sum_by-same f g (x ∷ xs) same = omega (arith, sum_by-cons f x xs, sum_by-cons g x xs, same.0, sum_by-same f g xs same.1)
 
-pub sum_by-each-same : {X : Type 0} (f g : X → ℕ) → ((x : X) → f x ≡ g x) → (xs : List X) → sum_by f xs ≡ sum_by g xs
-sum_by-each-same f g each xs = ap (λ h. sum_by h xs) (λ i x. each x i)
-
 pub sum_by-singleton_if : {X : Type 0} (f : X → ℕ) (test : Bool) (x : X) → sum_by f (singleton_if test x) ≡ cond test (f x) 0
 unfolding singleton_if
 sum_by-singleton_if f true x = zero-add (f x)
@@ -75,30 +73,7 @@ sum_by-flat_map f g [] = refl
 sum_by-flat_map f g (x ∷ xs) =
     omega (arith, sum_by-append f (g x) (flat_map g xs), sum_by-cons (λ x. sum_by f (g x)) x xs, sum_by-flat_map f g xs)
 
--- ---- sums and tests over the numbers below a number
-
-pub sum_below-same : (n : ℕ) (f g : ℕ → ℕ) → ((i : ℕ) → i < n → f i ≡ g i) → sum_below n f ≡ sum_below n g
-unfolding sum_below
-sum_below-same zero f g same = refl
-sum_below-same (suc n) f g same = rw (sum_below-same n f g (λ i below. same i (omega arith)), same n (omega arith)) refl
-
-pub sum_below-plus : (n : ℕ) (f g : ℕ → ℕ) → sum_below n (λ i. f i + g i) ≡ sum_below n f + sum_below n g
-unfolding sum_below
-sum_below-plus zero f g = refl
-sum_below-plus (suc n) f g = omega (arith, sum_below-plus n f g)
-
-pub sum_below-within : (n m : ℕ) (f : ℕ → ℕ) → ((i : ℕ) → i < n → f i ≤ m) → sum_below n f ≤ n * m
-unfolding sum_below
-sum_below-within zero m f small = omega arith
-sum_below-within (suc n) m f small = grind (arith, small, sum_below-within n m f)
-
-pub sum_below-zero : (n : ℕ) (f : ℕ → ℕ) → ((i : ℕ) → i < n → f i ≡ 0) → sum_below n f ≡ 0
-sum_below-zero n f none = omega (arith, sum_below-within n 0 f (λ i below. omega (arith, none i below)))
-
 -- ---- sizes
-
-pub sum_below-at_most : (n maximum m : ℕ) (f : ℕ → ℕ) → n ≤ maximum → ((i : ℕ) → f i ≤ m) → sum_below n f ≤ maximum * m
-sum_below-at_most n maximum m f few small = omega (arith, sum_below-within n m f (λ i _. small i), mul-le n m maximum m few (omega arith))
 
 -- the length of the lists that loops make
 pub length-at_most : {A : Type 0} {n m : ℕ} (maximum : ℕ) → n ≤ maximum → (f : ℕ → List A) → ((i : ℕ) → length (f i) ≤ m) →
@@ -130,17 +105,6 @@ pub count_by-each : {X : Type 0} (test : X → Bool) (n : ℕ) (x : ℕ → X) �
 count_by-each test n x =
     sum_by-each-is (λ y. cond (test y) 1 0) n (λ i. x i ∷ []) (λ i. cond (test (x i)) 1 0)
     (λ i _. zero-add (cond (test (x i)) 1 0))
-
-pub any_below-same : (n : ℕ) (p q : ℕ → Bool) → ((i : ℕ) → i < n → p i ≡ q i) → any_below n p ≡ any_below n q
-unfolding any_below
-any_below-same zero p q same = refl
-any_below-same (suc n) p q same = rw (any_below-same n p q (λ i below. same i (omega arith)), same n (omega arith)) refl
-
--- a test that holds of more
-pub any_below-more : (n : ℕ) (p q : ℕ → Bool) → ((i : ℕ) → i < n → p i ≡ true → q i ≡ true) → any_below n p ≡ true → any_below n q ≡ true
-unfolding any_below
-any_below-more zero p q more some = some
-any_below-more (suc n) p q more some = grind (arith, any_below-more n p q (λ i below. more i (omega arith)), more n (omega arith))
 
 pub list_any-each : {X : Type 0} (p : X → Bool) (n : ℕ) (g : ℕ → List X) →
     list_any p (concat_below n g) ≡ any_below n (λ i. list_any p (g i))

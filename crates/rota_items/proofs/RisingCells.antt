@@ -4,10 +4,16 @@ use Rattle.rota_items.proofs.Common.Imports.{mul-add-lt, mul-le-mul_right, conca
 use Rattle.rota_items.proofs.Common.Imports.{work_cells, nurse_cells, demand_cells, skill_cells, cell_number, unit_number, Term, times}
 use Rattle.rota_items.proofs.Common.Imports.{numbered_terms, Property, variables_on, day_terms, PatternDay, true, nat_lt, refl, sym, ap, ◌∙◌, pos}
 use Rattle.rota_items.proofs.Common.Imports.{nat_tests, map-map, singleton_if, request_terms_on, request_weight, cell_term_events, term_events}
+use Rattle.rota_core.proofs.CellIndices.{cell_index-lt}
 use Rattle.rota_core.specs.RisingLists.{RisesWithin}
 use Rattle.rota_core.proofs.LogicWords.{all-weaker, length-rising, numbers-rising, rises-append, rises-blocks, rises-each, rises-in, rises-map}
 use Rattle.rota_items.proofs.Lists.{length-each-is, map-concat_below}
 use Rattle.rota_items.proofs.ListsAre.{Are, alone, in-turns}
+
+-- the numbers of the cells are below the number of the unit variable
+pub cell_number-below : (problem : Problem) (one : Cell) → InWeek problem one → cell_number problem one < unit_number problem
+cell_number-below problem one inside =
+    omega (arith, cell_index-lt problem.nurses problem.shifts problem.skills one inside.nurse_in inside.day_in inside.shift_in inside.skill_in)
 
 -- numbers that rise are between the first and the end
 pub rises-between : {X : Type 0} (number : X → ℕ) (first end : ℕ) (xs : List X) → RisesWithin number first end xs →

@@ -2,15 +2,21 @@
 use Rattle.rota_items.proofs.Common.Imports.{ℕ, ◌*◌, ◌≤◌, List, length, arith, sum_by, sum_by-le, sum_by-le-sum_by, All-from_recursion, AllByRecursion}
 use Rattle.rota_items.proofs.Common.Imports.{mul-le, Problem, Rule, Cell, Item, items_of_rule, soft_items, soft_rules, IsWithinLimits, max_items, max_slacks}
 use Rattle.rota_items.proofs.Common.Imports.{max_nurses, nurse_constant, constant_of_rule, constant, max_constant, max_constant_of_nurse}
-use Rattle.rota_items.proofs.Common.Imports.{max_constant_of_rule, InstanceTables, IsInstance, problem_of, ◌<◌, Roster, shortage, weighted_shortages, penalty}
-use Rattle.rota_items.proofs.Common.Imports.{rule_cost, half_limit, max_cells, max_cost, max_weight, penalty_limit, max_charge, max_terms, mul-le-mul_left}
-use Rattle.rota_items.proofs.InstanceLimits.{instance-within_limits}
-use Rattle.rota_items.proofs.Lists.{AreFew, all-weaker, sum_below-at_most, sum_by-flat_map, all-both, all-flat_map}
+use Rattle.rota_items.proofs.Common.Imports.{max_constant_of_rule, InstanceTables, IsInstance, problem_of, Roster, shortage, weighted_shortages}
+use Rattle.rota_items.proofs.Common.Imports.{max_cells, max_weight, max_charge, max_terms, mul-le-mul_left}
+use Rattle.std.specs.Prelude.{◌^◌}
+use Rattle.rota_rules.proofs.InstanceLimits.{instance-within_limits}
+use Rattle.rota_items.proofs.Lists.{AreFew, all-weaker, sum_by-flat_map, all-both, all-flat_map}
+use Rattle.rota_rules.proofs.LogicWords.{sum_below-at_most}
 use Rattle.rota_items.proofs.SoftRules.EachRule.{sound-rule}
 use Rattle.rota_items.proofs.SoftRules.Sizes.{IsItemSmall}
 use Rattle.rota_items.proofs.SoftRules.Sound.{IsItemSound}
 use Rattle.rota_items.proofs.PatternItems.{shortage-minimum, spread}
 use Rattle.rota_items.proofs.SoundTerms.{spread-units}
+
+-- half the limit of a signed sum of 64 bits
+abbrev pub half_limit : ℕ
+half_limit = 2 ^ 62
 
 constants-of_any : (rule : Rule) → max_constant_of_rule rule ≤ max_constant
 constants-of_any rule = grind arith
@@ -82,10 +88,6 @@ module _ (problem : Problem) (limits : IsWithinLimits problem) where
   shortages-few roster rule =
       let charged = items-le (λ item. item.weight * shortage roster item) (λ _. max_charge) rule in
       omega (arith, items-of_any rule, charged (each-of_rule _ rule (charge-few roster rule)))
-
-pub penalty-below : (problem : Problem) (roster : Roster) → IsWithinLimits problem → penalty problem roster < penalty_limit
-penalty-below problem roster limits =
-    omega (arith, sum_by-le-sum_by (rule_cost problem roster) (λ _. max_cost) soft_rules (λ rule. (sound-rule problem rule).cost_small limits roster))
 
 -- ---- of an instance
 

@@ -8,7 +8,7 @@ use Rattle.rota_items.proofs.Lists.{all-flat_map, all-map}
 use Rattle.rota_items.proofs.PatternItems.{spread}
 use Rattle.rota_core.specs.RisingLists.{RisesWithin}
 use Rattle.rota_core.proofs.LogicWords.{length-rising}
-use Rattle.rota_items.proofs.Numbers.{cell_number-below}
+use Rattle.rota_items.proofs.RisingCells.{cell_number-below}
 use Rattle.rota_items.proofs.RisingCells.{at, in-cell, on-are, rises-demand_cells, rises-times, within, work-are}
 
 -- ---- properties of the variables of a property's days are properties of its items' variables

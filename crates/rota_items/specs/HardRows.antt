@@ -1,5 +1,6 @@
 -- The rows that mean the hard rules, over cells.
 use Rattle.std.specs.Prelude.{◌∷◌, ◌+◌, ◌-◌, ◌++◌, ℕ, pos, negsuc, nat_lt, Bool, false, not}
+use Rattle.rota_rules.specs.Successions.{is_forbidden_after}
 use Rattle.rota_items.specs.Imports.{DAYS, List, [], map, flat_map, Option, Some, None, Cell, Problem, Rule, hard_rules, H1, H2, H3, H4, H5}
 use Rattle.rota_items.specs.Rows.{LinearRow, Hard, times, concat_below, singleton_if, on_cells, work_cells, demand_cells, skill_cells}
 use Rattle.rota_items.specs.Rows.{cells_of}
@@ -31,11 +32,6 @@ h2_rows problem = concat_below DAYS (λ d. concat_below problem.shifts (λ s. co
 -- H3: the nurse is not on t on Monday; it is a row of the model if t may not follow the last shift type of her history
 abbrev pub h3_monday_row : Problem → ℕ → ℕ → LinearRow Cell
 h3_monday_row problem n t = record { part = Hard H3; terms = times (negsuc 0) (on_cells problem n t 0); degree = pos 0 }
-
--- whether the shift type may not follow the last shift of the history
-abbrev pub is_forbidden_after : Problem → Option ℕ → ℕ → Bool
-is_forbidden_after problem None t = false
-is_forbidden_after problem (Some last) t = problem.is_forbidden last t
 
 -- the row of H3 for Monday, if t may not follow the last shift type of the history
 abbrev pub h3_monday_rows_at : Problem → ℕ → ℕ → List (LinearRow Cell)

@@ -4,8 +4,8 @@ use Rattle.rota_items.specs.Imports.{ℕ, ℤ, pos, Bool, List, sum_by, Rule, Ro
 use Rattle.rota_core.specs.HardRules.{KeepsMinimum, KeepsOneCell}
 use Rattle.rota_core.specs.declared.rule.Rule.TheVariants.{S1, S4}
 use Rattle.rota_items.specs.Rows.{shortage, Item, value_of}
-use Rattle.rota_items.specs.rules.TotalAssignments.Items.{assignment_constant_of}
-use Rattle.rota_items.specs.rules.WorkedWeekends.Items.{weekend_constant_of}
+use Rattle.rota_items.specs.rules.TotalAssignments.{assignment_constant_of}
+use Rattle.rota_items.specs.rules.WorkedWeekends.{weekend_constant_of}
 use Rattle.rota_items.specs.RuleItems.{items_of_rule, constant_of_rule, cell_terms_of_rule}
 
 -- the charge of the items

@@ -1,14 +1,16 @@
 -- The charges of the model for the soft rules: items, the constant, and terms on cells.
-use Rattle.std.specs.Prelude.{◌++◌, ℕ, List, [], flat_map}
+use Rattle.std.specs.Prelude.{◌++◌, ℕ, Bool, List, [], flat_map}
+use Rattle.std.specs.List.{list_any}
+use Rattle.rota_core.specs.RuleNames.{is_rule}
 use Rattle.rota_items.specs.Imports.{sum_by, Rule, Cell, Problem, sum_below, soft_rules, Option, Some, None, S1, S2, S3, S4, S5, S6, S7}
 use Rattle.rota_items.specs.Rows.{concat_below, Item, Term}
-use Rattle.rota_items.specs.rules.CompleteWeekends.Items.{complete_weekends_of}
-use Rattle.rota_items.specs.rules.ConsecutiveAssignments.Items.{assignment_runs_of}
-use Rattle.rota_items.specs.rules.ConsecutiveDaysOff.Items.{days_off_runs_of}
-use Rattle.rota_items.specs.rules.TotalAssignments.Items.{assignment_constant_of, totals_of}
-use Rattle.rota_items.specs.rules.WorkedWeekends.Items.{weekend_constant_of, worked_weekends_of}
-use Rattle.rota_items.specs.rules.OptimalCoverage.Items.{optimum_items}
-use Rattle.rota_items.specs.rules.ShiftOffRequests.Terms.{request_terms}
+use Rattle.rota_items.specs.rules.CompleteWeekends.{complete_weekends_of}
+use Rattle.rota_items.specs.rules.ConsecutiveAssignments.{assignment_runs_of}
+use Rattle.rota_items.specs.rules.ConsecutiveDaysOff.{days_off_runs_of}
+use Rattle.rota_items.specs.rules.TotalAssignments.{assignment_constant_of, totals_of}
+use Rattle.rota_items.specs.rules.WorkedWeekends.{weekend_constant_of, worked_weekends_of}
+use Rattle.rota_items.specs.rules.OptimalCoverage.{optimum_items}
+use Rattle.rota_items.specs.rules.ShiftOffRequests.{request_terms}
 
 -- the parts that the model charges for a rule
 pub record Charge : Type 0 where
@@ -68,6 +70,10 @@ constant_of_rule problem rule = sum_below problem.nurses (nurse_constant problem
 -- a rule's terms on cells
 abbrev pub cell_terms_of_rule : Problem → Rule → List (Term Cell)
 cell_terms_of_rule problem rule = (charge_or_none rule).cell_terms problem
+
+-- whether the rule is a soft rule
+abbrev pub is_soft : Rule → Bool
+is_soft rule = list_any (is_rule rule) soft_rules
 
 -- the items of all soft rules, in their order
 abbrev pub soft_items : Problem → List (Item Cell)

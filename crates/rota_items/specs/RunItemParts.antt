@@ -5,7 +5,7 @@ use Rattle.rota_items.specs.Imports.{ℕ, Bool, List, map, count_by, length, ran
 use Rattle.rota_items.specs.Rows.{Item}
 use Rattle.rota_items.specs.RunItems.{Pattern, windows_on, patterns_on}
 use Rattle.rota_items.specs.RunItems.{Property, variables_on, Runs, pattern_items, Present, Absent}
-use Rattle.rota_items.specs.Runs.{is_over, missing_on}
+use Rattle.rota_rules.specs.Runs.{is_over, missing_on}
 
 -- the items of one day's window, and of the patterns of the runs that end on the day before it
 abbrev pub window_items_on : {X : Type 0} → Runs X → ℕ → List (Item X)
@@ -29,11 +29,6 @@ pub record DaysFollow (pattern : Pattern) : Type 0 where
   pub first : ℕ
   pub days_are : map (λ day. day.day) pattern.days ≡ range_with_len first (length pattern.days)
   pub in_week : first + length pattern.days ≤ DAYS
-
--- the cost of the runs on a day
-abbrev pub day_cost : (ℕ → Bool) → ℕ → Span → ℕ → ℕ
-day_cost has history limits d =
-    (if is_over has history limits.max d then 1 else 0) + missing_on has history limits.min d
 
 abbrev pub has_property : {X : Type 0} → Property X → (X → Bool) → ℕ → Bool
 has_property (Present variables) assignment d = list_any assignment (variables d)

@@ -1,4 +1,4 @@
--- The part that a taker took of a list: of the events of rows, of rows of the hard rules, of items, or of literals.
+-- The part that a taker took of a list: of the events of rows, of rows of the hard rules, or of items.
 use Rattle.std.specs.Prelude.{◌≡◌, Bool, List, ◌∷◌, ◌++◌, Result, MatchResult}
 use Rattle.std.specs.List.{fold}
 use Rattle.rota_core.specs.declared.values.Cell.{Cell}
@@ -6,7 +6,6 @@ use Rattle.rota_core.specs.Problem.{Problem}
 use Rattle.rota_items.specs.Events.{Event}
 use Rattle.rota_items.specs.SentItems.{numbered_list, numbered_rows}
 use Rattle.rota_items.specs.Rows.{Item, LinearRow}
-use Rattle.rota_items.specs.declared.literals.literal_takers.LiteralTaker as literal_taker
 use Rattle.rota_items.specs.declared.hard.row_takers.RowTaker as row_taker
 use Rattle.rota_items.specs.declared.items.item_takers.ItemTaker as item_taker
 use Rattle.rota_items.specs.declared.takers.Taker.{Ghosts}
@@ -46,12 +45,9 @@ module _ {Self Fault : Type 0} (T : Ghosts Self Fault) where
   abbrev pub Takes : {R : Type 0} → List Event → Self → Self → Result R Fault → Type 0
   Takes events old new result = TakesAll T.value T.step T.left events old new result
 
--- a taker of the rows of the hard rules, of items, and of literals by their truth values
+-- a taker of the rows of the hard rules, and of items
 abbrev pub TakesRows : {S F R : Type 0} → row_taker.Ghosts S F → Problem → List (LinearRow Cell) → S → S → Result R F → Type 0
 TakesRows T problem rows old new result = TakesAll T.value T.step T.left (numbered_rows problem rows) old new result
 
 abbrev pub TakesItems : {S F R : Type 0} → item_taker.Ghosts S F → Problem → List (Item Cell) → S → S → Result R F → Type 0
 TakesItems T problem items old new result = TakesAll T.value T.step T.left (numbered_list problem items) old new result
-
-abbrev pub TakesLiterals : {S F R : Type 0} → literal_taker.Ghosts S F → List Bool → S → S → Result R F → Type 0
-TakesLiterals T truths old new result = TakesAll T.value T.step T.left truths old new result

@@ -1,4 +1,4 @@
--- The soft rules. Each has its weight and cost, and its charge in the model: items, a constant or terms on cells.
+-- The charges of the model for the soft rules: items, a constant or terms on cells.
 pub mod CompleteWeekends
 pub mod ConsecutiveAssignments
 pub mod ConsecutiveDaysOff

@@ -1,12 +1,10 @@
 //! The soft rules. Each rule has a file; this one selects the file by the rule.
-ghost use Rattle.std.specs.Prelude.{◌≡◌, ◌<◌, IfSome, [], ◌∷◌, length, nat_lt};
+ghost use Rattle.std.specs.Prelude.{◌≡◌, ◌<◌, [], ◌∷◌, length, nat_lt};
 ghost use Rattle.rota_core.specs.InstanceTables.{IsInstance, problem_of};
 ghost use Rattle.rota_core.specs.Lists.{concat_below};
-ghost use Rattle.rota_core.specs.Rules.{soft_rules};
 ghost use Rattle.rota_items.specs.CellEvents.{cell_term_events};
 ghost use Rattle.rota_items.specs.Takes.{Takes, TakesItems};
 ghost use Rattle.rota_items.specs.RuleItems.{nurse_constant, nurse_items, cell_terms, cell_terms_of_rule, constant, constant_of_rule, items_of_rule, soft_items};
-ghost use Rattle.rota_items.specs.Verdicts.{soft_index};
 ghost use Rattle.rota_items.specs.ModelCosts.{constant_of_assignments, constant_of_weekends};
 
 mod complete_weekends;
@@ -23,14 +21,6 @@ mod worked_weekends;
 use crate::items::run_takers::RunTaker;
 use crate::takers::Taker;
 use rota_core::{Instance, Rule};
-
-/// The index of a soft rule in `Rule::SOFT`.
-pub fn soft_index(rule: Rule) -> Option<usize>
-    ensures index { result ≡ soft_index rule }
-    ensures small { IfSome result (λ index. index < length soft_rules) }
-{
-    Rule::SOFT.iter().position(|soft| *soft == rule)
-}
 
 // Sends the taker the items of a rule that charges each nurse, for one nurse.
 #[tactic(auto, using(crate::proofs::Taking::taking), unfolding(crate::specs::SentItems::numbered_list))]

@@ -7,7 +7,7 @@ ghost use Rattle.rota_items.specs.CellEvents.{coefficient_of, sum_events};
 ghost use Rattle.rota_items.specs.Rows.{demand_cells, nurse_cells, on_cells, skill_cells, times, work_cells};
 ghost use Rattle.rota_items.specs.Events.{term_events};
 ghost use Rattle.rota_items.specs.Takes.{Takes};
-ghost use Rattle.rota_items.specs.Bounds.{max_cells_of_day};
+ghost use Rattle.rota_rules.specs.CostBounds.{max_cells_of_day};
 ghost use Rattle.rota_items.specs.MachineBounds.{word_limit};
 
 use crate::takers::Taker;

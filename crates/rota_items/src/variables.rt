@@ -4,7 +4,7 @@ ghost use Rattle.std.specs.Prelude.{◌≡◌, ◌+◌, ◌<◌, ◌≤◌, ◌�
 ghost use Rattle.rota_core.specs.InstanceTables.{IsInstance, problem_of};
 ghost use Rattle.rota_core.specs.Roster.{InWeek, cell};
 ghost use Rattle.rota_items.specs.Variables.{cell_number, unit_number};
-ghost use Rattle.rota_items.specs.Bounds.{max_cells_of_nurse};
+ghost use Rattle.rota_rules.specs.CostBounds.{max_cells_of_nurse};
 ghost use Rattle.rota_items.specs.MachineBounds.{word_limit};
 
 use rota_core::{Cell, DAYS, Instance};

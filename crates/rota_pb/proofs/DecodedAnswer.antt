@@ -6,15 +6,15 @@ use Rattle.rota_core.specs.declared.values.Cell.{Cell}
 use Rattle.rota_core.specs.Roster.{InWeek, Roster}
 use Rattle.rota_core.specs.RosterTables.{RosterTables, HasShapeOf, set_of}
 use Rattle.rota_core.specs.CellIndex.{cell_index}
-use Rattle.rota_items.specs.AlikeRosters.{AreAlike, CostAlike}
+use Rattle.rota_rules.specs.AlikeRosters.{AreAlike, CostAlike}
 use Rattle.rota_items.specs.Linear.{objective_value}
 use Rattle.rota_core.specs.Rules.{soft_rules}
-use Rattle.rota_items.specs.Penalty.{penalty}
-use Rattle.rota_items.specs.Verdicts.{IsMet}
+use Rattle.rota_rules.specs.Penalty.{penalty}
+use Rattle.rota_judge.specs.Verdicts.{IsMet}
 use Rattle.rota_items.specs.Variables.{roster_of}
-use Rattle.rota_items.specs.Truths.{truth_of}
+use Rattle.rota_judge.specs.Truths.{truth_of}
 use Rattle.rota_items.specs.WeekModel.{model_of}
-use Rattle.rota_items.specs.declared.judge.verdicts.Verdict.{Verdict}
+use Rattle.rota_judge.specs.declared.judge.verdicts.Verdict.{Verdict}
 use Rattle.solver_text.specs.declared.outcome.Solved.{Solved}
 use Rattle.rota_pb.specs.Decoded.{FindsRoster, IsDecoded}
 

@@ -2,9 +2,9 @@
 use Rattle.std.specs.Prelude.{◌≡◌, ℕ, ◌≤◌, pos, Bool, map, sum, Some}
 use Rattle.rota_pb.specs.Imports.{Cell, Fault, HasShapeOf, InWeek, KeepsHardRules, NoRoster, objective_value, roster_of, Rule}
 use Rattle.rota_pb.specs.Imports.{SatisfiesModel, set_of, soft_rules, Unmet, Problem}
-use Rattle.rota_items.specs.Penalty.{penalty, rule_cost}
-use Rattle.rota_items.specs.FirstUnmet.{first_unmet}
-use Rattle.rota_items.specs.Truths.{truth_of}
+use Rattle.rota_rules.specs.Penalty.{penalty, rule_cost}
+use Rattle.rota_judge.specs.FirstUnmet.{first_unmet}
+use Rattle.rota_judge.specs.Truths.{truth_of}
 use Rattle.rota_items.specs.WeekModel.{model_of, rows_of}
 use Rattle.solver_text.specs.declared.outcome.Status.{Status}
 use Rattle.solver_text.specs.declared.outcome.Status.TheVariants.{Satisfiable, Optimum}

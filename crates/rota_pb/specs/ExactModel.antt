@@ -1,8 +1,9 @@
 -- The rows of a week's model, and the assignment that extends a roster.
 use Rattle.std.specs.Prelude.{◌≡◌, ◌↔◌, ◌++◌, ℕ, Bool, true, List, All}
 use Rattle.rota_pb.specs.Imports.{Constraint, KeepsHardRules, Model, Roster, roster_of, Satisfies, unit_number, Problem}
-use Rattle.rota_items.specs.FirstUnmet.{NamesFirstBroken, first_unmet}
-use Rattle.rota_items.specs.WeekModel.{extension_of, hard_constraints, hard_rows, model_of}
+use Rattle.rota_judge.specs.FirstUnmet.{NamesFirstBroken, first_unmet}
+use Rattle.rota_judge.specs.Extensions.{extension_of}
+use Rattle.rota_items.specs.WeekModel.{hard_constraints, hard_rows, model_of}
 use Rattle.rota_pb.specs.Meaning.{IsExtension}
 
 -- The hard constraints come first, and they are exactly these. If the unit variable is true, the first that an assignment does not

@@ -3,11 +3,12 @@ use Rattle.std.specs.Prelude.{◌≡◌, ℕ, ◌<◌, ◌≤◌, pos, List, Som
 use Rattle.rota_pb.specs.Imports.{Breaks, Cell, Choice, Fault, InWeek, InstanceTables, IsInstance, KeepsHardRules, Problem, problem_of}
 use Rattle.rota_pb.specs.Imports.{Roster, roster_of, set_of}
 use Rattle.rota_core.specs.declared.fault.FileName.TheVariants as names
-use Rattle.rota_items.specs.FirstUnmet.{FirstBroken}
-use Rattle.rota_items.specs.ExtensionTruths.{extension_truths}
-use Rattle.rota_items.specs.Penalty.{penalty}
-use Rattle.rota_items.specs.Truths.{truth_of}
-use Rattle.rota_items.specs.WeekModel.{model_of, extension_of}
+use Rattle.rota_judge.specs.FirstUnmet.{FirstBroken}
+use Rattle.rota_judge.specs.ExtensionTruths.{extension_truths}
+use Rattle.rota_rules.specs.Penalty.{penalty}
+use Rattle.rota_judge.specs.Truths.{truth_of}
+use Rattle.rota_items.specs.WeekModel.{model_of}
+use Rattle.rota_judge.specs.Extensions.{extension_of}
 use Rattle.solver_text.specs.declared.outcome.Status.TheVariants.{Satisfiable}
 use Rattle.solver_text.specs.Answers.{outcome}
 use Rattle.solver_text.specs.AnswerText.{answer_text}

@@ -2,7 +2,7 @@
 use Rattle.std.specs.Prelude.{◌≡◌, ◌≤ℤ◌, ℕ, pos, Bool}
 use Rattle.rota_items.specs.Imports.{Cell, InWeek, KeepsHardRules, Roster, Problem}
 use Rattle.rota_items.specs.Linear.{Model, SatisfiesModel, objective_value}
-use Rattle.rota_items.specs.Penalty.{penalty}
+use Rattle.rota_rules.specs.Penalty.{penalty}
 use Rattle.rota_items.specs.Variables.{roster_of}
 
 -- The assignment satisfies the model, its objective is the roster's penalty, and its roster has the same cells of the week.

@@ -6,8 +6,8 @@ ghost use Rattle.rota_pb.specs.Decoded.{IsDecoded, LacksRoster};
 
 use crate::fault::Fault;
 use rota_core::{Instance, Roster, SOFT_RULES};
-use rota_items::laws::alike_rosters_cost_the_same;
-use rota_items::{Judge, verdict_of};
+use rota_judge::laws::alike_rosters_cost_the_same;
+use rota_judge::{Judge, verdict_of};
 use solver_text::{Solved, Status};
 
 /// The roster of an answer that satisfies the model, and its costs.

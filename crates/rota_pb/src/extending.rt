@@ -10,7 +10,7 @@ use crate::roster_files::read_roster;
 use crate::week_files::{Choice, read_instance};
 use byte_ports::{Source, Target};
 use rota_core::{Instance, Roster};
-use rota_items::{Judge, verdict_of};
+use rota_judge::{Judge, verdict_of};
 use solver_text::AnswerWriter;
 use std::alloc::Global;
 use text_sink::Sink;

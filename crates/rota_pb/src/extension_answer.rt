@@ -2,7 +2,7 @@
 ghost use Rattle.std.specs.Prelude.{◌≡◌, length, OnOk};
 ghost use Rattle.rota_core.specs.InstanceTables.{problem_of};
 ghost use Rattle.rota_core.specs.RosterTables.{HasShapeOf, set_of};
-ghost use Rattle.rota_items.specs.ExtensionTruths.{extension_truths};
+ghost use Rattle.rota_judge.specs.ExtensionTruths.{extension_truths};
 ghost use Rattle.text_sink.specs.Sink.{FinishesSink, PutsText};
 ghost use Rattle.solver_text.specs.AnswerWriter.{literals_of, literals_text, phase_of, writer_sink};
 ghost use Rattle.solver_text.specs.declared.answer_writer.Phase.TheVariants.{New, Started};
@@ -10,10 +10,9 @@ ghost use Rattle.rota_pb.specs.Extending.{extension_answer};
 
 use byte_ports::{PortFault, Target};
 use rota_core::{Instance, Roster};
-use rota_items::laws::{
-    extension_truths_are_those_of_the_variables, instances_are_within_limits, variables_are_few,
-};
-use rota_items::{LiteralTaker, drive_extension};
+use rota_judge::laws::{extension_truths_are_those_of_the_variables, variables_are_few};
+use rota_rules::laws::instances_are_within_limits;
+use rota_judge::{LiteralTaker, drive_extension};
 use solver_text::AnswerWriter;
 use solver_text::laws::calls_write_the_answer;
 

@@ -1,10 +1,8 @@
 //! The meaning of the answer of a roster's extension.
 ghost use Rattle.rota_pb.specs.Extending.{ExtensionIsReadBack};
 
-use rota_items::laws::{
-    extension_truths_are_those_of_the_variables, instances_are_within_limits, penalty_is_small,
-    variables_are_few,
-};
+use rota_judge::laws::{extension_truths_are_those_of_the_variables, variables_are_few};
+use rota_rules::laws::{instances_are_within_limits, penalty_is_small};
 use solver_text::laws::written_answer_is_read;
 
 /// The answer that is written for a roster that keeps the hard rules is read as `SATISFIABLE`, with the

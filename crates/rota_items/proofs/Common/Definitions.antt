@@ -1,14 +1,14 @@
 -- Definitions that only proofs cite: the lists that takers took, the items of a day's patterns, and bounds.
-use Rattle.std.specs.Prelude.{◌+◌, ◌*◌, ◌^◌, max}
+use Rattle.std.specs.Prelude.{◌+◌, ◌*◌, max}
 use Rattle.rota_core.specs.declared.rule.Rule.TheVariants.{S1}
-use Rattle.rota_items.specs.Imports.{ℕ, Bool, List, Cell, Problem, Rule, DAYS}
-use Rattle.rota_items.specs.Bounds.{max_cells_of_nurse, max_unit_weight, max_weight}
+use Rattle.rota_items.specs.Imports.{ℕ, List, Cell, Problem, Rule, DAYS}
+use Rattle.rota_rules.specs.CostBounds.{max_cells_of_nurse}
+use Rattle.rota_items.specs.Bounds.{max_weight}
 use Rattle.rota_items.specs.SentItems.{numbered_list, numbered_rows}
 use Rattle.rota_core.specs.Limits.{max_number, max_nurses}
 use Rattle.rota_items.specs.Rows.{Item, LinearRow}
 use Rattle.rota_items.specs.RunItems.{Runs, closed_patterns_at, pattern_items}
 use Rattle.rota_items.specs.Takes.{TookAll}
-use Rattle.rota_items.specs.declared.literals.literal_takers.LiteralTaker as literal_taker
 use Rattle.rota_items.specs.declared.hard.row_takers.RowTaker as row_taker
 use Rattle.rota_items.specs.declared.items.item_takers.ItemTaker as item_taker
 
@@ -19,9 +19,6 @@ TookRows T problem rows old new = TookAll T.value T.step T.left (numbered_rows p
 
 abbrev pub TookItems : {S F : Type 0} → item_taker.Ghosts S F → Problem → List (Item Cell) → S → S → Type 0
 TookItems T problem items old new = TookAll T.value T.step T.left (numbered_list problem items) old new
-
-abbrev pub TookLiterals : {S F : Type 0} → literal_taker.Ghosts S F → List Bool → S → S → Type 0
-TookLiterals T truths old new = TookAll T.value T.step T.left truths old new
 
 -- ---- the items of a closed pattern
 
@@ -42,14 +39,3 @@ max_terms = max max_nurses max_cells_of_nurse
 -- the maximum charge of an item, on a roster that keeps no rule
 abbrev pub max_charge : ℕ
 max_charge = max_weight * (1 + max_terms)
-
--- a rule costs a nurse no more than the maximum charge for each of her cells
-abbrev pub max_cost_of_nurse : ℕ
-max_cost_of_nurse = max_unit_weight * (max_cells_of_nurse * max_number)
-
-abbrev pub max_cost : ℕ
-max_cost = max_nurses * max_cost_of_nurse
-
--- half the limit of a signed sum of 64 bits
-abbrev pub half_limit : ℕ
-half_limit = 2 ^ 62

@@ -1,19 +1,18 @@
 -- The items of a nurse's runs charge the cost of those runs: on the shift types, of working days and of days off.
-use Rattle.rota_items.proofs.Common.Imports.{◌≡◌, ℕ, ◌*◌, ◌<◌, Bool, not, List, arith, ap, ◌∙◌, refl, sum_by-append, AllByRecursion-append}
+use Rattle.rota_items.proofs.Common.Imports.{◌≡◌, ℕ, ◌*◌, ◌<◌, Bool, not, List, arith, ap, ◌∙◌, sum_by-append, AllByRecursion-append}
 use Rattle.rota_items.proofs.Common.Imports.{AllByRecursion-concat_below, concat_below, KeepsOneCell, is_off, is_on, works, Roster}
 use Rattle.rota_items.proofs.Common.Imports.{Problem, Rule, Cell, Item, on_cells, work_cells, weighted_shortages, Span, Property, Present}
-use Rattle.rota_items.proofs.Common.Imports.{Absent, Runs, run_items, max_number, max_shifts, ◌+◌, run_cost, shift_runs, work_runs}
+use Rattle.rota_items.proofs.Common.Imports.{Absent, Runs, run_items, max_shifts, run_cost, shift_runs, work_runs}
 use Rattle.rota_core.specs.declared.rule.Rule.TheVariants.{S2, S3}
-use Rattle.rota_items.specs.rules.ConsecutiveAssignments.Cost.{consecutive_assignment_cost_of, history_on, shift_run_weight, work_run_weight}
-use Rattle.rota_items.specs.rules.ConsecutiveDaysOff.Cost.{consecutive_day_off_cost_of, off_run_weight}
-use Rattle.rota_items.specs.rules.ConsecutiveAssignments.Items.{assignment_runs_of}
-use Rattle.rota_items.specs.rules.ConsecutiveDaysOff.Items.{days_off_runs_of, off_runs}
-use Rattle.rota_items.proofs.AlikeRosters.{on-alike, run_cost-alike, works-alike}
+use Rattle.rota_rules.specs.ConsecutiveAssignments.{consecutive_assignment_cost_of, history_on, shift_run_weight, work_run_weight}
+use Rattle.rota_rules.specs.ConsecutiveDaysOff.{consecutive_day_off_cost_of, off_run_weight}
+use Rattle.rota_items.specs.rules.ConsecutiveAssignments.{assignment_runs_of}
+use Rattle.rota_items.specs.rules.ConsecutiveDaysOff.{days_off_runs_of, off_runs}
 use Rattle.rota_items.proofs.CellCounts.{any-on, any-works}
-use Rattle.rota_items.proofs.Lists.{few-append, few-concat_below, sum_by-each-times, sum_below-at_most, sum_below-same}
+use Rattle.rota_items.proofs.Lists.{few-append, few-concat_below, sum_by-each-times}
 use Rattle.rota_items.proofs.RunLaw.{weighted_shortages-run_items}
 use Rattle.rota_items.proofs.SoftRules.NurseProperties.{of_nurse-on, of_nurse-work, one-at_work, sound-run_items}
-use Rattle.rota_items.proofs.SoftRules.Sizes.{length-on, length-work, run_cost-le, small-runs}
+use Rattle.rota_items.proofs.SoftRules.Sizes.{length-on, length-work, small-runs}
 use Rattle.rota_items.proofs.SoftRules.Sound.{IsItemSound, IsNurseRuleSound, weighted}
 
 -- ---- the cost of runs, on a roster with one cell a day
@@ -65,22 +64,12 @@ module _ (problem : Problem) where
         let work = weighted-work_runs problem roster one n n_in S2 work_run_weight (problem.past n).work_run (problem.contract n).work in
         let parts = sum_by-append (weighted roster) (concat_below problem.shifts (shift_items n)) (run_items (work_runs problem n)) in
         omega arith;
-    alike = λ one other same n n_in.
-        let shifts = sum_below-same problem.shifts (shift_run_cost one n) (shift_run_cost other n) (λ s s_in.
-        run_cost-alike _ _ (λ d. on-alike problem one other same n s d n_in s_in) (history_on problem n s) (problem.limits s)) in
-        let work = run_cost-alike _ _ (λ d. works-alike problem one other same n d n_in)
-        (problem.past n).work_run (problem.contract n).work in
-        rw (shifts, work) refl;
     small = λ limits n.
         few-append (omega arith)
         (few-concat_below max_shifts limits.shifts _ (λ s _.
         small-runs (shift_runs problem n s) (λ d. omega (arith, length-on problem limits n s d)) (omega arith) (limits.limits s)))
         (small-runs (work_runs problem n) (λ d. omega (arith, length-work problem limits n d)) (omega arith) (limits.work_limits n));
     constant_small = λ limits n. omega arith;
-    cost_small = λ limits roster n.
-        let shifts = sum_below-at_most problem.shifts max_shifts (7 * (1 + max_number)) (shift_run_cost roster n) limits.shifts
-        (λ s. omega (arith, limits.limits s, run_cost-le (is_on problem roster n s) (history_on problem n s) (problem.limits s))) in
-        omega (arith, run_cost-le (works problem roster n) (problem.past n).work_run (problem.contract n).work, limits.work_limits n);
   }
 
   pub sound-consecutive_days_off : IsNurseRuleSound problem S3 (consecutive_day_off_cost_of problem) days_off_runs_of (λ _ _. 0)
@@ -88,12 +77,6 @@ module _ (problem : Problem) where
     items = λ n n_in. sound-run_items problem n (off_runs problem n) (of_nurse-work problem n n_in) (omega arith);
     charges = λ roster one n n_in.
         omega (arith, weighted-off_runs problem roster one n n_in S3 off_run_weight (problem.past n).off_run (problem.contract n).off);
-    alike = λ one other same n n_in.
-        ap (λ cost. off_run_weight * cost)
-        (run_cost-alike (is_off problem one n) (is_off problem other n)
-        (λ d d_in. ap not (works-alike problem one other same n d n_in d_in)) (problem.past n).off_run (problem.contract n).off);
     small = λ limits n. small-runs (off_runs problem n) (λ d. omega (arith, length-work problem limits n d)) (omega arith) (limits.off_limits n);
     constant_small = λ limits n. omega arith;
-    cost_small = λ limits roster n.
-        omega (arith, run_cost-le (is_off problem roster n) (problem.past n).off_run (problem.contract n).off, limits.off_limits n);
   }

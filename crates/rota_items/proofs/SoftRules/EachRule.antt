@@ -5,8 +5,8 @@ use Rattle.rota_items.proofs.Common.Imports.{and_parts, append-nil, KeepsCompeti
 use Rattle.rota_items.proofs.Common.Imports.{shortage, weighted_shortages, value_of, soft_rules, cell_terms, cell_terms_of_rule, constant}
 use Rattle.rota_items.proofs.Common.Imports.{constant_of_rule, items_of_rule, penalty, rule_cost, soft_items, request_terms, is_soft}
 use Rattle.rota_core.specs.declared.rule.Rule.TheVariants.{S1, S2, S3, S4, S5, S6, S7}
-use Rattle.rota_items.specs.AlikeRosters.{AreAlike}
-use Rattle.rota_items.proofs.Lists.{all-weaker, sum_by-each-same, sum_below-zero}
+use Rattle.rota_items.proofs.Lists.{all-weaker}
+use Rattle.rota_rules.proofs.LogicWords.{sum_below-zero}
 use Rattle.rota_items.proofs.ItemLists.{none-concat_below}
 use Rattle.rota_items.proofs.PatternItems.{value_of-append}
 use Rattle.rota_items.proofs.RisingCells.{within}
@@ -37,10 +37,8 @@ module _ (problem : Problem) where
   no_soft_rule rule other = record {
     items = rw (← none-concat_below problem.nurses) tt;
     charges = λ roster keeps. rw (← none-concat_below problem.nurses) (omega (arith, ints, sum_below-zero problem.nurses (λ n. 0) (λ _ _. refl)));
-    alike = λ one other same. refl;
     small = λ limits. rw (← none-concat_below problem.nurses) (record { each = tt; few = omega arith });
     constant_small = λ limits n. omega arith;
-    cost_small = λ limits roster. omega arith;
   }
 
   pub sound-rule : (rule : Rule) → IsRuleSound problem rule (λ roster. rule_cost problem roster rule) (charge_or_none rule)
@@ -115,7 +113,3 @@ module _ (problem : Problem) where
       pos (weighted_shortages roster (soft_items problem) + constant problem) +ℤ value_of roster (cell_terms problem) ≡
       pos (penalty problem roster)
   charges-penalty roster keeps = charges-of roster keeps soft_rules
-
-  pub penalty-alike : (one other : Roster) → AreAlike problem one other → penalty problem one ≡ penalty problem other
-  penalty-alike one other same =
-      sum_by-each-same (rule_cost problem one) (rule_cost problem other) (λ rule. (sound-rule rule).alike one other same) soft_rules

@@ -1,12 +1,12 @@
 -- The items of the optimal numbers charge the missing nurses.
-use Rattle.rota_items.proofs.Common.Imports.{◌≡◌, ℕ, ◌-◌, ◌*◌, false, refl, ap, arith, ints, AllByRecursion-concat_below, AllByRecursion-singleton_if}
-use Rattle.rota_items.proofs.Common.Imports.{nurses_at, KeepsMinimum, Roster, cell, Problem, demand_cells, shortage, weighted_shortages, rules, max_number}
+use Rattle.rota_items.proofs.Common.Imports.{◌≡◌, ℕ, ◌-◌, false, refl, arith, ints, AllByRecursion-concat_below, AllByRecursion-singleton_if}
+use Rattle.rota_items.proofs.Common.Imports.{nurses_at, KeepsMinimum, Roster, cell, Problem, demand_cells, shortage, weighted_shortages, rules}
 use Rattle.rota_items.proofs.Common.Imports.{max_shifts, max_skills, S1, optimum_cost, optimum_weight, optimum_item, optimum_items, optimum_items_at}
-use Rattle.rota_items.proofs.AlikeRosters.{nurses-alike}
 use Rattle.rota_items.proofs.ItemLists.{none_of_nurses}
 use Rattle.rota_items.specs.RuleItems.{no_charge}
-use Rattle.rota_items.proofs.Lists.{few-concat_below, few-singleton_if, sum_by-singleton_if, sum_by-each-times, count_by-each, sum_below-same, sum_below-zero}
-use Rattle.rota_items.proofs.SoftRules.Sizes.{length-demand, sum-cells}
+use Rattle.rota_items.proofs.Lists.{few-concat_below, few-singleton_if, sum_by-singleton_if, sum_by-each-times, count_by-each}
+use Rattle.rota_rules.proofs.LogicWords.{sum_below-zero}
+use Rattle.rota_items.proofs.SoftRules.Sizes.{length-demand}
 use Rattle.rota_items.proofs.SoftRules.Sound.{IsItemSound, IsRuleSound, weighted}
 use Rattle.rota_items.proofs.SoundTerms.{sound-demand}
 use Rattle.rota_items.proofs.PatternItems.{value_of-sum, positive_part-parts}
@@ -47,10 +47,6 @@ module _ (problem : Problem) where
     charges = λ roster keeps.
         rw (none_of_nurses problem (optimum_items problem))
         (omega (arith, ints, weighted-optimum_items roster keeps, sum_below-zero problem.nurses (λ _. 0) (λ _ _. refl)));
-    alike = λ one other same.
-        ap (λ sum. optimum_weight * sum)
-        (sum_below-same 7 _ _ (λ d d_in. sum_below-same problem.shifts _ _ (λ s s_in. sum_below-same problem.skills _ _ (λ k k_in.
-        ap (λ count. (problem.demand d s k).optimal - count) (nurses-alike problem one other same d s k d_in s_in k_in)))));
     small = λ limits.
         rw (none_of_nurses problem (optimum_items problem))
         (few-concat_below 7 (omega arith) _ (λ d _. few-concat_below max_shifts limits.shifts _ (λ s _.
@@ -58,7 +54,4 @@ module _ (problem : Problem) where
         few-singleton_if _ (optimum_item problem d s k) (λ _.
         let small = limits.optimal d s k in let few = length-demand problem limits d s k in search rules)))));
     constant_small = λ limits n. omega arith;
-    cost_small = λ limits roster.
-        let missing = λ (d s k : ℕ). (problem.demand d s k).optimal - nurses_at problem roster d s k in
-        omega (arith, sum-cells problem limits max_number missing (λ d s k. omega (arith, limits.optimal d s k)));
   }

@@ -1,17 +1,16 @@
 -- The terms on cells charge the request rows that are not granted.
-use Rattle.rota_items.proofs.Common.Imports.{◌≡◌, ℕ, ◌+◌, ◌*◌, ◌<◌, ◌≤◌, Bool, true, false, cond, List, refl, ap, ◌∙◌, arith, pos, ◌+ℤ◌, ◌<ℤ◌}
+use Rattle.rota_items.proofs.Common.Imports.{◌≡◌, ℕ, ◌+◌, ◌<◌, ◌≤◌, Bool, true, false, cond, List, refl, ap, ◌∙◌, arith, pos, ◌+ℤ◌, ◌<ℤ◌}
 use Rattle.rota_items.proofs.Common.Imports.{◌≤ℤ◌, nat_lt, AllByRecursion, ltb-true, ints, AllByRecursion-concat_below}
 use Rattle.rota_items.proofs.Common.Imports.{AllByRecursion-singleton_if, singleton_if, Roster, InWeek, cell, Problem, Cell, Term, value_of}
 use Rattle.rota_items.proofs.Common.Imports.{IsWithinLimits, S4, max_weight, request_cost, request_weight, request_terms, request_terms_on, []}
-use Rattle.rota_items.proofs.Common.Imports.{◌∷◌, negsuc, nat_tests, sum_by, sum_by-cons, positive_part, max_cells, max_number, max_nurses}
+use Rattle.rota_items.proofs.Common.Imports.{◌∷◌, negsuc, nat_tests, sum_by, sum_by-cons, positive_part}
 use Rattle.rota_core.proofs.LogicWords.{rises-blocks, rises-singleton_if}
-use Rattle.rota_items.proofs.AlikeRosters.{same_cell}
 use Rattle.rota_items.proofs.ItemLists.{none-concat_below}
 use Rattle.rota_items.proofs.RisingCells.{at, day_start, in-cell, shift_start, within}
-use Rattle.rota_items.proofs.SoftRules.Sizes.{sum-cells}
 use Rattle.rota_items.proofs.SoftRules.Sound.{IsRuleSound}
 use Rattle.rota_items.specs.RuleItems.{no_charge}
-use Rattle.rota_items.proofs.Lists.{sum_below-same, all-weaker, sum_below-at_most, sum_below-zero, sum_by-each-times, sum_by-singleton_if}
+use Rattle.rota_rules.proofs.LogicWords.{sum_below-zero}
+use Rattle.rota_items.proofs.Lists.{all-weaker, sum_by-each-times, sum_by-singleton_if}
 use Rattle.rota_items.proofs.SoundTerms.{OnCoefficients}
 
 -- ---- the value of terms
@@ -78,23 +77,11 @@ module _ (problem : Problem) where
       sum_by-each-times (worth roster) problem.skills request_weight _ _ (λ k _.
       rw sum_by-singleton_if (grind (arith, nat_tests)))))))
 
-  pub request_cost-le : (limits : IsWithinLimits problem) (roster : Roster) → request_cost problem roster ≤ request_weight * (max_cells * max_number)
-  request_cost-le limits roster =
-      let of_nurse = λ (n : ℕ). sum-cells problem limits max_number (λ d s k. cond (roster (cell n d s k)) (problem.requests n d s) 0)
-      (λ d s k. grind (arith, limits.requests n d s)) in
-      omega (arith, sum_below-at_most problem.nurses max_nurses _ _ limits.nurses of_nurse)
-
   pub sound-shift_off_requests : IsRuleSound problem S4 (request_cost problem) (record no_charge { cell_terms = request_terms })
   sound-shift_off_requests = record {
     items = rw (← none-concat_below problem.nurses) tt;
     charges = λ roster keeps.
         rw (← none-concat_below problem.nurses) (omega (arith, ints, value_of-request_terms roster, sum_below-zero problem.nurses (λ _. 0) (λ _ _. refl)));
-    alike = λ one other same.
-        ap (λ sum. request_weight * sum)
-        (sum_below-same problem.nurses _ _ (λ n n_in. sum_below-same 7 _ _ (λ d d_in. sum_below-same problem.shifts _ _ (λ s s_in.
-        sum_below-same problem.skills _ _ (λ k k_in.
-        ap (λ (b : Bool). cond b (problem.requests n d s) 0) (same_cell problem one other same n d s k n_in d_in s_in k_in))))));
     small = λ limits. rw (← none-concat_below problem.nurses) (record { each = tt; few = omega arith });
     constant_small = λ limits n. omega arith;
-    cost_small = λ limits roster. omega (arith, request_cost-le limits roster);
   }

@@ -1,12 +1,12 @@
--- The size of items, sums of cells and costs in a week within the limits.
-use Rattle.rota_items.proofs.Common.Imports.{ℕ, ◌+◌, ◌*◌, ◌≤◌, Bool, List, [], ◌∷◌, length, arith, ints, mul-le, Problem, ℤ, pos, flat_map}
-use Rattle.rota_items.proofs.Common.Imports.{sum_below, count_by-le-length, sum_by-le-sum_by, Rule, Cell, Item, positive_part, Property, Runs}
+-- The size of items and of sums of cells in a week within the limits.
+use Rattle.rota_items.proofs.Common.Imports.{ℕ, ◌*◌, ◌≤◌, List, [], ◌∷◌, length, arith, ints, mul-le, Problem, ℤ, pos, flat_map}
+use Rattle.rota_items.proofs.Common.Imports.{Rule, Cell, Item, positive_part, Property, Runs}
 use Rattle.rota_items.proofs.Common.Imports.{Pattern, pattern_item, run_items, work_cells, IsWithinLimits, max_unit_weight, max_run_items}
 use Rattle.rota_items.proofs.Common.Imports.{max_weight, max_number, max_nurses, max_shifts, max_skills, length-append, length-map, day_terms}
 use Rattle.rota_items.proofs.Common.Imports.{variables_on, PatternDay, Term, times, nurse_cells, on_cells, demand_cells, max_terms}
-use Rattle.rota_items.proofs.Common.Imports.{max_cells_of_day, Span, is_over, missing_on, run_cost, run_over, run_under, week_days}
+use Rattle.rota_items.proofs.Common.Imports.{max_cells_of_day}
 use Rattle.rota_items.proofs.EachPattern.{each-run_item, run_counting}
-use Rattle.rota_items.proofs.Lists.{AreFew, length-at_most, sum_below-at_most}
+use Rattle.rota_items.proofs.Lists.{AreFew, length-at_most}
 use Rattle.rota_items.proofs.PatternItems.{positive_part-parts}
 
 -- an item with few slacks and terms, and with a small total weight of its slacks and of its degree
@@ -43,18 +43,9 @@ small-runs runs few light small = record {
   few = grind (arith, run_counting);
 }
 
--- ---- the cost of runs
-
--- on each day of the week at most one day too many, and at most the minimum missing
-pub run_cost-le : (has : ℕ → Bool) (history : ℕ) (limits : Span) → run_cost has history limits ≤ 7 * (1 + limits.min)
-unfolding run_over run_under
-run_cost-le has history limits =
-    let over = count_by-le-length (is_over has history limits.max) week_days in
-    omega (arith, sum_by-le-sum_by (missing_on has history limits.min) (λ _. limits.min) week_days (λ d. grind arith))
+-- ---- sums of cells
 
 module _ (problem : Problem) (limits : IsWithinLimits problem) where
-  -- ---- sums of cells
-
   pub length-on : (n s d : ℕ) → length (on_cells problem n s d) ≤ max_skills * 1
   length-on n s d = length-at_most {m = 1} max_skills limits.skills _ (λ k. omega arith)
 
@@ -70,11 +61,3 @@ module _ (problem : Problem) (limits : IsWithinLimits problem) where
   length-demand d s k =
       let few : length (demand_cells problem d s k) ≤ max_nurses * 1 = length-at_most {m = 1} max_nurses limits.nurses _ (λ n. omega arith) in
       omega (arith, length-map {B = Term Cell} (demand_cells problem d s k) (λ cell. (pos 1, cell)))
-
-  -- a number for each shift type and skill of each day
-  pub sum-cells : (m : ℕ) (f : ℕ → ℕ → ℕ → ℕ) → ((d s k : ℕ) → f d s k ≤ m) →
-      sum_below 7 (λ d. sum_below problem.shifts (λ s. sum_below problem.skills (f d s))) ≤ 7 * (max_shifts * (max_skills * m))
-  sum-cells m f small =
-      sum_below-at_most 7 7 _ _ (omega arith) (λ d.
-      sum_below-at_most problem.shifts max_shifts _ _ limits.shifts (λ s.
-      sum_below-at_most problem.skills max_skills m (f d s) limits.skills (small d s)))

@@ -2,13 +2,13 @@
 use Rattle.rota_items.proofs.Common.Imports.{◌≡◌, ℕ, ◌+◌, ◌*◌, ◌<◌, ◌≤◌, pos, AllByRecursion, arith, sum_below, concat_below}
 use Rattle.rota_items.proofs.Common.Imports.{KeepsCompetitionRules, KeepsOneCell, Roster, Problem, Rule, Cell, Item, shortage, weighted_shortages}
 use Rattle.rota_items.proofs.Common.Imports.{value_of, ints, ◌+ℤ◌, ◌++◌, List, max_nurses, AllByRecursion-concat_below, IsWithinLimits}
-use Rattle.rota_items.proofs.Common.Imports.{max_constant_of_nurse, max_cost, max_cost_of_nurse, max_items, max_items_of_nurse, max_slacks}
-use Rattle.rota_items.specs.AlikeRosters.{AreAlike}
+use Rattle.rota_items.proofs.Common.Imports.{max_constant_of_nurse, max_items, max_items_of_nurse, max_slacks}
 use Rattle.rota_items.specs.RuleItems.{Charge, no_charge}
 use Rattle.rota_items.specs.ModelCosts.{IsChargedOn}
 use Rattle.rota_items.proofs.SoundTerms.{AreSound}
 use Rattle.rota_items.proofs.SoftRules.Sizes.{IsItemSmall}
-use Rattle.rota_items.proofs.Lists.{AreFew, few-concat_below, sum_below-at_most, sum_by-each, sum_below-plus, sum_below-same}
+use Rattle.rota_items.proofs.Lists.{AreFew, few-concat_below, sum_by-each}
+use Rattle.rota_rules.proofs.LogicWords.{sum_below-plus, sum_below-same}
 
 -- ---- of an item
 
@@ -33,17 +33,15 @@ items_in problem charge = charge.day_items problem ++ concat_below problem.nurse
 abbrev pub constant_in : Problem → Charge → ℕ
 constant_in problem charge = sum_below problem.nurses (charge.nurse_constant problem)
 
--- The rule's items are sound. Their charge, with the rule's constant and its terms on cells, is the rule's cost. Rosters with the same
--- cells in the week cost the same. Within the limits all of these are small.
+-- The rule's items are sound. Their charge, with the rule's constant and its terms on cells, is the rule's cost. Within the limits
+-- all of these are small.
 pub record IsRuleSound (problem : Problem) (rule : Rule) (cost : Roster → ℕ) (charge : Charge) : Type 0 where
   pub items : AllByRecursion (IsItemSound problem rule) (items_in problem charge)
   pub charges : (roster : Roster) → IsChargedOn problem roster rule →
       pos (weighted_shortages roster (items_in problem charge) + constant_in problem charge) +ℤ value_of roster (charge.cell_terms problem) ≡
       pos (cost roster)
-  pub alike : (one other : Roster) → AreAlike problem one other → cost one ≡ cost other
   pub small : IsWithinLimits problem → AreFew (IsItemSmall (max_slacks rule)) (max_items rule) (items_in problem charge)
   pub constant_small : IsWithinLimits problem → (n : ℕ) → charge.nurse_constant problem n ≤ max_constant_of_nurse rule
-  pub cost_small : IsWithinLimits problem → (roster : Roster) → cost roster ≤ max_cost
 
 -- ---- of a rule that charges each nurse, and nothing else
 
@@ -56,10 +54,8 @@ pub record IsNurseRuleSound (problem : Problem) (rule : Rule) (cost : Roster →
   pub items : (n : ℕ) → n < problem.nurses → AllByRecursion (IsItemSound problem rule) (items_of problem n)
   pub charges : (roster : Roster) → KeepsOneCell problem roster → (n : ℕ) → n < problem.nurses →
       weighted_shortages roster (items_of problem n) + constant_of problem n ≡ cost roster n
-  pub alike : (one other : Roster) → AreAlike problem one other → (n : ℕ) → n < problem.nurses → cost one n ≡ cost other n
   pub small : IsWithinLimits problem → (n : ℕ) → AreFew (IsItemSmall (max_slacks rule)) (max_items_of_nurse rule) (items_of problem n)
   pub constant_small : IsWithinLimits problem → (n : ℕ) → constant_of problem n ≤ max_constant_of_nurse rule
-  pub cost_small : IsWithinLimits problem → (roster : Roster) (n : ℕ) → cost roster n ≤ max_cost_of_nurse
 
 module _ {problem : Problem} {rule : Rule} {cost : Roster → ℕ → ℕ} {items : Problem → ℕ → List (Item Cell)} {constant : Problem → ℕ → ℕ}
     (sound : IsNurseRuleSound problem rule cost items constant) where
@@ -72,9 +68,6 @@ module _ {problem : Problem} {rule : Rule} {cost : Roster → ℕ → ℕ} {item
         let parts = sum_below-plus problem.nurses (λ n. weighted_shortages roster (items problem n)) (constant problem) in
         let items = sum_by-each (weighted roster) problem.nurses (items problem) in
         omega (arith, ints, sum_below-same problem.nurses _ _ (sound.charges roster (one_cell roster keeps)));
-    alike = λ one other same. sum_below-same problem.nurses _ _ (sound.alike one other same);
     small = λ limits. rw maximum (few-concat_below max_nurses limits.nurses (items problem) (λ n _. sound.small limits n));
     constant_small = sound.constant_small;
-    cost_small = λ limits roster.
-        omega (arith, sum_below-at_most problem.nurses max_nurses _ (cost roster) limits.nurses (sound.cost_small limits roster));
   }

@@ -1,18 +1,18 @@
 -- The items of the totals and their constant charge the assignments outside the limits.
 use Rattle.rota_items.proofs.Common.Imports.{◌≡◌, ℕ, ◌+◌, ◌-◌, ◌*◌, ◌<◌, ◌≤◌, Bool, ◌&&◌, true, false, cond, refl, arith, ints, min, ℤ, pos}
 use Rattle.rota_items.proofs.Common.Imports.{negsuc, nat_lt, count_by, sum_by-append, AllByRecursion-append, AllByRecursion-singleton_if, inl}
-use Rattle.rota_items.proofs.Common.Imports.{inr, KeepsOneCell, Roster, Problem, nurse_cells, work_cells, shortage, times, IsUnit, cell, rules}
+use Rattle.rota_items.proofs.Common.Imports.{inr, KeepsOneCell, Roster, Problem, nurse_cells, work_cells, shortage, times, IsUnit, rules}
 use Rattle.rota_items.proofs.Common.Imports.{charged_excess, excess_before_counts, max_totals_count, AllByRecursion-concat_below, InWeek}
 use Rattle.rota_core.specs.declared.rule.Rule.TheVariants.{S6}
-use Rattle.rota_items.specs.rules.TotalAssignments.Cost.{assignment_cost_of, assignment_weight, assignments_of}
-use Rattle.rota_items.specs.rules.TotalAssignments.Items.{assignment_constant_of, max_total_item, max_totals_of, min_total_item}
-use Rattle.rota_items.specs.rules.TotalAssignments.Items.{min_totals_of, still_allowed, still_wanted, totals_of}
-use Rattle.rota_items.proofs.AlikeRosters.{count_below-alike, same_cell}
+use Rattle.rota_rules.specs.TotalAssignments.{assignment_cost_of, assignment_weight, assignments_of}
+use Rattle.rota_items.specs.rules.TotalAssignments.{assignment_constant_of, max_total_item, max_totals_of, min_total_item}
+use Rattle.rota_items.specs.rules.TotalAssignments.{min_totals_of, still_allowed, still_wanted, totals_of}
 use Rattle.rota_items.proofs.CellCounts.{work_count, one-work, count-work_cells}
 use Rattle.rota_items.proofs.SoundTerms.{sound-cells, AreSound, in-work_cells}
-use Rattle.rota_items.proofs.Lists.{few-append, few-singleton_if, sum_by-singleton_if, sum_by-each-is, sum_below-within, sum_below-same}
+use Rattle.rota_items.proofs.Lists.{few-append, few-singleton_if, sum_by-singleton_if, sum_by-each-is}
+use Rattle.rota_rules.proofs.LogicWords.{sum_below-within}
 use Rattle.rota_items.proofs.RisingCells.{rises-nurse_cells}
-use Rattle.rota_items.proofs.SoftRules.Sizes.{length-total, sum-cells}
+use Rattle.rota_items.proofs.SoftRules.Sizes.{length-total}
 use Rattle.rota_items.proofs.SoftRules.Sound.{IsItemSound, IsNurseRuleSound}
 use Rattle.rota_items.proofs.PatternItems.{value_of-sum, positive_part-parts}
 
@@ -92,17 +92,9 @@ module _ (problem : Problem) where
         (shortage-minimum roster n) in
         let above = max_charged problem (problem.contract n).total.max (problem.past n).assignments _ _ few (shortage-maximum roster n) in
         simp (sum_by-append, sum_by-singleton_if) (omega arith);
-    alike = λ one other same n n_in.
-        let now : assignments_of problem one n ≡ assignments_of problem other n =
-        sum_below-same 7 _ _ (λ d d_in. sum_below-same problem.shifts _ _ (λ s s_in.
-        count_below-alike problem.skills _ _ (λ k k_in. same_cell problem one other same n d s k n_in d_in s_in k_in))) in
-        rw now refl;
     small = λ limits n.
         few-append (omega arith)
         (few-singleton_if _ (min_total_item problem n) (λ _. let few = length-total problem limits (pos 1) n in search rules))
         (few-singleton_if _ (max_total_item problem n) (λ _. let few = length-total problem limits (negsuc 0) n in search rules));
     constant_small = λ limits n. grind (arith, limits.totals n, limits.assignments n);
-    cost_small = λ limits roster n.
-        let few = sum-cells problem limits 1 (λ d s k. cond (roster (cell n d s k)) 1 0) (λ d s k. grind arith) in
-        grind (arith, limits.totals n, limits.assignments n);
   }

@@ -4,11 +4,10 @@ use Rattle.rota_items.proofs.Common.Imports.{if◌then◌else◌, ◌&&◌, nat_
 use Rattle.rota_items.proofs.Common.Imports.{work_cells, Item, weighted_shortages, Present, pattern_item, Pattern, saturday, max_unit_weight}
 use Rattle.rota_items.proofs.Common.Imports.{IsWithinLimits, max_run_items, only_sunday, weekend_items, DaysFollow, max_totals_count}
 use Rattle.rota_core.specs.declared.rule.Rule.TheVariants.{S5, S7}
-use Rattle.rota_items.specs.rules.CompleteWeekends.Cost.{complete_weekend_cost_of, complete_weekend_weight}
-use Rattle.rota_items.specs.rules.WorkedWeekends.Cost.{worked_weekend_cost_of, worked_weekend_weight}
-use Rattle.rota_items.specs.rules.CompleteWeekends.Items.{complete_weekends_of}
-use Rattle.rota_items.specs.rules.WorkedWeekends.Items.{weekend_constant_of, worked_weekends_of}
-use Rattle.rota_items.proofs.AlikeRosters.{works-alike}
+use Rattle.rota_rules.specs.CompleteWeekends.{complete_weekend_cost_of, complete_weekend_weight}
+use Rattle.rota_rules.specs.WorkedWeekends.{worked_weekend_cost_of, worked_weekend_weight}
+use Rattle.rota_items.specs.rules.CompleteWeekends.{complete_weekends_of}
+use Rattle.rota_items.specs.rules.WorkedWeekends.{weekend_constant_of, worked_weekends_of}
 use Rattle.rota_items.proofs.CellCounts.{any-works}
 use Rattle.rota_items.proofs.DayLaw.{units_of}
 use Rattle.rota_items.proofs.SoftRules.NurseProperties.{of_nurse-work, sound-pattern, weighted-pattern}
@@ -64,11 +63,8 @@ module _ (problem : Problem) where
     items = λ n n_in. sound-items_where problem S5 complete_weekend_weight n true n_in (omega arith) (problem.contract n).complete;
     charges = λ roster one n n_in.
         grind (arith, weighted-items_where problem S5 complete_weekend_weight n true n_in roster one (problem.contract n).complete);
-    alike = λ one other same n n_in.
-        rw (works-alike problem one other same n 5 n_in (omega arith), works-alike problem one other same n 6 n_in (omega arith)) refl;
     small = λ limits n. small-weekend problem limits S5 complete_weekend_weight n true _ (omega arith);
     constant_small = λ limits n. omega arith;
-    cost_small = λ limits roster n. grind arith;
   }
 
   abbrev is_charged : ℕ → Bool
@@ -79,9 +75,6 @@ module _ (problem : Problem) where
     items = λ n n_in. sound-items_where problem S7 worked_weekend_weight n false n_in (omega arith) (is_charged n);
     charges = λ roster one n n_in.
         grind (arith, weighted-items_where problem S7 worked_weekend_weight n false n_in roster one (is_charged n));
-    alike = λ one other same n n_in.
-        rw (works-alike problem one other same n 5 n_in (omega arith), works-alike problem one other same n 6 n_in (omega arith)) refl;
     small = λ limits n. small-weekend problem limits S7 worked_weekend_weight n false _ (omega arith);
     constant_small = λ limits n. grind (arith, limits.weekends n);
-    cost_small = λ limits roster n. grind (arith, limits.weekends n);
   }

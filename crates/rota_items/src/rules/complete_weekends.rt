@@ -3,13 +3,13 @@
 ghost use Rattle.std.specs.Prelude.{◌<◌};
 ghost use Rattle.rota_core.specs.InstanceTables.{problem_of};
 ghost use Rattle.rota_items.specs.Takes.{TakesItems};
-ghost use Rattle.rota_items.specs.rules.CompleteWeekends.Items.{complete_weekends_of};
+ghost use Rattle.rota_items.specs.rules.CompleteWeekends.{complete_weekends_of};
 
 use crate::cell_sum::DayProperty;
 use crate::items::item_takers::ItemTaker;
 use crate::items::soft_item::RunCharge;
 use crate::rules::weekend_visits::visit_weekend;
-use crate::weights::COMPLETE_WEEKEND_WEIGHT;
+use rota_rules::COMPLETE_WEEKEND_WEIGHT;
 use rota_core::{Instance, Rule};
 
 /// Saturday without Sunday, and Sunday without Saturday, if the contract asks for complete weekends.

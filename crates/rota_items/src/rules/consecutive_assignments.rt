@@ -3,13 +3,13 @@ ghost use Rattle.std.specs.Prelude.{◌≡◌, ◌<◌};
 ghost use Rattle.rota_core.specs.InstanceTables.{problem_of};
 ghost use Rattle.rota_items.specs.Takes.{TakesItems};
 ghost use Rattle.rota_items.specs.SentItems.{IsChargeOf, runs_of};
-ghost use Rattle.rota_items.specs.rules.ConsecutiveAssignments.Items.{assignment_runs_of, shift_runs, work_runs};
-ghost use Rattle.rota_items.specs.rules.ConsecutiveAssignments.Cost.{history_on};
+ghost use Rattle.rota_items.specs.rules.ConsecutiveAssignments.{assignment_runs_of, shift_runs, work_runs};
+ghost use Rattle.rota_rules.specs.ConsecutiveAssignments.{history_on};
 
 use crate::cell_sum::DayProperty;
 use crate::items::run_takers::RunTaker;
 use crate::items::soft_item::{NurseRuns, RunCharge};
-use crate::weights::{SHIFT_RUN_WEIGHT, WORK_RUN_WEIGHT};
+use rota_rules::{SHIFT_RUN_WEIGHT, WORK_RUN_WEIGHT};
 use rota_core::{Instance, Rule};
 
 // The length of the run on the shift type that the days before Monday left.

@@ -3,12 +3,12 @@ ghost use Rattle.std.specs.Prelude.{◌<◌};
 ghost use Rattle.rota_core.specs.InstanceTables.{problem_of};
 ghost use Rattle.rota_items.specs.Takes.{TakesItems};
 ghost use Rattle.rota_items.specs.RunItems.{run_items};
-ghost use Rattle.rota_items.specs.rules.ConsecutiveDaysOff.Items.{off_runs};
+ghost use Rattle.rota_items.specs.rules.ConsecutiveDaysOff.{off_runs};
 
 use crate::cell_sum::DayProperty;
 use crate::items::run_takers::RunTaker;
 use crate::items::soft_item::{NurseRuns, RunCharge};
-use crate::weights::OFF_RUN_WEIGHT;
+use rota_rules::OFF_RUN_WEIGHT;
 use rota_core::{Instance, Rule};
 
 /// A nurse's runs of days off.

@@ -5,13 +5,13 @@ ghost use Rattle.rota_core.specs.Lists.{concat_below};
 ghost use Rattle.rota_items.specs.CellSums.{IsSumOf};
 ghost use Rattle.rota_items.specs.SentItems.{item_of};
 ghost use Rattle.rota_items.specs.Takes.{TakesItems};
-ghost use Rattle.rota_items.specs.rules.OptimalCoverage.Items.{optimum_item, optimum_items, optimum_items_at};
+ghost use Rattle.rota_items.specs.rules.OptimalCoverage.{optimum_item, optimum_items, optimum_items_at};
 
 use crate::cell_sum::CellSum;
 use crate::items::item_takers::ItemTaker;
 use crate::items::soft_item::SoftItem;
 use crate::rules::item_visits::emit_item_if;
-use crate::weights::OPTIMUM_WEIGHT;
+use rota_rules::OPTIMUM_WEIGHT;
 use rota_core::{DAYS, Instance, Rule};
 
 // The item of a day's shift type and skill: each nurse missing below the optimal number.

@@ -5,13 +5,13 @@ ghost use Rattle.rota_core.specs.InstanceTables.{problem_of};
 ghost use Rattle.rota_core.specs.Lists.{concat_below};
 ghost use Rattle.rota_items.specs.CellEvents.{cell_term_events};
 ghost use Rattle.rota_items.specs.Takes.{Takes};
-ghost use Rattle.rota_items.specs.rules.ShiftOffRequests.Cost.{request_weight};
-ghost use Rattle.rota_items.specs.rules.ShiftOffRequests.Terms.{request_terms, request_terms_on};
+ghost use Rattle.rota_rules.specs.ShiftOffRequests.{request_weight};
+ghost use Rattle.rota_items.specs.rules.ShiftOffRequests.{request_terms, request_terms_on};
 
 use crate::sums::emit_range;
 use crate::takers::Taker;
 use crate::variables::first_var_on;
-use crate::weights::REQUEST_WEIGHT;
+use rota_rules::REQUEST_WEIGHT;
 use rota_core::{DAYS, Instance};
 
 // The cost of a cell that this number of request rows match.

@@ -5,8 +5,8 @@ ghost use Rattle.rota_items.specs.CountedItems.{max_totals_count};
 ghost use Rattle.rota_items.specs.Takes.{TakesItems};
 ghost use Rattle.rota_items.specs.CellSums.{IsSumOf};
 ghost use Rattle.rota_items.specs.SentItems.{item_of};
-ghost use Rattle.rota_items.specs.rules.TotalAssignments.Items.{assignment_constant_of, assignments_above, max_total_item, min_total_item};
-ghost use Rattle.rota_items.specs.rules.TotalAssignments.Items.{still_allowed, still_wanted, totals_of, wanted_beyond_days};
+ghost use Rattle.rota_items.specs.rules.TotalAssignments.{assignment_constant_of, assignments_above, max_total_item, min_total_item};
+ghost use Rattle.rota_items.specs.rules.TotalAssignments.{still_allowed, still_wanted, totals_of, wanted_beyond_days};
 
 use crate::cell_sum::CellSum;
 use crate::items::item_takers::ItemTaker;
@@ -14,7 +14,7 @@ use crate::items::soft_item::SoftItem;
 use crate::rules::counted_totals::{excess_before_counts, max_totals_count};
 use crate::rules::item_visits::emit_item_if;
 use crate::sums::Sign;
-use crate::weights::ASSIGNMENT_WEIGHT;
+use rota_rules::ASSIGNMENT_WEIGHT;
 use rota_core::{DAYS, Instance, Rule};
 
 // The number of assignments that the nurse still needs for her minimum total.

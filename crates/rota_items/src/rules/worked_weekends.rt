@@ -3,14 +3,14 @@ ghost use Rattle.std.specs.Prelude.{◌≡◌, ◌<◌, ◌&&◌, nat_le};
 ghost use Rattle.rota_core.specs.InstanceTables.{problem_of};
 ghost use Rattle.rota_items.specs.CountedItems.{max_totals_count};
 ghost use Rattle.rota_items.specs.Takes.{TakesItems};
-ghost use Rattle.rota_items.specs.rules.WorkedWeekends.Items.{weekend_constant_of, weekends_above, worked_weekends_of};
+ghost use Rattle.rota_items.specs.rules.WorkedWeekends.{weekend_constant_of, weekends_above, worked_weekends_of};
 
 use crate::cell_sum::DayProperty;
 use crate::items::item_takers::ItemTaker;
 use crate::items::soft_item::RunCharge;
 use crate::rules::counted_totals::{excess_before_counts, max_totals_count};
 use crate::rules::weekend_visits::visit_weekend;
-use crate::weights::WORKED_WEEKEND_WEIGHT;
+use rota_rules::WORKED_WEEKEND_WEIGHT;
 use rota_core::{Instance, Rule};
 
 // Whether a weekend that the nurse works now is charged: the number of weekends before is at least the

@@ -3,7 +3,7 @@ use Rattle.std.proofs.lemmas.List.Sums.{sum_by-cons}
 use Rattle.rota_core.specs.HardRules.{KeepsHardRules}
 use Rattle.rota_core.specs.Problem.{Problem}
 use Rattle.rota_core.specs.Roster.{Roster}
-use Rattle.rota_items.specs.Penalty.{penalty}
+use Rattle.rota_rules.specs.Penalty.{penalty}
 use Rattle.rota_certificate.specs.Optimality.{AreOptimal, KeepAndMeet}
 use Rattle.rota_certificate.specs.Plans.{PlannedWeek, plan_after, plan_cost, plan_of}
 use Rattle.rota_bound_run.specs.Claims.{Holds}

@@ -1,5 +1,5 @@
 use Rattle.std.proofs.Common.{◌≡◌, ◌*◌, ◌∙◌, ap, sym, mul_assoc}
-use Rattle.rota_items.specs.rules.OptimalCoverage.Cost.{optimum_weight}
+use Rattle.rota_rules.specs.OptimalCoverage.{optimum_weight}
 use Rattle.rota_certificate.proofs.places.missing_cost.Goals as goal
 
 pub returns-clause-cost : goal.returns-clause-cost

@@ -1,8 +1,8 @@
 use Rattle.std.proofs.Common.{◌≡◌, rules}
 use Rattle.std.specs.Prelude.{sum}
 use Rattle.rota_core.specs.InstanceTables.{problem_of}
-use Rattle.rota_items.specs.Verdicts.{IsMet}
-use Rattle.rota_items.specs.Truths.{truth_of}
+use Rattle.rota_judge.specs.Verdicts.{IsMet}
+use Rattle.rota_judge.specs.Truths.{truth_of}
 use Rattle.rota_pb.specs.Decoded.{FindsRoster}
 use Rattle.rota_pb.proofs.DecodedAnswer.{is_decoded}
 use Rattle.rota_pb.proofs.decoded.decode.Goals as goal

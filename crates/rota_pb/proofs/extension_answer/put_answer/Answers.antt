@@ -1,7 +1,7 @@
 use Rattle.std.proofs.Common.{ℕ, ◌++◌, sym, ap, ◌∙◌}
 use Rattle.rota_core.specs.InstanceTables.{problem_of}
 use Rattle.rota_core.specs.RosterTables.{set_of}
-use Rattle.rota_items.specs.ExtensionTruths.{extension_truths}
+use Rattle.rota_judge.specs.ExtensionTruths.{extension_truths}
 use Rattle.text_sink.proofs.LogicWords.{finish_exit, puts_finish, puts_same, puts_stop, puts_then}
 use Rattle.solver_text.specs.AnswerText.{answer_head}
 use Rattle.solver_text.specs.AnswerWriter.{end_text, literals_text}

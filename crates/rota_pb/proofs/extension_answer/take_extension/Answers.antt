@@ -2,7 +2,7 @@ use Rattle.std.proofs.Common.{◌≡◌, ℕ, ◌+◌, ◌^◌, ◌<◌, length,
 use Rattle.std.proofs.lemmas.Result.{MatchResult-weaker}
 use Rattle.rota_core.specs.InstanceTables.{problem_of}
 use Rattle.rota_core.specs.RosterTables.{set_of}
-use Rattle.rota_items.specs.ExtensionTruths.{extension_truths}
+use Rattle.rota_judge.specs.ExtensionTruths.{extension_truths}
 use Rattle.text_sink.proofs.LogicWords.{puts_same}
 use Rattle.opb_text.proofs.TakenEvents.{events_put_text, took_events_keep}
 use Rattle.solver_text.specs.AnswerWriter.{literals_text, writer_sink}

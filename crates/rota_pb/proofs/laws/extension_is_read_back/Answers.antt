@@ -1,7 +1,7 @@
 use Rattle.std.proofs.Common.{ℕ, sym, ap, ◌∙◌, arith}
 use Rattle.rota_core.specs.InstanceTables.{problem_of}
-use Rattle.rota_items.specs.ExtensionTruths.{extension_truths}
-use Rattle.rota_items.specs.Penalty.{penalty}
+use Rattle.rota_judge.specs.ExtensionTruths.{extension_truths}
+use Rattle.rota_rules.specs.Penalty.{penalty}
 use Rattle.solver_text.specs.Answers.{outcome}
 use Rattle.rota_pb.specs.Extending.{extension_answer, extension_text}
 use Rattle.rota_pb.proofs.laws.extension_is_read_back.Goals as goal

@@ -6,8 +6,9 @@ use Rattle.rota_core.specs.Roster.{Roster}
 use Rattle.rota_core.specs.Problem.{Problem}
 use Rattle.rota_items.specs.Linear.{Constraint}
 use Rattle.rota_items.specs.Rows.{linear_constraint}
-use Rattle.rota_items.specs.ItemConstraints.{item_constraints}
-use Rattle.rota_items.specs.WeekModel.{first_slack, extension_of, model_of, hard_constraints, hard_rows, numbered_items, item_rows}
+use Rattle.rota_judge.specs.ItemConstraints.{item_constraints}
+use Rattle.rota_items.specs.WeekModel.{first_slack, model_of, hard_constraints, hard_rows, numbered_items, item_rows}
+use Rattle.rota_judge.specs.Extensions.{extension_of}
 use Rattle.opb_text.specs.ModelText.{opb_text}
 use Rattle.rota_pb.specs.Meaning.{IsExtension}
 use Rattle.rota_pb.proofs.model_text.model_text_means_the_rules.Goals as goal

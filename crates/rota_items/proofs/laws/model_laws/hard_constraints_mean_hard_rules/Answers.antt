@@ -1,5 +1,0 @@
-use Rattle.rota_items.proofs.ModelMeaning.{hard_constraints-mean}
-use Rattle.rota_items.proofs.laws.model_laws.hard_constraints_mean_hard_rules.Goals as goal
-
-pub returns : goal.returns
-returns c = hard_constraints-mean

@@ -1,6 +1,0 @@
-use Rattle.rota_items.proofs.Common.Imports.{All-from_recursion, objective_terms}
-use Rattle.rota_items.proofs.ObjectiveBound.{coefficients-positive}
-use Rattle.rota_items.proofs.laws.size_laws.objective_coefficients_are_positive.Goals as goal
-
-pub returns : goal.returns
-returns c = λ week. All-from_recursion _ (objective_terms week) (coefficients-positive week)

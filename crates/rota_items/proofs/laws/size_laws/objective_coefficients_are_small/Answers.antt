@@ -1,5 +1,0 @@
-use Rattle.rota_items.proofs.ObjectiveBound.{objective-small}
-use Rattle.rota_items.proofs.laws.size_laws.objective_coefficients_are_small.Goals as goal
-
-pub returns : goal.returns
-returns c = objective-small

@@ -1,0 +1,14 @@
+pub mod ExtensionTruths
+pub mod Extensions
+pub mod FirstUnmet
+pub mod Imports
+pub mod ItemConstraints
+pub mod JudgeState
+pub mod JudgeSubject
+pub mod LiteralTakes
+pub mod Occurrence
+pub mod RisingTerms
+pub mod SlackValues
+pub mod Truths
+pub mod Verdicts
+pub mod WorkedWeeks

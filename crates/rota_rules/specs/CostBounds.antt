@@ -1,0 +1,35 @@
+-- Bounds for the costs of a week, which follow from the limits of its tables and from the rules' weights.
+use Rattle.std.specs.Prelude.{ℕ, ◌*◌, ◌^◌, max}
+use Rattle.rota_core.specs.Limits.{max_nurses, max_shifts, max_skills}
+use Rattle.rota_core.specs.Sizes.{DAYS}
+use Rattle.rota_rules.specs.CompleteWeekends.{complete_weekend_weight}
+use Rattle.rota_rules.specs.ConsecutiveAssignments.{shift_run_weight, work_run_weight}
+use Rattle.rota_rules.specs.ConsecutiveDaysOff.{off_run_weight}
+use Rattle.rota_rules.specs.OptimalCoverage.{optimum_weight}
+use Rattle.rota_rules.specs.ShiftOffRequests.{request_weight}
+use Rattle.rota_rules.specs.TotalAssignments.{assignment_weight}
+use Rattle.rota_rules.specs.WorkedWeekends.{worked_weekend_weight}
+
+-- ---- cells
+
+-- the maximum number of cells of a day and nurse, of a nurse, and of a week
+abbrev pub max_cells_of_day : ℕ
+max_cells_of_day = max_shifts * max_skills
+
+abbrev pub max_cells_of_nurse : ℕ
+max_cells_of_nurse = DAYS * max_cells_of_day
+
+abbrev pub max_cells : ℕ
+max_cells = max_nurses * max_cells_of_nurse
+
+-- ---- weights and costs
+
+-- the maximum weight of a unit of a cost
+abbrev pub max_unit_weight : ℕ
+max_unit_weight =
+    max request_weight (max optimum_weight (max shift_run_weight (max work_run_weight (max off_run_weight
+    (max complete_weekend_weight (max assignment_weight worked_weekend_weight))))))
+
+-- a number of 17 digits, above each penalty
+abbrev pub penalty_limit : ℕ
+penalty_limit = 2 ^ 55

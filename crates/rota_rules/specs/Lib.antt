@@ -1,0 +1,17 @@
+pub mod AlikeRosters
+pub mod CompleteWeekends
+pub mod ConsecutiveAssignments
+pub mod ConsecutiveDaysOff
+pub mod CostBounds
+pub mod CountedTotals
+pub mod EarlyWeeks
+pub mod Imports
+pub mod OptimalCoverage
+pub mod Penalty
+pub mod Runs
+pub mod ShiftOffRequests
+pub mod Successions
+pub mod TotalAssignments
+pub mod WithinLimits
+pub mod WorkedWeekends
+pub mod WorkedWeeks
