@@ -12,9 +12,9 @@ ghost use Rattle.rota_bound_run.specs.PeriodSteps.{EndsAs};
 use crate::pasts::{are_pasts, pasts_after};
 use byte_ports::Source;
 use rota_core::{FileFault, FileName, Instance, Kind, Past, Roster};
-use rota_rules::laws::{instances_are_within_limits, penalty_is_small};
 use rota_judge::{Judge, verdict_of};
 use rota_pb::{Fault, read_roster};
+use rota_rules::laws::{instances_are_within_limits, penalty_is_small};
 use std::alloc::Global;
 
 /// A roster of a week that keeps its hard rules, its penalty, and the pasts of the nurses after the week.

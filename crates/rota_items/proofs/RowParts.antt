@@ -40,6 +40,6 @@ module _ (problem : Problem) where
   constraints-rows = (
     (λ same. cc),
     AllByRecursion-append IsConstraint _ _
-    (all-map IsConstraint (numbered_row problem) (rule_rows problem) (all-flat_map IsConstraint (rows_of_hard_rule problem) hard_rules constraints-of))
-    (constraints-items (first_slack problem) (numbered_items problem)),
+        (all-map IsConstraint (numbered_row problem) (rule_rows problem) (all-flat_map IsConstraint (rows_of_hard_rule problem) hard_rules constraints-of))
+        (constraints-items (first_slack problem) (numbered_items problem)),
   )

@@ -33,11 +33,7 @@ pub use run_laws::{
     day_items_charge_day_cost, run_items_charge_a_nurses_runs, run_items_charge_run_cost,
 };
 pub use size_laws::{
-    constraint_coefficients_are_units, constraints_are_few,
-        objective_coefficients_are_positive, objective_coefficients_are_small,
-    objective_is_not_negative, variables_are_few,
+    constraint_coefficients_are_units, constraints_are_few, objective_coefficients_are_positive,
+    objective_coefficients_are_small, objective_is_not_negative, variables_are_few,
 };
-pub use worked_weeks::{
-    worked_runs_have_their_patterns,
-    worked_weeks_have_their_models,
-};
+pub use worked_weeks::{worked_runs_have_their_patterns, worked_weeks_have_their_models};

@@ -11,8 +11,8 @@ ghost use Rattle.rota_pb.specs.Extending.{extension_answer};
 use byte_ports::{PortFault, Target};
 use rota_core::{Instance, Roster};
 use rota_judge::laws::{extension_truths_are_those_of_the_variables, variables_are_few};
-use rota_rules::laws::instances_are_within_limits;
 use rota_judge::{LiteralTaker, drive_extension};
+use rota_rules::laws::instances_are_within_limits;
 use solver_text::AnswerWriter;
 use solver_text::laws::calls_write_the_answer;
 

@@ -13,7 +13,6 @@ mod early_totals;
 
 // The laws of the costs.
 pub mod laws;
-
 mod weights;
 
 pub use early_totals::early_excess;

@@ -9,8 +9,8 @@ use crate::cell_sum::DayProperty;
 use crate::items::item_takers::ItemTaker;
 use crate::items::soft_item::RunCharge;
 use crate::rules::weekend_visits::visit_weekend;
-use rota_rules::COMPLETE_WEEKEND_WEIGHT;
 use rota_core::{Instance, Rule};
+use rota_rules::COMPLETE_WEEKEND_WEIGHT;
 
 /// Saturday without Sunday, and Sunday without Saturday, if the contract asks for complete weekends.
 #[tactic(auto, using(crate::proofs::Taking::taking), unfolding(crate::specs::SentItems::numbered_list))]

@@ -9,8 +9,8 @@ ghost use Rattle.rota_rules.specs.ConsecutiveAssignments.{history_on};
 use crate::cell_sum::DayProperty;
 use crate::items::run_takers::RunTaker;
 use crate::items::soft_item::{NurseRuns, RunCharge};
-use rota_rules::{SHIFT_RUN_WEIGHT, WORK_RUN_WEIGHT};
 use rota_core::{Instance, Rule};
+use rota_rules::{SHIFT_RUN_WEIGHT, WORK_RUN_WEIGHT};
 
 // The length of the run on the shift type that the days before Monday left.
 fn history_on(instance: &Instance, nurse: u16, shift: u8) -> u16

@@ -8,8 +8,8 @@ ghost use Rattle.rota_items.specs.rules.ConsecutiveDaysOff.{off_runs};
 use crate::cell_sum::DayProperty;
 use crate::items::run_takers::RunTaker;
 use crate::items::soft_item::{NurseRuns, RunCharge};
-use rota_rules::OFF_RUN_WEIGHT;
 use rota_core::{Instance, Rule};
+use rota_rules::OFF_RUN_WEIGHT;
 
 /// A nurse's runs of days off.
 pub fn visit<T: RunTaker>(instance: &Instance, taker: &mut T, nurse: u16) -> Result<(), T::Fault>

@@ -11,8 +11,8 @@ use crate::cell_sum::CellSum;
 use crate::items::item_takers::ItemTaker;
 use crate::items::soft_item::SoftItem;
 use crate::rules::item_visits::emit_item_if;
-use rota_rules::OPTIMUM_WEIGHT;
 use rota_core::{DAYS, Instance, Rule};
+use rota_rules::OPTIMUM_WEIGHT;
 
 // The item of a day's shift type and skill: each nurse missing below the optimal number.
 fn optimum_item(instance: &Instance, day: u8, shift: u8, skill: u8) -> SoftItem

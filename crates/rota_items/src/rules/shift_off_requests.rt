@@ -11,8 +11,8 @@ ghost use Rattle.rota_items.specs.rules.ShiftOffRequests.{request_terms, request
 use crate::sums::emit_range;
 use crate::takers::Taker;
 use crate::variables::first_var_on;
-use rota_rules::REQUEST_WEIGHT;
 use rota_core::{DAYS, Instance};
+use rota_rules::REQUEST_WEIGHT;
 
 // The cost of a cell that this number of request rows match.
 fn weight_of(requests: u16) -> u32

@@ -14,8 +14,8 @@ use crate::items::soft_item::SoftItem;
 use crate::rules::counted_totals::{excess_before_counts, max_totals_count};
 use crate::rules::item_visits::emit_item_if;
 use crate::sums::Sign;
-use rota_rules::ASSIGNMENT_WEIGHT;
 use rota_core::{DAYS, Instance, Rule};
+use rota_rules::ASSIGNMENT_WEIGHT;
 
 // The number of assignments that the nurse still needs for her minimum total.
 fn still_wanted(instance: &Instance, nurse: u16) -> u16

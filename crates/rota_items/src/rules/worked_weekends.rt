@@ -10,8 +10,8 @@ use crate::items::item_takers::ItemTaker;
 use crate::items::soft_item::RunCharge;
 use crate::rules::counted_totals::{excess_before_counts, max_totals_count};
 use crate::rules::weekend_visits::visit_weekend;
-use rota_rules::WORKED_WEEKEND_WEIGHT;
 use rota_core::{Instance, Rule};
+use rota_rules::WORKED_WEEKEND_WEIGHT;
 
 // Whether a weekend that the nurse works now is charged: the number of weekends before is at least the
 // maximum of her contract.

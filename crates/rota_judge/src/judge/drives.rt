@@ -8,10 +8,10 @@ ghost use Rattle.rota_items.specs.Objective.{objective_rows};
 ghost use Rattle.rota_judge.specs.Verdicts.{Judges, JudgesTheRules};
 ghost use Rattle.rota_items.specs.WeekModel.{objective_terms, rows_of};
 
-use rota_items::{drive_constraints, drive_objective};
 use crate::judge::taker::Judge;
 use crate::judge::verdicts::Verdict;
 use rota_core::Instance;
+use rota_items::{drive_constraints, drive_objective};
 use std::convert::Infallible;
 
 /// Sends the model of its instance to a judge that has taken nothing, and returns its verdict. See

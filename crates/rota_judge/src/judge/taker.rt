@@ -9,11 +9,11 @@ ghost use Rattle.rota_items.specs.RuleItems.{constant};
 ghost use Rattle.rota_judge.specs.Verdicts.{Judges, JudgesTheRules};
 ghost use Rattle.rota_items.specs.WeekModel.{model_of};
 
-use rota_items::{Part, Taker, constant, constant_of_rule, counts, unit_var};
 use crate::judge::subjects::Subject;
 use crate::judge::tallies::{RowSums, Tally, charge};
 use crate::judge::verdicts::Verdict;
 use rota_core::{Bits, Instance, Roster, Rule, SOFT_RULES};
+use rota_items::{Part, Taker, constant, constant_of_rule, counts, unit_var};
 use std::convert::Infallible;
 use std::marker::Model;
 

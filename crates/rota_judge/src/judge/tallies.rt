@@ -8,8 +8,8 @@ ghost use Rattle.rota_judge.specs.Verdicts.{soft_index};
 ghost use Rattle.rota_items.specs.MachineBounds.{signed_limit};
 
 use crate::judge::subjects::Subject;
-use rota_items::Part;
 use rota_core::{Rule, SOFT_RULES};
+use rota_items::Part;
 
 /// The sums of the terms of a row that count: the sum of its slacks, and the sum of the other terms.
 #[derive(Clone, Copy, PartialEq, Eq, Debug)]

@@ -7,10 +7,12 @@ ghost use Rattle.rota_items.specs.CellSums.{IsSumOf};
 ghost use Rattle.rota_judge.specs.LiteralTakes.{TakesLiterals};
 ghost use Rattle.rota_judge.specs.SlackValues.{first_true, slack_truths, with_terms_of};
 
-use rota_items::{ItemTaker, NurseRuns, Part, RunTaker, SoftItem, Taker, emit_sum, visit_runs, visit_soft_items};
 use crate::judge::Judge;
 use crate::literals::literal_takers::LiteralTaker;
 use rota_core::{Instance, Roster};
+use rota_items::{
+    ItemTaker, NurseRuns, Part, RunTaker, SoftItem, Taker, emit_sum, visit_runs, visit_soft_items,
+};
 use std::convert::Infallible;
 
 // The literals of `count` variables. The first `maximum` are true, or all if `maximum` is larger.
