@@ -18,7 +18,7 @@ HEAD = '| law | statement |\n|---|---|\n'
 
 # The laws of these files are on the page: the meaning of the model, of the rules' charges and of a lower bound. Those that serve
 # others are not: the order and number of terms and variables, and sizes.
-ON_THE_PAGE = ('rota_items/src/laws/model_laws.rt', 'rota_items/src/laws/rule_laws.rt', 'rota_certificate/src/laws.rt',
+ON_THE_PAGE = ('rota_judge/src/laws/model_laws.rt', 'rota_judge/src/laws/rule_laws.rt', 'rota_certificate/src/laws.rt',
                'rota_bound_run/src/laws.rt')
 NOT_ON_THE_PAGE = (
     'extension_fails_first_at_first_broken_rule', 'constraints_have_rising_terms', 'objective_has_rising_terms', 'objective_is_small',
