@@ -1,4 +1,4 @@
--- The pair of a shift type and a skill in a row of days, as the contract of a private function sees it.
+-- The pair of a shift type and a skill in a row of days.
 use Rattle.rota_layout.specs.Layout.{ℕ, List, Option, length, Layout, end, ◌>>=◌, known_name, has_row}
 use Rattle.rota_layout.specs.DayRows.{pair_index}
 

@@ -1,4 +1,4 @@
--- The fault of a text, with the name of the file, as the contract of a private function sees it.
+-- The reason why reading stopped, with the name of the file.
 use Rattle.rota_core.specs.declared.fault.FileName.{FileName}
 use Rattle.rota_core.specs.declared.fault.FileFault.{FileFault}
 use Rattle.rota_core.specs.declared.fault.FileFault.TheVariants as errors

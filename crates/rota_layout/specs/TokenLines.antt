@@ -1,4 +1,4 @@
--- The tokens of the rest of a file, as the contracts of private functions see them.
+-- The tokens of the rest of a file, as a cursor shows them.
 use Rattle.std.specs.Prelude.{ℕ, List, []}
 use Rattle.rota_layout.specs.Tokens.{Token, tokens_after}
 
