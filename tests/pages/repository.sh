@@ -57,7 +57,8 @@ kit_is_named() {
 examples_are_tests() {
     local crate example test
     begins_case "the libraries' examples"
-    for crate in rota_core rota_read rota_items text_sink opb_text solver_text rota_pb; do
+    for crate in byte_ports rota_core rota_rules rota_items rota_judge rota_layout rota_read rota_certificate_read text_sink opb_text \
+        solver_text rota_pb; do
         example=$(awk '/^\/\/! ```$/ { inside = !inside; next } inside { sub(/^\/\/! /, "    "); print }' "crates/$crate/src/lib.rt")
         test=$(sed -n "/^fn example_of_$crate(/,/^}/p" crates/*_tests/src/examples.rt)
         [ -n "$example" ] || complain "crates/$crate/src/lib.rt opens with no example"

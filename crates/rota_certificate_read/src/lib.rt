@@ -4,9 +4,9 @@
 //! Reads a fact for plans of one week, and detects a file that ends too early:
 //!
 //! ```
-//! let given = read_facts(alloc, scenario, 1, b"FACTS s1\nROWS = 1\nHOLDS EVEN\n")?;
+//! let given = read_facts(alloc, &scenario, 1, b"FACTS s1\nROWS = 1\nHOLDS EVEN\n")?;
 //! assert_eq!(rt; given.conditions.len(), 1);
-//! if let Err(fault) = read_certificate(alloc, scenario, 1, b"CERTIFICATE s1\n") {
+//! if let Err(fault) = read_certificate(alloc, &scenario, 1, b"CERTIFICATE s1\n") {
 //!     let line = format!(in alloc; "{fault}")?;
 //!     assert_eq!(rt; line.as_str(), "certificate line 1: end of file");
 //! }
