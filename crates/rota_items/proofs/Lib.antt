@@ -1,24 +1,23 @@
-mod CellCounts
+pub mod CellCounts
 mod Common
 mod DayLaw
 mod DayPatterns
 mod DayTerms
 mod EachPattern
 mod ItemCounting
-pub mod ItemLemmas
 mod ItemLists
 mod ItemRows
-mod Lists
-mod ListsAre
+pub mod Lists
+pub mod ListsAre
 mod LoopSteps
 mod ObjectiveTaking
-mod PatternItems
-mod RisingCells
+pub mod PatternItems
+pub mod RisingCells
 mod RowParts
 mod RowTaking
-mod RuleSizes
-mod RunLaw
-mod SlackBound
-mod SoftRules
-mod SoundTerms
-mod Taking
+pub mod RuleSizes
+pub mod RunLaw
+pub mod SlackBound
+pub mod SoftRules
+pub mod SoundTerms
+pub mod Taking

@@ -1,6 +1,5 @@
-mod AlikeCosts
-pub mod CostLemmas
+pub mod AlikeCosts
 mod EarlyCharges
-mod InstanceLimits
+pub mod InstanceLimits
 pub mod LogicWords
-mod SmallCosts
+pub mod SmallCosts
