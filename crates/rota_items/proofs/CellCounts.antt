@@ -3,7 +3,7 @@ use Rattle.rota_items.proofs.Common.Imports.{◌≡◌, ℕ, ◌+◌, ◌<◌, �
 use Rattle.rota_items.proofs.Common.Imports.{list_any, cases_Bool, true≢false, or-false, false_from_ne_true, sum_by-cons, AllByRecursion, sum_below}
 use Rattle.rota_items.proofs.Common.Imports.{count_below, KeepsOneCell, is_on, works, Roster, cell, InWeek, Problem, Cell, cell_number, on_cells, work_cells}
 use Rattle.rota_core.specs.RisingLists.{RisesWithin}
-use Rattle.rota_items.proofs.Lists.{all-both, all-weaker, sum_by-each-is, count_by-each, list_any-each}
+use Rattle.rota_items.proofs.LogicWords.{all-both, all-weaker, sum_by-each-is, count_by-each, list_any-each}
 use Rattle.rota_rules.proofs.LogicWords.{any_below-same}
 use Rattle.rota_items.proofs.RisingCells.{in-cell, on-are, rises-between, rises-on_cells, rises-work_cells, work-are}
 

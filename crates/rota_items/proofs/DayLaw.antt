@@ -3,7 +3,7 @@ use Rattle.rota_items.proofs.Common.Imports.{◌≡◌, ℕ, zero, suc, ◌+◌,
 use Rattle.rota_items.proofs.Common.Imports.{refl, map, ap, arith, add-one, ltb, leb, nat_lt, nat_le, list_all, range_with_len, sum_by, list_all-append}
 use Rattle.rota_items.proofs.Common.Imports.{sum_by-append, nat_tests, concat_below, Span, PatternDay, Pattern, with_property, without_property}
 use Rattle.rota_items.proofs.Common.Imports.{days_with, windows_on, closed_patterns_at, patterns_on, run_length, is_over, missing_on}
-use Rattle.rota_items.proofs.Lists.{sum_by-singleton_if}
+use Rattle.rota_items.proofs.LogicWords.{sum_by-singleton_if}
 
 -- whether the day matches the pattern
 abbrev pub agrees : Bool → Bool → Bool

@@ -5,7 +5,7 @@ use Rattle.rota_items.proofs.Common.Imports.{AllByRecursion-append, AllByRecursi
 use Rattle.rota_items.proofs.Common.Imports.{length-singleton_if, concat_below, Item, Span, PatternDay, Pattern, with_property, without_property, window}
 use Rattle.rota_items.proofs.Common.Imports.{windows_on, windows, closed_pattern, closed_patterns_at, closed_patterns_on, edge_pattern, edge_patterns_on}
 use Rattle.rota_items.proofs.Common.Imports.{patterns_on, patterns, map-id, map-map, ◌∙◌, DaysFollow, Runs, pattern_item, run_items, max_run_items}
-use Rattle.rota_items.proofs.Lists.{length-each_below_both, all-back, all-map, all-weaker}
+use Rattle.rota_items.proofs.LogicWords.{length-each_below_both, all-back, all-map, all-weaker}
 
 -- ---- the days
 

@@ -4,8 +4,7 @@ use Rattle.rota_items.proofs.Common.Imports.{InstanceTables, IsInstance, problem
 use Rattle.rota_items.proofs.Common.Imports.{Runs, pattern_item, run_items, patterns, windows, word_limit, numbered_list, ItemNumbers, sum_within, with_one}
 use Rattle.rota_rules.proofs.InstanceLimits.{instance-within_limits}
 use Rattle.rota_items.proofs.ItemLists.{have_one-runs, one_slack-each}
-use Rattle.rota_items.proofs.SlackBound.{items-few, variables_fit}
-use Rattle.rota_items.proofs.Lists.{slack_count-cons}
+use Rattle.rota_items.proofs.SlackBound.{items-few, variables_fit, slack_count-cons}
 
 same_numbers : (a b m n : ℕ) → a ≡ b → m ≡ n → ◌≡◌ {A = ItemNumbers} (record { items = a; slacks = m }) (record { items = b; slacks = n })
 same_numbers a b m n e f = rw (e, f) refl

@@ -4,7 +4,7 @@ use Rattle.rota_items.proofs.Common.Imports.{Pattern, closed_patterns_at, closed
 use Rattle.rota_items.proofs.Common.Imports.{windows, windows_on, window_items_on, closed_items_at, pattern_items, pattern_items_on}
 use Rattle.rota_items.proofs.Common.Imports.{zero, suc, List, [], ◌∷◌, length, refl, arith, AllByRecursion, sum_by-cons, Problem, Rule}
 use Rattle.rota_items.proofs.Common.Imports.{Cell, nurse_items, items_of_rule, slack_count, S1, optimum_items, append-nil}
-use Rattle.rota_items.proofs.Lists.{map-concat_below}
+use Rattle.rota_items.proofs.LogicWords.{map-concat_below}
 use Rattle.rota_items.proofs.EachPattern.{each-run_item}
 
 -- ---- the items of runs

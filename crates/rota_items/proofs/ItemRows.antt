@@ -5,9 +5,8 @@ use Rattle.rota_items.proofs.Common.Imports.{item_rows, slack_count, slack_weigh
 use Rattle.rota_items.proofs.Common.Imports.{events, term_events, RowsState, StopsAtRow, row_of_item, slacks_within, weights_of_item, with_item}
 use Rattle.rota_items.proofs.Common.Imports.{within_numbers, Took, Refused, Takes, TookAll, RefusedOne, TakesAll, Ghosts, sum_by-append}
 use Rattle.rota_rules.proofs.InstanceLimits.{instance-within_limits}
-use Rattle.rota_items.proofs.SlackBound.{variables_fit}
+use Rattle.rota_items.proofs.SlackBound.{variables_fit, slack_count-cons, slack_count-numbered}
 use Rattle.rota_items.proofs.Taking.{numbers_join, Refused-before, Refused-after}
-use Rattle.rota_items.proofs.Lists.{slack_count-cons, slack_count-numbered}
 
 -- the slacks of the items have numbers of variables, from this one on
 abbrev pub SlacksFit : ℕ → List (Item ℕ) → Type 0

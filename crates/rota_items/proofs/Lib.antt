@@ -7,8 +7,7 @@ mod EachPattern
 mod ItemCounting
 mod ItemLists
 mod ItemRows
-pub mod Lists
-pub mod ListsAre
+pub mod LogicWords
 mod LoopSteps
 mod ObjectiveTaking
 pub mod PatternItems

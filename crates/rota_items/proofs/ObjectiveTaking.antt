@@ -6,7 +6,8 @@ use Rattle.rota_items.proofs.Common.Imports.{in_turn, Problem, Cell, Term, Linea
 use Rattle.rota_items.proofs.Common.Imports.{request_terms_on, slack_weights, slack_count, slack_variables, times, objective_terms, cell_terms, constant}
 use Rattle.rota_items.proofs.Common.Imports.{constant_terms, soft_items, unit_number, nat_tests, first_slack, numbered_items, numbered_terms, cell_number}
 use Rattle.rota_items.proofs.Taking.{nothing, terms_join}
-use Rattle.rota_items.proofs.Lists.{length-each-is, slack_count-cons, slack_count-numbered}
+use Rattle.rota_items.proofs.LogicWords.{length-each-is}
+use Rattle.rota_items.proofs.SlackBound.{slack_count-cons, slack_count-numbered}
 
 -- the objective's row with these terms
 abbrev pub row_of : List (Term ℕ) → LinearRow ℕ

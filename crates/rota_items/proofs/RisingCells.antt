@@ -7,8 +7,7 @@ use Rattle.rota_items.proofs.Common.Imports.{nat_tests, map-map, singleton_if, r
 use Rattle.rota_core.proofs.CellIndices.{cell_index-lt}
 use Rattle.rota_core.specs.RisingLists.{RisesWithin}
 use Rattle.rota_core.proofs.LogicWords.{all-weaker, length-rising, numbers-rising, rises-append, rises-blocks, rises-each, rises-in, rises-map}
-use Rattle.rota_items.proofs.Lists.{length-each-is, map-concat_below}
-use Rattle.rota_items.proofs.ListsAre.{Are, alone, in-turns}
+use Rattle.rota_items.proofs.LogicWords.{length-each-is, map-concat_below, Are, alone, in-turns}
 
 -- the numbers of the cells are below the number of the unit variable
 pub cell_number-below : (problem : Problem) (one : Cell) → InWeek problem one → cell_number problem one < unit_number problem

@@ -6,7 +6,7 @@ use Rattle.rota_items.proofs.Common.Imports.{max_constant_of_rule, InstanceTable
 use Rattle.rota_items.proofs.Common.Imports.{max_cells, max_weight, max_charge, max_terms, mul-le-mul_left}
 use Rattle.std.specs.Prelude.{◌^◌}
 use Rattle.rota_rules.proofs.InstanceLimits.{instance-within_limits}
-use Rattle.rota_items.proofs.Lists.{AreFew, all-weaker, sum_by-flat_map, all-both, all-flat_map}
+use Rattle.rota_items.proofs.LogicWords.{AreFew, all-weaker, sum_by-flat_map, all-both, all-flat_map}
 use Rattle.rota_rules.proofs.LogicWords.{sum_below-at_most}
 use Rattle.rota_items.proofs.SoftRules.EachRule.{sound-rule}
 use Rattle.rota_items.proofs.SoftRules.Sizes.{IsItemSmall}

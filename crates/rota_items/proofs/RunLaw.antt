@@ -4,7 +4,7 @@ use Rattle.rota_items.proofs.Common.Imports.{sum_by-append, Item, weighted_short
 use Rattle.rota_items.proofs.Common.Imports.{patterns_on, has_property, day_items, AtMostOneADay, DaysFollow, day_cost, run_over, run_under, run_cost}
 use Rattle.rota_items.proofs.DayLaw.{units_of, units, units-windows_on, units-patterns_on}
 use Rattle.rota_items.proofs.EachPattern.{IsRunPattern, each-on, each-pattern, on-pattern}
-use Rattle.rota_items.proofs.Lists.{sum_by-each-is}
+use Rattle.rota_items.proofs.LogicWords.{sum_by-each-is}
 use Rattle.rota_items.proofs.PatternItems.{AtMostOneOn, weighted-pattern_item}
 
 module _ {X : Type 0} (runs : Runs X) (assignment : X → Bool) (one : AtMostOneADay runs.property assignment) where

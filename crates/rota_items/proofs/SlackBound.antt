@@ -1,13 +1,20 @@
--- Bounds on the numbers of variables, slacks and rows of a week's model.
+-- Numbers of slacks, and bounds on the numbers of variables, slacks and rows of a week's model.
 use Rattle.rota_items.proofs.Common.Imports.{mul-le-mul_left, ◌≡◌, ℕ, ◌+◌, ◌<◌, ◌≤◌, List, [], ◌∷◌, length, refl, arith, sum_by, length-append, length-map}
 use Rattle.rota_items.proofs.Common.Imports.{length-flat_map, sum_by-le-sum_by, mul-le-mul, Problem, first_slack, rule_rows, Item, linear_constraint}
 use Rattle.rota_items.proofs.Common.Imports.{item_rows, slack_count, soft_rules, items_of_rule, soft_items, rows_of, model_of, cell_count, IsWithinLimits}
+use Rattle.rota_items.proofs.Common.Imports.{Cell, map, numbered, sum_by-cons}
 use Rattle.rota_items.proofs.Common.Imports.{count_limit, max_cells, max_items, max_slacks, InstanceTables, IsInstance, problem_of, word_limit, ◌*◌, le_trans}
 use Rattle.rota_items.proofs.Common.Imports.{length-singleton_if, concat_below, Rule, hard_rules, rows_of_hard_rule, cells_of, h5_row, h3_monday_rows}
 use Rattle.rota_items.proofs.Common.Imports.{h3_rows_between, h3_rows_of, H1, H2, H3, H4, H5, max_cells_of_nurse, max_nurses, max_shifts, max_skills}
 use Rattle.rota_rules.proofs.InstanceLimits.{instance-within_limits}
 use Rattle.rota_items.proofs.RuleSizes.{small-rule, soft_items-le}
-use Rattle.rota_items.proofs.Lists.{length-at_most}
+use Rattle.rota_items.proofs.LogicWords.{length-at_most, sum_by-map}
+
+pub slack_count-cons : {X : Type 0} (item : Item X) (items : List (Item X)) → slack_count (item ∷ items) ≡ item.slacks + slack_count items
+slack_count-cons item items = sum_by-cons (λ i. i.slacks) item items
+
+pub slack_count-numbered : (number : Cell → ℕ) (items : List (Item Cell)) → slack_count (map (numbered number) items) ≡ slack_count items
+slack_count-numbered number items = sum_by-map (λ (item : Item ℕ). item.slacks) (numbered number) items
 
 pub length-item_rows : (first : ℕ) (items : List (Item ℕ)) → length (item_rows first items) ≡ length items
 length-item_rows first [] = refl

@@ -4,7 +4,7 @@ use Rattle.rota_items.proofs.Common.Imports.{true, false, inl, inr, map, length,
 use Rattle.rota_items.proofs.Common.Imports.{AllByRecursion-concat_below, ◌+◌, Term, times, value_of, IsUnit, InWeek, Problem, on_cells, work_cells}
 use Rattle.rota_items.proofs.Common.Imports.{demand_cells, Cell, cell_number, unit_number, Property, variables_on, day_terms, PatternDay, is_plain}
 use Rattle.rota_items.proofs.EachPattern.{OnDays}
-use Rattle.rota_items.proofs.Lists.{all-flat_map, all-map}
+use Rattle.rota_items.proofs.LogicWords.{all-flat_map, all-map}
 use Rattle.rota_items.proofs.PatternItems.{spread}
 use Rattle.rota_core.specs.RisingLists.{RisesWithin}
 use Rattle.rota_core.proofs.LogicWords.{length-rising}

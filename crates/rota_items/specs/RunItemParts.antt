@@ -1,11 +1,10 @@
 -- The run items of a day, and the conditions of the laws on run items.
-use Rattle.std.specs.Prelude.{◌≤◌, ◌<◌, ◌++◌, ◌≡◌, ◌+◌, if◌then◌else◌}
+use Rattle.std.specs.Prelude.{◌≤◌, ◌<◌, ◌++◌, ◌≡◌, ◌+◌}
 use Rattle.rota_core.specs.Sizes.{DAYS}
-use Rattle.rota_items.specs.Imports.{ℕ, Bool, List, map, count_by, length, range_with_len, Span, not, list_any}
+use Rattle.rota_items.specs.Imports.{ℕ, Bool, List, map, count_by, length, range_with_len, not, list_any}
 use Rattle.rota_items.specs.Rows.{Item}
 use Rattle.rota_items.specs.RunItems.{Pattern, windows_on, patterns_on}
 use Rattle.rota_items.specs.RunItems.{Property, variables_on, Runs, pattern_items, Present, Absent}
-use Rattle.rota_rules.specs.Runs.{is_over, missing_on}
 
 -- the items of one day's window, and of the patterns of the runs that end on the day before it
 abbrev pub window_items_on : {X : Type 0} → Runs X → ℕ → List (Item X)

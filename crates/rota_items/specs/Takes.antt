@@ -1,5 +1,5 @@
 -- The part that a taker took of a list: of the events of rows, of rows of the hard rules, or of items.
-use Rattle.std.specs.Prelude.{◌≡◌, Bool, List, ◌∷◌, ◌++◌, Result, MatchResult}
+use Rattle.std.specs.Prelude.{◌≡◌, List, ◌∷◌, ◌++◌, Result, MatchResult}
 use Rattle.std.specs.List.{fold}
 use Rattle.rota_core.specs.declared.values.Cell.{Cell}
 use Rattle.rota_core.specs.Problem.{Problem}

@@ -1,7 +1,7 @@
 -- The model of a week, over the numbers of its variables; and the slacks of items: their numbers, and the slacks that are needed.
-use Rattle.std.specs.Prelude.{◌+◌, ◌&&◌, ◌==◌, if◌then◌else◌, ◌∷◌, ◌++◌, ◌-◌}
-use Rattle.rota_items.specs.Imports.{ℕ, pos, nat_lt, Bool, true, false, List, [], map, sum_by, range_with_len, Cell, Problem, Roster, Unit}
-use Rattle.rota_items.specs.Rows.{Term, Constraint, Model, LinearRow, Hard, Soft, linear_constraint, times, Item, shortage, numbered, cell_at}
+use Rattle.std.specs.Prelude.{◌+◌, ◌∷◌, ◌++◌, ◌-◌}
+use Rattle.rota_items.specs.Imports.{ℕ, pos, nat_lt, List, [], map, sum_by, range_with_len, Cell, Problem, Unit}
+use Rattle.rota_items.specs.Rows.{Term, Constraint, Model, LinearRow, Hard, Soft, linear_constraint, times, Item, numbered, cell_at}
 use Rattle.rota_items.specs.Rows.{singleton_if}
 use Rattle.rota_items.specs.Variables.{cell_number, unit_number}
 use Rattle.rota_items.specs.HardRows.{rule_rows}

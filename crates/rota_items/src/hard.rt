@@ -40,7 +40,7 @@ fn visit_rule<T: RowTaker>(instance: &Instance, taker: &mut T, rule: Rule) -> Re
 }
 
 /// Sends the taker the rows of all hard rules, in the order of the rules.
-#[tactic(auto, using(crate::proofs::Taking::taking, crate::proofs::Lists::listing), unfolding(crate::specs::SentItems::numbered_rows))]
+#[tactic(auto, using(crate::proofs::Taking::taking, crate::proofs::LogicWords::listing), unfolding(crate::specs::SentItems::numbered_rows))]
 pub fn visit_rule_rows<T: RowTaker>(instance: &Instance, taker: &mut T) -> Result<(), T::Fault>
     ensures { let problem = problem_of instance.now in
         TakesRows T.RowTaker problem (rule_rows problem) taker.old taker.new result }

@@ -70,7 +70,7 @@ fn visit_rule<T: RunTaker>(instance: &Instance, taker: &mut T, rule: Rule) -> Re
 }
 
 /// Sends the taker the items of all soft rules, in the order of the rules.
-#[tactic(auto, using(crate::proofs::Taking::taking, crate::proofs::Lists::listing), unfolding(crate::specs::SentItems::numbered_list))]
+#[tactic(auto, using(crate::proofs::Taking::taking, crate::proofs::LogicWords::listing), unfolding(crate::specs::SentItems::numbered_list))]
 pub fn visit_soft_items<T: RunTaker>(instance: &Instance, taker: &mut T) -> Result<(), T::Fault>
     ensures { let problem = problem_of instance.now in
         TakesItems T.ItemTaker problem (soft_items problem) taker.old taker.new result }
@@ -98,7 +98,7 @@ fn emit_cell_terms_of_rule<T: Taker>(
 }
 
 /// Sends the taker the terms that the soft rules have on cells.
-#[tactic(auto, using(crate::proofs::Taking::taking, crate::proofs::Lists::listing), unfolding(crate::specs::CellEvents::cell_term_events, crate::specs::Events::term_events))]
+#[tactic(auto, using(crate::proofs::Taking::taking, crate::proofs::LogicWords::listing), unfolding(crate::specs::CellEvents::cell_term_events, crate::specs::Events::term_events))]
 pub fn emit_cell_terms<T: Taker>(instance: &Instance, taker: &mut T) -> Result<(), T::Fault>
     ensures { let problem = problem_of instance.now in
         Takes T.Taker (cell_term_events problem (cell_terms problem)) taker.old taker.new result }
@@ -130,7 +130,7 @@ fn nurse_constant(instance: &Instance, rule: Rule, nurse: u16) -> u64
 }
 
 /// The rule's part of the constant, which no roster that keeps H1 can avoid: the sum of the nurses' parts.
-#[tactic(auto, using(crate::proofs::Lists::counting, crate::proofs::RuleSizes::few_constants))]
+#[tactic(auto, using(crate::proofs::LogicWords::counting, crate::proofs::RuleSizes::few_constants))]
 pub fn constant_of_rule(instance: &Instance, rule: Rule) -> u64
     ensures sum { result ≡ constant_of_rule (problem_of instance.now) rule }
     ensures limits { IsInstance instance.now }
@@ -143,7 +143,7 @@ pub fn constant_of_rule(instance: &Instance, rule: Rule) -> u64
 }
 
 /// The constant, which no roster of the week that keeps H1 can avoid: the sum of the rules' parts.
-#[tactic(auto, using(crate::proofs::Lists::listing, crate::proofs::RuleSizes::few_constants))]
+#[tactic(auto, using(crate::proofs::LogicWords::listing, crate::proofs::RuleSizes::few_constants))]
 pub fn constant(instance: &Instance) -> u64
     ensures { result ≡ constant (problem_of instance.now) }
 {

@@ -7,7 +7,7 @@ use Rattle.rota_judge.proofs.Common.Imports.{weighted_shortages, numbered, Term,
 use Rattle.rota_judge.proofs.Common.Imports.{numbered_items, objective_terms, roster_of, assignment_of, extension_of, model_of, request_cost}
 use Rattle.rota_judge.proofs.AlikeRosters.{keeps-alike}
 use Rattle.rota_judge.proofs.ItemLaw.{value_of-numbered, extension_satisfies, value_of-extension, weighted_shortages-le}
-use Rattle.rota_items.proofs.Lists.{all-map, sum_by-map, sum_by-same}
+use Rattle.rota_items.proofs.LogicWords.{all-map, sum_by-map, sum_by-same}
 use Rattle.rota_judge.proofs.Numbers.{assignment_of-cell, assignment_of-unit}
 use Rattle.rota_items.proofs.RisingCells.{cell_number-below}
 use Rattle.rota_items.proofs.PatternItems.{value_of-append}

@@ -10,7 +10,7 @@ use Rattle.rota_judge.proofs.ItemLaw.{extension-extends, needed-first, needed-af
 use Rattle.rota_items.proofs.RisingCells.{cell_number-below}
 use Rattle.rota_judge.specs.ExtensionTruths.{extension_truths, truths_to}
 use Rattle.rota_judge.specs.SlackValues.{first_true, slack_truths, truths_below}
-use Rattle.rota_items.proofs.Lists.{slack_count-cons, slack_count-numbered}
+use Rattle.rota_items.proofs.SlackBound.{slack_count-cons, slack_count-numbered}
 
 -- ---- truth values of the indices below a number
 

@@ -4,7 +4,7 @@ use Rattle.rota_judge.proofs.Common.Imports.{Problem, Rule, Cell, cell_number, f
 use Rattle.rota_judge.proofs.Common.Imports.{item_rows, slack_count, soft_items, hard_rows, model_of, numbered_items, numbered_row, rows_of, unit_row}
 use Rattle.rota_judge.proofs.HardRules.EachRule.{each-row}
 use Rattle.rota_judge.proofs.HardRules.Sound.{IsRowSound}
-use Rattle.rota_items.proofs.Lists.{all-map}
+use Rattle.rota_items.proofs.LogicWords.{all-map}
 use Rattle.rota_items.proofs.SoftRules.EachRule.{each-item}
 use Rattle.rota_items.proofs.SoftRules.Sound.{IsItemSound}
 

@@ -6,7 +6,8 @@ use Rattle.rota_judge.proofs.Common.Imports.{AllByRecursion, range_with_len, sum
 use Rattle.rota_judge.proofs.Common.Imports.{Item, Constraint, slack_weights, soft_items, objective_terms, numbered_items, RisesFrom, HasRisingTerms}
 use Rattle.rota_judge.proofs.ModelRows.{each-model_row}
 use Rattle.rota_items.proofs.SoundTerms.{AreUnits, coefficients-numbered, units-times}
-use Rattle.rota_items.proofs.Lists.{all-map, all-weaker, slack_count-numbered}
+use Rattle.rota_items.proofs.LogicWords.{all-map, all-weaker}
+use Rattle.rota_items.proofs.SlackBound.{slack_count-numbered}
 use Rattle.rota_core.specs.RisingLists.{RisesWithin}
 use Rattle.rota_core.proofs.LogicWords.{widen, rises-append, rises-singleton_if}
 use Rattle.rota_items.proofs.RisingCells.{rises-numbered}

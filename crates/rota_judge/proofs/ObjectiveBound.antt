@@ -5,7 +5,7 @@ use Rattle.rota_judge.proofs.Common.Imports.{Problem, Cell, cell_number, first_s
 use Rattle.rota_judge.proofs.Common.Imports.{constant_terms, slack_variables, slack_weights, cell_terms, constant, soft_items, numbered_terms}
 use Rattle.rota_judge.proofs.Common.Imports.{numbered_items, objective_terms, model_of, IsWithinLimits, max_coefficient, ◌*◌, ◌≤◌, ap, sum_by-cons}
 use Rattle.rota_judge.proofs.Common.Imports.{count_by-le-length, sum_by, count_by, mul-le-mul_left, unit_number, roster_of, max_objective, max_weight}
-use Rattle.rota_items.proofs.Lists.{all-map, all-weaker, sum_by-map}
+use Rattle.rota_items.proofs.LogicWords.{all-map, all-weaker, sum_by-map}
 use Rattle.rota_items.proofs.RuleSizes.{constant-few, soft_items-le, each-small}
 use Rattle.rota_items.proofs.SoftRules.EachRule.{each-item, cell_terms-are, sound-cell_terms}
 use Rattle.rota_items.proofs.SoftRules.ShiftOffRequests.{IsTermSound, value_of-request_terms}

@@ -8,7 +8,8 @@ use Rattle.rota_items.proofs.CellCounts.{none-pass}
 use Rattle.rota_judge.proofs.HardRules.EachRule.{h1-are, rows-are}
 use Rattle.rota_items.proofs.PatternItems.{any_or_none}
 use Rattle.rota_items.proofs.RisingCells.{rises-between, work-are}
-use Rattle.rota_items.proofs.Lists.{all-weaker, all-back, slack_count-numbered}
+use Rattle.rota_items.proofs.LogicWords.{all-weaker, all-back}
+use Rattle.rota_items.proofs.SlackBound.{slack_count-numbered}
 use Rattle.rota_judge.proofs.Numbers.{cell_of_number-in, cell_number-of}
 use Rattle.rota_judge.proofs.ModelTerms.{RisesTo, variable_of, rises-to_last}
 use Rattle.rota_items.proofs.SoundTerms.{OnTerms}

@@ -1,11 +1,9 @@
 -- Weeks of one nurse with one skill, with their constraints and objectives written out.
-use Rattle.std.specs.Prelude.{◌≡◌, ℕ, ◌+◌, ℤ, pos, negsuc, Bool, true, false, ◌&&◌, ◌==◌, Some, if◌then◌else◌, List, [], ◌∷◌, ◌++◌, map}
+use Rattle.std.specs.Prelude.{◌≡◌, ℕ, ◌+◌, ℤ, pos, negsuc, true, false, ◌&&◌, ◌==◌, Some, if◌then◌else◌, List, [], ◌∷◌, ◌++◌, map}
 use Rattle.std.specs.Prelude.{drop, take}
 use Rattle.std.specs.List.{range_with_len}
-use Rattle.rota_core.specs.declared.values.Span.{Span}
 use Rattle.rota_core.specs.declared.values.Contract.{Contract}
 use Rattle.rota_core.specs.declared.values.Demand.{Demand}
-use Rattle.rota_core.specs.declared.values.Past.{Past}
 use Rattle.rota_core.specs.Problem.{Problem}
 use Rattle.rota_core.specs.Defaults.{no_demand, no_past}
 use Rattle.rota_rules.specs.WorkedWeeks.{limits_of, plain_week, wide, with_contract, worked_days, working_week}

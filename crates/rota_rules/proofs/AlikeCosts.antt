@@ -60,7 +60,8 @@ module _ (problem : Problem) (one other : Roster) (same : AreAlike problem one o
       (sum_below-same 7 _ _ (λ d d_in. sum_below-same problem.shifts _ _ (λ s s_in. sum_below-same problem.skills _ _ (λ k k_in.
       ap (λ count. (problem.demand d s k).optimal - count) (nurses-alike d s k d_in s_in k_in)))))
 
-  assignment_runs-alike : (n : ℕ) → n < problem.nurses → consecutive_assignment_cost_of problem one n ≡ consecutive_assignment_cost_of problem other n
+  assignment_runs-alike : (n : ℕ) → n < problem.nurses →
+      consecutive_assignment_cost_of problem one n ≡ consecutive_assignment_cost_of problem other n
   assignment_runs-alike n n_in =
       let shifts = sum_below-same problem.shifts
       (λ s. run_cost (is_on problem one n s) (history_on problem n s) (problem.limits s))
@@ -69,7 +70,8 @@ module _ (problem : Problem) (one other : Roster) (same : AreAlike problem one o
       let work = run_cost-alike _ _ (λ d. works-alike n d n_in) (problem.past n).work_run (problem.contract n).work in
       rw (shifts, work) refl
 
-  days_off-alike : (n : ℕ) → n < problem.nurses → consecutive_day_off_cost_of problem one n ≡ consecutive_day_off_cost_of problem other n
+  days_off-alike : (n : ℕ) → n < problem.nurses →
+      consecutive_day_off_cost_of problem one n ≡ consecutive_day_off_cost_of problem other n
   days_off-alike n n_in =
       ap (λ cost. off_run_weight * cost)
       (run_cost-alike (is_off problem one n) (is_off problem other n) (λ d d_in. ap not (works-alike n d n_in d_in))

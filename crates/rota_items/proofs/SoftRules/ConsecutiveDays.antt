@@ -9,7 +9,7 @@ use Rattle.rota_rules.specs.ConsecutiveDaysOff.{consecutive_day_off_cost_of, off
 use Rattle.rota_items.specs.rules.ConsecutiveAssignments.{assignment_runs_of}
 use Rattle.rota_items.specs.rules.ConsecutiveDaysOff.{days_off_runs_of, off_runs}
 use Rattle.rota_items.proofs.CellCounts.{any-on, any-works}
-use Rattle.rota_items.proofs.Lists.{few-append, few-concat_below, sum_by-each-times}
+use Rattle.rota_items.proofs.LogicWords.{few-append, few-concat_below, sum_by-each-times}
 use Rattle.rota_items.proofs.RunLaw.{weighted_shortages-run_items}
 use Rattle.rota_items.proofs.SoftRules.NurseProperties.{of_nurse-on, of_nurse-work, one-at_work, sound-run_items}
 use Rattle.rota_items.proofs.SoftRules.Sizes.{length-on, length-work, small-runs}

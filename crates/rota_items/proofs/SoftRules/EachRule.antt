@@ -5,7 +5,7 @@ use Rattle.rota_items.proofs.Common.Imports.{and_parts, append-nil, KeepsCompeti
 use Rattle.rota_items.proofs.Common.Imports.{shortage, weighted_shortages, value_of, soft_rules, cell_terms, cell_terms_of_rule, constant}
 use Rattle.rota_items.proofs.Common.Imports.{constant_of_rule, items_of_rule, penalty, rule_cost, soft_items, request_terms, is_soft}
 use Rattle.rota_core.specs.declared.rule.Rule.TheVariants.{S1, S2, S3, S4, S5, S6, S7}
-use Rattle.rota_items.proofs.Lists.{all-weaker}
+use Rattle.rota_items.proofs.LogicWords.{all-weaker}
 use Rattle.rota_rules.proofs.LogicWords.{sum_below-zero}
 use Rattle.rota_items.proofs.ItemLists.{none-concat_below}
 use Rattle.rota_items.proofs.PatternItems.{value_of-append}

@@ -4,7 +4,7 @@ use Rattle.rota_items.proofs.Common.Imports.{nurses_at, KeepsMinimum, Roster, ce
 use Rattle.rota_items.proofs.Common.Imports.{max_shifts, max_skills, S1, optimum_cost, optimum_weight, optimum_item, optimum_items, optimum_items_at}
 use Rattle.rota_items.proofs.ItemLists.{none_of_nurses}
 use Rattle.rota_items.specs.RuleItems.{no_charge}
-use Rattle.rota_items.proofs.Lists.{few-concat_below, few-singleton_if, sum_by-singleton_if, sum_by-each-times, count_by-each}
+use Rattle.rota_items.proofs.LogicWords.{few-concat_below, few-singleton_if, sum_by-singleton_if, sum_by-each-times, count_by-each}
 use Rattle.rota_rules.proofs.LogicWords.{sum_below-zero}
 use Rattle.rota_items.proofs.SoftRules.Sizes.{length-demand}
 use Rattle.rota_items.proofs.SoftRules.Sound.{IsItemSound, IsRuleSound, weighted}

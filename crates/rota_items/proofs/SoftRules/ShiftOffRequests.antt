@@ -1,7 +1,7 @@
 -- The terms on cells charge the request rows that are not granted.
-use Rattle.rota_items.proofs.Common.Imports.{◌≡◌, ℕ, ◌+◌, ◌<◌, ◌≤◌, Bool, true, false, cond, List, refl, ap, ◌∙◌, arith, pos, ◌+ℤ◌, ◌<ℤ◌}
+use Rattle.rota_items.proofs.Common.Imports.{◌≡◌, ℕ, ◌+◌, ◌<◌, Bool, true, false, cond, List, refl, ap, ◌∙◌, arith, pos, ◌+ℤ◌, ◌<ℤ◌}
 use Rattle.rota_items.proofs.Common.Imports.{◌≤ℤ◌, nat_lt, AllByRecursion, ltb-true, ints, AllByRecursion-concat_below}
-use Rattle.rota_items.proofs.Common.Imports.{AllByRecursion-singleton_if, singleton_if, Roster, InWeek, cell, Problem, Cell, Term, value_of}
+use Rattle.rota_items.proofs.Common.Imports.{AllByRecursion-singleton_if, singleton_if, Roster, InWeek, Problem, Cell, Term, value_of}
 use Rattle.rota_items.proofs.Common.Imports.{IsWithinLimits, S4, max_weight, request_cost, request_weight, request_terms, request_terms_on, []}
 use Rattle.rota_items.proofs.Common.Imports.{◌∷◌, negsuc, nat_tests, sum_by, sum_by-cons, positive_part}
 use Rattle.rota_core.proofs.LogicWords.{rises-blocks, rises-singleton_if}
@@ -10,7 +10,7 @@ use Rattle.rota_items.proofs.RisingCells.{at, day_start, in-cell, shift_start, w
 use Rattle.rota_items.proofs.SoftRules.Sound.{IsRuleSound}
 use Rattle.rota_items.specs.RuleItems.{no_charge}
 use Rattle.rota_rules.proofs.LogicWords.{sum_below-zero}
-use Rattle.rota_items.proofs.Lists.{all-weaker, sum_by-each-times, sum_by-singleton_if}
+use Rattle.rota_items.proofs.LogicWords.{all-weaker, sum_by-each-times, sum_by-singleton_if}
 use Rattle.rota_items.proofs.SoundTerms.{OnCoefficients}
 
 -- ---- the value of terms

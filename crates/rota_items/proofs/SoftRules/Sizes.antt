@@ -6,7 +6,7 @@ use Rattle.rota_items.proofs.Common.Imports.{max_weight, max_number, max_nurses,
 use Rattle.rota_items.proofs.Common.Imports.{variables_on, PatternDay, Term, times, nurse_cells, on_cells, demand_cells, max_terms}
 use Rattle.rota_items.proofs.Common.Imports.{max_cells_of_day}
 use Rattle.rota_items.proofs.EachPattern.{each-run_item, run_counting}
-use Rattle.rota_items.proofs.Lists.{AreFew, length-at_most}
+use Rattle.rota_items.proofs.LogicWords.{AreFew, length-at_most}
 use Rattle.rota_items.proofs.PatternItems.{positive_part-parts}
 
 -- an item with few slacks and terms, and with a small total weight of its slacks and of its degree

@@ -7,7 +7,7 @@ use Rattle.rota_items.specs.RuleItems.{Charge, no_charge}
 use Rattle.rota_items.specs.ModelCosts.{IsChargedOn}
 use Rattle.rota_items.proofs.SoundTerms.{AreSound}
 use Rattle.rota_items.proofs.SoftRules.Sizes.{IsItemSmall}
-use Rattle.rota_items.proofs.Lists.{AreFew, few-concat_below, sum_by-each}
+use Rattle.rota_items.proofs.LogicWords.{AreFew, few-concat_below, sum_by-each}
 use Rattle.rota_rules.proofs.LogicWords.{sum_below-plus, sum_below-same}
 
 -- ---- of an item

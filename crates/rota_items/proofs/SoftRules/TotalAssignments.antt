@@ -9,7 +9,7 @@ use Rattle.rota_items.specs.rules.TotalAssignments.{assignment_constant_of, max_
 use Rattle.rota_items.specs.rules.TotalAssignments.{min_totals_of, still_allowed, still_wanted, totals_of}
 use Rattle.rota_items.proofs.CellCounts.{work_count, one-work, count-work_cells}
 use Rattle.rota_items.proofs.SoundTerms.{sound-cells, AreSound, in-work_cells}
-use Rattle.rota_items.proofs.Lists.{few-append, few-singleton_if, sum_by-singleton_if, sum_by-each-is}
+use Rattle.rota_items.proofs.LogicWords.{few-append, few-singleton_if, sum_by-singleton_if, sum_by-each-is}
 use Rattle.rota_rules.proofs.LogicWords.{sum_below-within}
 use Rattle.rota_items.proofs.RisingCells.{rises-nurse_cells}
 use Rattle.rota_items.proofs.SoftRules.Sizes.{length-total}

@@ -11,7 +11,7 @@ use Rattle.rota_items.specs.rules.WorkedWeekends.{weekend_constant_of, worked_we
 use Rattle.rota_items.proofs.CellCounts.{any-works}
 use Rattle.rota_items.proofs.DayLaw.{units_of}
 use Rattle.rota_items.proofs.SoftRules.NurseProperties.{of_nurse-work, sound-pattern, weighted-pattern}
-use Rattle.rota_items.proofs.Lists.{AreFew}
+use Rattle.rota_items.proofs.LogicWords.{AreFew}
 use Rattle.rota_items.proofs.SoftRules.Sizes.{IsItemSmall, length-work, small-pattern}
 use Rattle.rota_items.proofs.SoftRules.Sound.{IsItemSound, IsNurseRuleSound, weighted}
 

@@ -7,8 +7,7 @@ use Rattle.rota_judge.proofs.Common.Imports.{h2_row, h4_row, h5_row, h5_rows, ro
 use Rattle.rota_items.proofs.CellCounts.{count-none, none-pass, one-work, the_one}
 use Rattle.rota_judge.proofs.HardRules.Sound.{at_least, at_most, one-where_true, AllHold, Holds, IsHardRuleSound, IsRowSound, Keeps}
 use Rattle.rota_judge.proofs.HardRules.Succession.{succession}
-use Rattle.rota_items.proofs.Lists.{all-weaker, count_by-each}
-use Rattle.rota_items.proofs.ListsAre.{Are, alone, in-parts, in-turns, listed, of-each, where-holds}
+use Rattle.rota_items.proofs.LogicWords.{all-weaker, count_by-each, Are, alone, in-parts, in-turns, listed, of-each, where-holds}
 use Rattle.rota_items.proofs.RisingCells.{in-cell, rises-skill_cells, rises-work_cells, skill-are, work-are}
 use Rattle.rota_items.proofs.SoundTerms.{in-work_cells, sound-cells, sound-demand}
 

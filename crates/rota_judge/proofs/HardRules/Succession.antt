@@ -5,7 +5,7 @@ use Rattle.rota_judge.proofs.Common.Imports.{is_on, InWeek, Roster, Problem, cel
 use Rattle.rota_core.proofs.LogicWords.{rises-append}
 use Rattle.rota_items.proofs.CellCounts.{any-on_cells, one-on}
 use Rattle.rota_judge.proofs.HardRules.Sound.{at_most, Holds, IsHardRuleSound, IsRowSound}
-use Rattle.rota_items.proofs.ListsAre.{in-parts, in-turns, where-holds}
+use Rattle.rota_items.proofs.LogicWords.{in-parts, in-turns, where-holds}
 use Rattle.rota_items.proofs.PatternItems.{any_or_none}
 use Rattle.rota_items.proofs.RisingCells.{day_start, on-keeps, rises-on_cells}
 use Rattle.rota_items.proofs.SoundTerms.{in-on_cells, sound-cells}

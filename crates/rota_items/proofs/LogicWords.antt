@@ -1,10 +1,10 @@
--- Lists: properties of each element, their sums, their lengths, and the results of loops.
+-- Words of the logic: properties of each element of a list, sums and lengths of lists, and the results of loops.
 use Rattle.rota_items.proofs.Common.Imports.{List, [], ◌∷◌, map, AllByRecursion, flat_map, AllByRecursion-append, AllByRecursion-concat_below}
 use Rattle.rota_items.proofs.Common.Imports.{AllByRecursion-singleton_if, length-singleton_if, ◌≡◌, ℕ, ◌+◌, Bool, true, false, cond, refl, ap}
 use Rattle.rota_items.proofs.Common.Imports.{arith, zero-add, sum_by, fold-map, sum_by-append, sum_by-cons, singleton_if, zero, suc, ◌*◌, ◌<◌}
 use Rattle.rota_items.proofs.Common.Imports.{◌≤◌, length, ◌∙◌, count_by, list_any, list_any-append, mul-le, sum_below, count_below, any_below}
 use Rattle.rota_items.proofs.Common.Imports.{length-concat_below, concat_below, ◌++◌, length-append, add-one, append-nil, take_all}
-use Rattle.rota_items.proofs.Common.Imports.{flat_map-append, take_at_read, map-append, Cell, Item, numbered, slack_count}
+use Rattle.rota_items.proofs.Common.Imports.{flat_map-append, take_at_read, map-append, AllByRecursion-at, AllByRecursion-back, holds-where}
 pub use Rattle.rota_core.proofs.LogicWords.{all-weaker}
 use Rattle.rota_rules.proofs.LogicWords.{sum_below-same}
 use Rattle.std.proofs.lemmas.List.Concat.{flat_map-cons}
@@ -128,13 +128,7 @@ sum_below-more n number = rw add-one refl
 
 pub ruleset counting = (sum_below-none, sum_below-more)
 
--- ---- lengths and slacks
-
-pub slack_count-cons : {X : Type 0} (item : Item X) (items : List (Item X)) → slack_count (item ∷ items) ≡ item.slacks + slack_count items
-slack_count-cons item items = sum_by-cons (λ i. i.slacks) item items
-
-pub slack_count-numbered : (number : Cell → ℕ) (items : List (Item Cell)) → slack_count (map (numbered number) items) ≡ slack_count items
-slack_count-numbered number items = sum_by-map (λ (item : Item ℕ). item.slacks) (numbered number) items
+-- ---- lengths
 
 -- the same length for each turn
 pub length-each-is : {A : Type 0} (n long : ℕ) (f : ℕ → List A) → ((i : ℕ) → i < n → length (f i) ≡ long) →
@@ -159,3 +153,42 @@ pub map-concat_below : {A B : Type 0} (f : A → B) (n : ℕ) (g : ℕ → List 
 unfolding concat_below
 map-concat_below f zero g = refl
 map-concat_below f (suc n) g = map-append f (concat_below n g) (g n) ∙ ap (λ xs. xs ++ map f (g n)) (map-concat_below f n g)
+
+-- ---- the elements of lists made by loops, with properties of each element, turn by turn
+
+-- a property of each element of a family is a property of each element of the list, and the other way round
+pub record Are {A : Type 0} (xs : List A) (Each : (A → Type 0) → Type 0) : Type 1 where
+  pub all : (P : A → Type 0) → Each P → AllByRecursion P xs
+  pub each : (P : A → Type 0) → AllByRecursion P xs → Each P
+
+module _ {A : Type 0} where
+  -- the elements of the turns of a loop
+  pub in-turns : {n : ℕ} {f : ℕ → List A} {Each : ℕ → (A → Type 0) → Type 0} → ((i : ℕ) → Are (f i) (Each i)) →
+      Are (concat_below n f) (λ P. (i : ℕ) → i < n → Each i P)
+  in-turns {n} {f} {Each} turns = record {
+    all = λ P each. AllByRecursion-concat_below P n f (λ i i_in. (turns i).all P (each i i_in));
+    each = λ P all i i_in. (turns i).each P (AllByRecursion-at P n f all i i_in);
+  }
+
+  pub where-holds : {test : Bool} {x : A} → Are (singleton_if test x) (λ P. test ≡ true → P x)
+  where-holds {test} {x} = record { all = λ P each. AllByRecursion-singleton_if P test x each; each = λ P all. holds-where P test x all }
+
+  pub listed : (xs : List A) → Are xs (λ P. AllByRecursion P xs)
+  listed xs = record { all = λ P each. each; each = λ P all. all }
+
+  pub alone : {x : A} → Are (x ∷ []) (λ P. P x)
+  alone {x} = record { all = λ P each. (each, tt); each = λ P all. all.0 }
+
+  pub in-parts : {xs ys : List A} {Each Other : (A → Type 0) → Type 0} → Are xs Each → Are ys Other →
+      Are (xs ++ ys) (λ P. Each P × Other P)
+  in-parts {xs} {ys} {Each} {Other} first second = record {
+    all = λ P each. AllByRecursion-append P xs ys (first.all P each.0) (second.all P each.1);
+    each = λ P all. let parts = AllByRecursion-back P xs ys all in (first.each P parts.0, second.each P parts.1);
+  }
+
+  pub of-each : {B : Type 0} {f : B → A} {xs : List B} {Each : (B → Type 0) → Type 0} → Are xs Each →
+      Are (map f xs) (λ P. Each (λ x. P (f x)))
+  of-each {B} {f} {xs} elements = record {
+    all = λ P each. all-map P f xs (elements.all (λ x. P (f x)) each);
+    each = λ P all. elements.each (λ x. P (f x)) (all-back P f xs all);
+  }
