@@ -2,7 +2,7 @@
 use Rattle.rota_items.proofs.Common.Imports.{◌≡◌, ℕ, ◌+◌, ◌<◌, List, [], ◌∷◌, ◌++◌, length, refl, ap, ◌∙◌, arith, length-append, fold, length-map}
 use Rattle.rota_items.proofs.Common.Imports.{InstanceTables, IsInstance, problem_of, Problem, Cell, soft_items, Item, numbered, slack_count, cell_number}
 use Rattle.rota_items.proofs.Common.Imports.{Runs, pattern_item, run_items, patterns, windows, word_limit, numbered_list, ItemNumbers, sum_within, with_one}
-use Rattle.rota_rules.proofs.InstanceLimits.{instance-within_limits}
+use Rattle.rota_rules.proofs.CostLemmas.{instance-within_limits}
 use Rattle.rota_items.proofs.ItemLists.{have_one-runs, one_slack-each}
 use Rattle.rota_items.proofs.SlackBound.{items-few, variables_fit, slack_count-cons}
 

@@ -4,7 +4,7 @@ use Rattle.rota_items.proofs.Common.Imports.{append_assoc, fold, fold-append, In
 use Rattle.rota_items.proofs.Common.Imports.{item_rows, slack_count, slack_weights, first_slack, numbered_items, cell_number, word_limit, Event}
 use Rattle.rota_items.proofs.Common.Imports.{events, term_events, RowsState, StopsAtRow, row_of_item, slacks_within, weights_of_item, with_item}
 use Rattle.rota_items.proofs.Common.Imports.{within_numbers, Took, Refused, Takes, TookAll, RefusedOne, TakesAll, Ghosts, sum_by-append}
-use Rattle.rota_rules.proofs.InstanceLimits.{instance-within_limits}
+use Rattle.rota_rules.proofs.CostLemmas.{instance-within_limits}
 use Rattle.rota_items.proofs.SlackBound.{variables_fit, slack_count-cons, slack_count-numbered}
 use Rattle.rota_items.proofs.Taking.{numbers_join, Refused-before, Refused-after}
 

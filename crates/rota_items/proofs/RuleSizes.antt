@@ -5,7 +5,7 @@ use Rattle.rota_items.proofs.Common.Imports.{max_nurses, nurse_constant, constan
 use Rattle.rota_items.proofs.Common.Imports.{max_constant_of_rule, InstanceTables, IsInstance, problem_of, Roster, shortage, weighted_shortages}
 use Rattle.rota_items.proofs.Common.Imports.{max_cells, max_weight, max_charge, max_terms, mul-le-mul_left}
 use Rattle.std.specs.Prelude.{◌^◌}
-use Rattle.rota_rules.proofs.InstanceLimits.{instance-within_limits}
+use Rattle.rota_rules.proofs.CostLemmas.{instance-within_limits}
 use Rattle.rota_items.proofs.LogicWords.{AreFew, all-weaker, sum_by-flat_map, all-both, all-flat_map}
 use Rattle.rota_rules.proofs.LogicWords.{sum_below-at_most}
 use Rattle.rota_items.proofs.SoftRules.EachRule.{sound-rule}

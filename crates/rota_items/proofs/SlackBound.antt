@@ -6,7 +6,7 @@ use Rattle.rota_items.proofs.Common.Imports.{Cell, map, numbered, sum_by-cons}
 use Rattle.rota_items.proofs.Common.Imports.{count_limit, max_cells, max_items, max_slacks, InstanceTables, IsInstance, problem_of, word_limit, ◌*◌, le_trans}
 use Rattle.rota_items.proofs.Common.Imports.{length-singleton_if, concat_below, Rule, hard_rules, rows_of_hard_rule, cells_of, h5_row, h3_monday_rows}
 use Rattle.rota_items.proofs.Common.Imports.{h3_rows_between, h3_rows_of, H1, H2, H3, H4, H5, max_cells_of_nurse, max_nurses, max_shifts, max_skills}
-use Rattle.rota_rules.proofs.InstanceLimits.{instance-within_limits}
+use Rattle.rota_rules.proofs.CostLemmas.{instance-within_limits}
 use Rattle.rota_items.proofs.RuleSizes.{small-rule, soft_items-le}
 use Rattle.rota_items.proofs.LogicWords.{length-at_most, sum_by-map}
 

@@ -4,7 +4,7 @@ use Rattle.rota_rules.specs.AlikeRosters.{AreAlike}
 use Rattle.rota_judge.proofs.HardRules.EachRule.{each-row, rule_rows-hold, rule_rows-mean}
 use Rattle.rota_judge.proofs.HardRules.Sound.{Holds}
 use Rattle.rota_items.proofs.LogicWords.{all-both}
-use Rattle.rota_items.proofs.SoundTerms.{OnTerms, value_of-agree}
+use Rattle.rota_items.proofs.ItemLemmas.{OnTerms, value_of-agree}
 
 module _ (problem : Problem) (one other : Roster) (same : AreAlike problem one other) where
   -- the rows of the hard rules are over cells of the week, and mean the rules

@@ -9,13 +9,10 @@ use Rattle.rota_judge.proofs.AlikeRosters.{keeps-alike}
 use Rattle.rota_judge.proofs.ItemLaw.{value_of-numbered, extension_satisfies, value_of-extension, weighted_shortages-le}
 use Rattle.rota_items.proofs.LogicWords.{all-map, sum_by-map, sum_by-same}
 use Rattle.rota_judge.proofs.Numbers.{assignment_of-cell, assignment_of-unit}
-use Rattle.rota_items.proofs.RisingCells.{cell_number-below}
-use Rattle.rota_items.proofs.PatternItems.{value_of-append}
-use Rattle.rota_items.proofs.SoftRules.EachRule.{ItemIn, cell_terms-are, charges-penalty, each-item, in-cell_terms}
-use Rattle.rota_items.proofs.SoftRules.Sound.{IsItemSound}
-use Rattle.rota_items.proofs.SoftRules.ShiftOffRequests.{value_of-request_terms, value_of-singleton_if}
+use Rattle.rota_items.proofs.ItemLemmas.{cell_number-below, value_of-append, ItemIn, cell_terms-are, charges-penalty, each-item}
+use Rattle.rota_items.proofs.ItemLemmas.{in-cell_terms, IsItemSound, value_of-request_terms, value_of-singleton_if, OnTerms}
+use Rattle.rota_items.proofs.ItemLemmas.{value_of-agree}
 use Rattle.rota_judge.proofs.ModelMeaning.{model-means}
-use Rattle.rota_items.proofs.SoundTerms.{OnTerms, value_of-agree}
 
 -- ---- the penalty in items
 

@@ -7,10 +7,9 @@ use Rattle.rota_judge.proofs.Common.Imports.{numbered_items, model_of, roster_of
 use Rattle.rota_core.proofs.LogicWords.{concat_below-same}
 use Rattle.rota_judge.proofs.Extension.{extension-below, extension-roster}
 use Rattle.rota_judge.proofs.ItemLaw.{extension-extends, needed-first, needed-after}
-use Rattle.rota_items.proofs.RisingCells.{cell_number-below}
+use Rattle.rota_items.proofs.ItemLemmas.{cell_number-below, slack_count-cons, slack_count-numbered}
 use Rattle.rota_judge.specs.ExtensionTruths.{extension_truths, truths_to}
 use Rattle.rota_judge.specs.SlackValues.{first_true, slack_truths, truths_below}
-use Rattle.rota_items.proofs.SlackBound.{slack_count-cons, slack_count-numbered}
 
 -- ---- truth values of the indices below a number
 

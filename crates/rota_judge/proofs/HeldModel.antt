@@ -4,8 +4,7 @@ use Rattle.rota_judge.proofs.Common.Imports.{KeepsCompetitionRules, KeepsHeld, H
 use Rattle.rota_judge.proofs.Common.Imports.{model_of, roster_of, cells_of, h5_row, h5_rows, without_held, List, ◌∷◌, sym, refl, true≢false}
 use Rattle.rota_judge.proofs.Common.Imports.{AllByRecursion, ◌<◌, true, KeepsHardRules, KeepsOneCell, KeepsSkills, KeepsSuccession, cell, is_on}
 use Rattle.rota_rules.proofs.LogicWords.{any_below-more}
-use Rattle.rota_items.proofs.RisingCells.{in-cell}
-use Rattle.rota_items.proofs.SlackBound.{length-constraints}
+use Rattle.rota_items.proofs.ItemLemmas.{in-cell, length-constraints}
 use Rattle.rota_judge.proofs.HardRules.EachRule.{cells-are}
 use Rattle.rota_judge.proofs.ModelMeaning.{model-means}
 

@@ -5,8 +5,7 @@ use Rattle.rota_judge.proofs.Common.Imports.{add-zero, ltb, pos, ◌+ℤ◌, ◌
 use Rattle.rota_judge.proofs.Common.Imports.{lt-ltb, le-ltb, ints, nat_tests, AllByRecursion, All-from_recursion, All-head, All-tail, mul-le-mul_left}
 use Rattle.rota_judge.proofs.Common.Imports.{extension, Item, positive_part, shortage, weighted_shortages, Term, Constraint, Satisfies, value_of}
 use Rattle.rota_judge.proofs.Common.Imports.{times, AreBelow, slack_variables, item_constraint, item_constraints, slack_weights, is_slack_needed}
-use Rattle.rota_items.proofs.PatternItems.{value_of-append, positive_part-parts}
-use Rattle.rota_items.proofs.SoundTerms.{value_of-agree}
+use Rattle.rota_items.proofs.ItemLemmas.{value_of-append, positive_part-parts, value_of-agree}
 
 -- variables with one coefficient add it once for each true variable
 pub value_of-weight : (assignment : ℕ → Bool) (w : ℕ) (variables : List ℕ) →

@@ -11,8 +11,8 @@ use Rattle.rota_judge.proofs.ItemLaw.{IsExtension, count-front, extends-after, n
 use Rattle.rota_judge.proofs.FirstUnmet.{Named}
 use Rattle.rota_judge.proofs.JudgedRows.{Comes, IsJudged, covers, positive-saturated, row-comes, same, Before}
 use Rattle.rota_judge.proofs.JudgedRows.{counted_other, counted_slack, others-before, slacks-before, sums_of, value_of-none}
-use Rattle.rota_items.proofs.PatternItems.{value_of-append, positive_part-parts, shortage-minimum, spread}
-use Rattle.rota_items.proofs.SoundTerms.{value_of-agree, on-times, spread-units, units-times}
+use Rattle.rota_items.proofs.ItemLemmas.{value_of-append, positive_part-parts, shortage-minimum, spread, value_of-agree, on-times}
+use Rattle.rota_items.proofs.ItemLemmas.{spread-units, units-times}
 
 -- ---- the slacks of an item
 

@@ -12,17 +12,12 @@ use Rattle.rota_judge.proofs.Extension.{extension-roster, shortage-of_item, term
 use Rattle.rota_judge.proofs.HardRules.EachRule.{each-row}
 use Rattle.rota_judge.proofs.ItemLaw.{extension-extends}
 use Rattle.rota_judge.proofs.JudgedItems.{IsFit, charge_of, items-come, paid_for, paid_for-is, no-weights}
-use Rattle.rota_items.proofs.RuleSizes.{each-small}
+use Rattle.rota_items.proofs.ItemLemmas.{each-small, slack_count-numbered, rows-below, variables-below, spread, cell_terms-are}
+use Rattle.rota_items.proofs.ItemLemmas.{sound-rule, in-cell_terms, value_of-request_terms, IsItemSound, spread-sound, OnCoefficients}
 use Rattle.rota_judge.proofs.JudgedRows.{Comes, IsHardRow, rows-come, same, later-zero, hard-judged, counted-before, counted_other, others-before, row-tallied}
 use Rattle.rota_items.proofs.LogicWords.{all-map, sum_by-flat_map, sum_by-map, all-weaker, sum_by-same}
-use Rattle.rota_items.proofs.SlackBound.{slack_count-numbered, rows-below, variables-below}
 use Rattle.rota_rules.proofs.LogicWords.{sum_by-each-same}
 use Rattle.rota_judge.proofs.ObjectiveBound.{objective-below, IsPositive, coefficients-positive}
-use Rattle.rota_items.proofs.PatternItems.{spread}
-use Rattle.rota_items.proofs.SoftRules.EachRule.{cell_terms-are, sound-rule, in-cell_terms}
-use Rattle.rota_items.proofs.SoftRules.ShiftOffRequests.{value_of-request_terms}
-use Rattle.rota_items.proofs.SoftRules.Sound.{IsItemSound}
-use Rattle.rota_items.proofs.SoundTerms.{spread-sound, OnCoefficients}
 
 -- ---- the size of the rows
 

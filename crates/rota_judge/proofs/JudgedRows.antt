@@ -9,9 +9,8 @@ use Rattle.rota_judge.proofs.Common.Imports.{true_slacks, with_cost, soft_index,
 use Rattle.rota_judge.proofs.Common.Imports.{first_slack, Term, value_of, set_of, close_row, start_row, term_events, counts_for, no_sums}
 use Rattle.rota_core.specs.declared.rule.Rule.TheVariants.{Unit as UnitRule}
 use Rattle.rota_judge.proofs.FirstUnmet.{Named}
-use Rattle.rota_items.proofs.PatternItems.{positive_part-parts, spread, chosen-small}
+use Rattle.rota_items.proofs.ItemLemmas.{positive_part-parts, spread, chosen-small, OnTerms, value_of-agree}
 use Rattle.rota_judge.proofs.Extension.{extension-below}
-use Rattle.rota_items.proofs.SoundTerms.{OnTerms, value_of-agree}
 
 -- ---- the terms of a row
 

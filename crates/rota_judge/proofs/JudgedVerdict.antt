@@ -5,11 +5,10 @@ use Rattle.rota_judge.proofs.Common.Imports.{IsWithinLimits, value_of, objective
 use Rattle.rota_judge.proofs.Common.Imports.{items_of_rule, objective_terms, rows_of, InstanceTables, IsInstance, problem_of, S4, Tally, Event}
 use Rattle.rota_judge.proofs.Common.Imports.{events, Subject, JudgeState, assignment_in, roster_in, capped, counts_for, fresh, judged, no_tally}
 use Rattle.rota_judge.proofs.Common.Imports.{tallied, WasDriven, with_constants, with_cost, request_cost, Judges}
-use Rattle.rota_rules.proofs.InstanceLimits.{instance-within_limits}
+use Rattle.rota_rules.proofs.CostLemmas.{instance-within_limits}
 use Rattle.rota_judge.proofs.JudgedModel.{charges, charges-are, few, given, model-comes, objective-judged, of_rule}
 use Rattle.rota_judge.proofs.JudgedRows.{cost-raised, costs_of, or_else-none, same, counts-before}
-use Rattle.rota_items.proofs.RuleSizes.{constant_of_rule-few, shortages-few}
-use Rattle.rota_items.proofs.SoftRules.ShiftOffRequests.{value_of-request_terms}
+use Rattle.rota_items.proofs.ItemLemmas.{constant_of_rule-few, shortages-few, value_of-request_terms}
 
 abbrev pub model_events : InstanceTables → List Event
 model_events instance = events (objective_rows (objective_terms (problem_of instance))) ++ events (rows_of (problem_of instance))

@@ -1,6 +1,8 @@
 -- The lemmas that the laws state, by the file of the laws.
 use Rattle.rota_judge.proofs.Common.Imports.{◌≡◌, pos, Roster, Rule, Problem, model_cost, rule_cost}
-use Rattle.rota_items.proofs.CellCounts.{count-on_cells, count-work_cells, one-on, one-work}
+use Rattle.rota_items.proofs.ItemLemmas.{count-on_cells, count-work_cells, one-on, one-work, cell_number-below}
+use Rattle.rota_items.proofs.ItemLemmas.{weighted_shortages-day_items, weighted_shortages-run_items, constraints-below, variables-below}
+use Rattle.rota_items.proofs.ItemLemmas.{sound-rule, weighted-off_runs, weighted-on_runs, weighted-work_runs}
 use Rattle.rota_judge.proofs.ModelCounts.{counted-rows, counted-constraints, counted-model}
 use Rattle.rota_judge.proofs.Extension.{charges, extension-objective, extension-roster}
 use Rattle.rota_judge.proofs.FirstUnmet.{extension-first_broken, first_broken}
@@ -8,14 +10,9 @@ use Rattle.rota_judge.proofs.HeldModel.{length-with_held}
 use Rattle.rota_judge.proofs.ItemLaw.{extension_satisfies, item_law, value_of-extension, weighted_shortages-le}
 use Rattle.rota_rules.proofs.LogicWords.{sum_below-zero}
 use Rattle.rota_judge.proofs.ModelTerms.{rises-objective}
-use Rattle.rota_items.proofs.RisingCells.{cell_number-below}
 use Rattle.rota_judge.proofs.Numbers.{cell_of-cell_number, cell_of_number-in, cell_number-of}
 use Rattle.rota_judge.proofs.ObjectiveBound.{objective-below, objective_value-positive}
-use Rattle.rota_items.proofs.RunLaw.{weighted_shortages-day_items, weighted_shortages-run_items}
-use Rattle.rota_items.proofs.SlackBound.{constraints-below, variables-below}
-use Rattle.rota_items.proofs.SoftRules.EachRule.{sound-rule}
 use Rattle.rota_items.specs.ModelCosts.{IsChargedOn}
-use Rattle.rota_items.proofs.SoftRules.ConsecutiveDays.{weighted-off_runs, weighted-on_runs, weighted-work_runs}
 use Rattle.rota_judge.proofs.Occurrence.{occurs-exactly}
 
 module _ (problem : Problem) (roster : Roster) where

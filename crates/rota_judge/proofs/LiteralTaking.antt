@@ -1,6 +1,6 @@
 -- How the list of literals taken by a taker grows, literal by literal.
 use Rattle.rota_judge.proofs.Common.Imports.{◌≡◌, ℕ, ◌+◌, ◌<◌, Bool, List, [], ◌∷◌, Result, MatchResult, refl, concat_below-more, RefusedOne, TookLiterals}
-use Rattle.rota_items.proofs.Taking.{Refused-one, Takes-then, takes_one, loop_refused}
+use Rattle.rota_items.proofs.ItemLemmas.{Refused-one, Takes-then, takes_one, loop_refused}
 use Rattle.rota_judge.specs.LiteralTakes.{TakesLiterals}
 use Rattle.rota_judge.specs.SlackValues.{truths_below}
 use Rattle.rota_judge.specs.declared.literals.literal_takers.LiteralTaker.{Ghosts}

@@ -9,7 +9,7 @@ use Rattle.rota_judge.proofs.ModelRows.{each-model_row}
 use Rattle.rota_core.specs.RisingLists.{RisesWithin}
 use Rattle.rota_core.proofs.LogicWords.{length-rising}
 use Rattle.rota_judge.proofs.ModelTerms.{RisesTo, variable_of, objective-to_last, rises-to_last}
-use Rattle.rota_items.proofs.SlackBound.{rows-below}
+use Rattle.rota_items.proofs.ItemLemmas.{rows-below}
 use Rattle.rota_judge.proofs.Occurrence.{at_variable, occurs-exactly}
 
 abbrev pub counts_row : LinearRow ℕ → Bool

@@ -5,8 +5,7 @@ use Rattle.rota_judge.proofs.Common.Imports.{item_rows, slack_count, soft_items,
 use Rattle.rota_judge.proofs.HardRules.EachRule.{each-row}
 use Rattle.rota_judge.proofs.HardRules.Sound.{IsRowSound}
 use Rattle.rota_items.proofs.LogicWords.{all-map}
-use Rattle.rota_items.proofs.SoftRules.EachRule.{each-item}
-use Rattle.rota_items.proofs.SoftRules.Sound.{IsItemSound}
+use Rattle.rota_items.proofs.ItemLemmas.{each-item, IsItemSound}
 
 module _ (problem : Problem) where
   abbrev end : ℕ

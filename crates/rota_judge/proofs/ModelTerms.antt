@@ -5,13 +5,11 @@ use Rattle.rota_judge.proofs.Common.Imports.{model_of, unit_row, IsUnit, HasUnit
 use Rattle.rota_judge.proofs.Common.Imports.{AllByRecursion, range_with_len, sum_by-cons, first_slack, slack_count, constant_terms, cell_terms, constant}
 use Rattle.rota_judge.proofs.Common.Imports.{Item, Constraint, slack_weights, soft_items, objective_terms, numbered_items, RisesFrom, HasRisingTerms}
 use Rattle.rota_judge.proofs.ModelRows.{each-model_row}
-use Rattle.rota_items.proofs.SoundTerms.{AreUnits, coefficients-numbered, units-times}
+use Rattle.rota_items.proofs.ItemLemmas.{AreUnits, coefficients-numbered, units-times, slack_count-numbered, rises-numbered}
+use Rattle.rota_items.proofs.ItemLemmas.{rise-cell_terms}
 use Rattle.rota_items.proofs.LogicWords.{all-map, all-weaker}
-use Rattle.rota_items.proofs.SlackBound.{slack_count-numbered}
 use Rattle.rota_core.specs.RisingLists.{RisesWithin}
 use Rattle.rota_core.proofs.LogicWords.{widen, rises-append, rises-singleton_if}
-use Rattle.rota_items.proofs.RisingCells.{rises-numbered}
-use Rattle.rota_items.proofs.SoftRules.EachRule.{rise-cell_terms}
 
 -- ---- coefficients
 

@@ -2,7 +2,7 @@
 use Rattle.rota_judge.proofs.Common.Imports.{◌≡◌, ℕ, ◌-◌, ◌<◌, ap, ◌∙◌, arith, InWeek, cell_index, cell_at, Problem, Cell}
 use Rattle.rota_judge.proofs.Common.Imports.{cell_number, unit_number, cell_of_number, ◌+◌, true, false, refl, sym, slice_index_or}
 use Rattle.rota_judge.proofs.Common.Imports.{lt-ltb, ne_eqb, eq-eqb, Roster, RosterTables, HasShapeOf, set_of, assignment_of}
-use Rattle.rota_items.proofs.RisingCells.{cell_number-below}
+use Rattle.rota_items.proofs.ItemLemmas.{cell_number-below}
 use Rattle.rota_core.proofs.CellIndices.{cell_at-in, cell_at-index, index-cell_at}
 
 pub cell_of-cell_number : (problem : Problem) (one : Cell) → InWeek problem one → cell_of_number problem (cell_number problem one) ≡ one

@@ -6,15 +6,13 @@ use Rattle.rota_judge.proofs.Common.Imports.{constant_terms, slack_variables, sl
 use Rattle.rota_judge.proofs.Common.Imports.{numbered_items, objective_terms, model_of, IsWithinLimits, max_coefficient, ◌*◌, ◌≤◌, ap, sum_by-cons}
 use Rattle.rota_judge.proofs.Common.Imports.{count_by-le-length, sum_by, count_by, mul-le-mul_left, unit_number, roster_of, max_objective, max_weight}
 use Rattle.rota_items.proofs.LogicWords.{all-map, all-weaker, sum_by-map}
-use Rattle.rota_items.proofs.RuleSizes.{constant-few, soft_items-le, each-small}
-use Rattle.rota_items.proofs.SoftRules.EachRule.{each-item, cell_terms-are, sound-cell_terms}
-use Rattle.rota_items.proofs.SoftRules.ShiftOffRequests.{IsTermSound, value_of-request_terms}
-use Rattle.rota_rules.proofs.SmallCosts.{request_cost-le}
-use Rattle.rota_items.proofs.SoundTerms.{OnCoefficients, coefficients-times, coefficients-numbered}
+use Rattle.rota_items.proofs.ItemLemmas.{constant-few, soft_items-le, each-small, each-item, cell_terms-are, sound-cell_terms}
+use Rattle.rota_items.proofs.ItemLemmas.{IsTermSound, value_of-request_terms, OnCoefficients, coefficients-times, coefficients-numbered}
+use Rattle.rota_items.proofs.ItemLemmas.{value_of-append}
+use Rattle.rota_rules.proofs.CostLemmas.{request_cost-le}
 use Rattle.std.proofs.lemmas.List.FromFn.{length-range_with_len as length-range}
 use Rattle.rota_judge.proofs.Extension.{value_of-objective}
 use Rattle.rota_judge.proofs.ItemLaw.{value_of-weight, value_of-numbered}
-use Rattle.rota_items.proofs.PatternItems.{value_of-append}
 
 module _ (problem : Problem) (P : ℤ → Type 0) where
   abbrev OnWeight : {X : Type 0} → Item X → Type 0

@@ -4,15 +4,11 @@ use Rattle.rota_judge.proofs.Common.Imports.{pos, negsuc, ◌==◌, AllByRecursi
 use Rattle.rota_judge.proofs.Common.Imports.{cases_Bool, eqb-true, sum_by-cons, Any-from_list_any, Problem, Cell, work_cells, cell_number, cell_of_number}
 use Rattle.rota_judge.proofs.Common.Imports.{unit_number, first_slack, rule_rows, Item, Term, times, LinearRow, linear_constraint, item_rows, slack_count}
 use Rattle.rota_judge.proofs.Common.Imports.{soft_items, hard_rows, numbered_row, numbered_items, rows_of, model_of, occurs_in, OccursInSome}
-use Rattle.rota_items.proofs.CellCounts.{none-pass}
+use Rattle.rota_items.proofs.ItemLemmas.{none-pass, any_or_none, rises-between, work-are, slack_count-numbered, OnTerms}
 use Rattle.rota_judge.proofs.HardRules.EachRule.{h1-are, rows-are}
-use Rattle.rota_items.proofs.PatternItems.{any_or_none}
-use Rattle.rota_items.proofs.RisingCells.{rises-between, work-are}
 use Rattle.rota_items.proofs.LogicWords.{all-weaker, all-back}
-use Rattle.rota_items.proofs.SlackBound.{slack_count-numbered}
 use Rattle.rota_judge.proofs.Numbers.{cell_of_number-in, cell_number-of}
 use Rattle.rota_judge.proofs.ModelTerms.{RisesTo, variable_of, rises-to_last}
-use Rattle.rota_items.proofs.SoundTerms.{OnTerms}
 
 abbrev pub at_variable : ℕ → Term ℕ → Bool
 at_variable v term = term.1 == v

@@ -5,12 +5,12 @@ use Rattle.rota_judge.proofs.Common.Imports.{problem_of, Problem, Item, LinearRo
 use Rattle.rota_judge.proofs.Common.Imports.{JudgeState, Subject, Tally, extended, lacking_in, no_tally, Soft, start_row, term_events, TakesAll}
 use Rattle.rota_judge.specs.JudgeState.{fresh}
 use Rattle.rota_judge.proofs.ExtensionTruths.{item_truths, week-slacks}
-use Rattle.rota_rules.proofs.InstanceLimits.{instance-within_limits}
+use Rattle.rota_rules.proofs.CostLemmas.{instance-within_limits}
 use Rattle.rota_judge.proofs.JudgedItems.{IsFit, not_cut, shortage-extended}
 use Rattle.rota_judge.proofs.JudgedModel.{items-fit}
 use Rattle.rota_judge.proofs.JudgedRows.{opened, others-before, row-opened}
 use Rattle.rota_judge.proofs.JudgedVerdict.{tally-driven}
-use Rattle.rota_items.proofs.Taking.{Refused-after, Refused-before}
+use Rattle.rota_items.proofs.ItemLemmas.{Refused-after, Refused-before}
 use Rattle.rota_judge.specs.LiteralTakes.{TakesLiterals}
 use Rattle.rota_judge.specs.SlackValues.{StopsAtSlacks, SlackState, first_true, slack_truths, slacks_judged, with_slacks_of, with_terms_of}
 use Rattle.rota_judge.specs.declared.literals.literal_takers.LiteralTaker.{Ghosts}

@@ -10,7 +10,7 @@ use Rattle.rota_judge.proofs.Common.Imports.{assigned, assignment_in, extended, 
 use Rattle.rota_core.specs.RuleNames.{is_rule}
 use Rattle.rota_judge.proofs.Extension.{extension-objective, extension-satisfies, extension-unit, satisfying-keeps, satisfying-objective, extension-roster}
 use Rattle.rota_judge.proofs.FirstUnmet.{Decided, Named, first_unmet-decides, hard-first_broken}
-use Rattle.rota_items.proofs.SoftRules.EachRule.{SoftItem, charged_on, soft_items-soft, sound-rule}
+use Rattle.rota_items.proofs.ItemLemmas.{SoftItem, charged_on, soft_items-soft, sound-rule}
 use Rattle.rota_items.specs.ModelCosts.{IsChargedOn}
 
 abbrev IsSoftRule : Rule → Type 0

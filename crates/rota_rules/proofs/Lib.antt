@@ -1,5 +1,6 @@
-pub mod AlikeCosts
+mod AlikeCosts
+pub mod CostLemmas
 mod EarlyCharges
-pub mod InstanceLimits
+mod InstanceLimits
 pub mod LogicWords
-pub mod SmallCosts
+mod SmallCosts

@@ -67,7 +67,7 @@ unfoldable pub use Rattle.rota_items.specs.Events.{term_events, events}
 unfoldable pub use Rattle.rota_items.specs.SentItems.{numbered_list}
 pub use Rattle.rota_items.specs.Takes.{RefusedOne, TakesAll}
 pub use Rattle.rota_judge.specs.LiteralTakes.{TookLiterals}
-pub use Rattle.rota_items.proofs.RuleSizes.{half_limit}
+pub use Rattle.rota_items.proofs.ItemLemmas.{half_limit}
 pub use Rattle.rota_items.specs.declared.part.Part.{Part}
 pub use Rattle.rota_items.specs.declared.part.Part.TheVariants.{Objective, Hard, Soft}
 -- of the judge: its subject, its tallies and sums, and its verdicts

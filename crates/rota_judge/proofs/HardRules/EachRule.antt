@@ -4,12 +4,11 @@ use Rattle.rota_judge.proofs.Common.Imports.{cases_Bool, true≢false, ltb-false
 use Rattle.rota_judge.proofs.Common.Imports.{AllByRecursion, flat_map, KeepsHardRules, InWeek, Roster, Has, cell, hard_rules, Problem}
 use Rattle.rota_judge.proofs.Common.Imports.{Rule, Cell, cell_number, cells_of, demand_cells, skill_cells, work_cells, h1_row, h1_rows}
 use Rattle.rota_judge.proofs.Common.Imports.{h2_row, h4_row, h5_row, h5_rows, rows_of_hard_rule, rule_rows, LinearRow, H1, H2, H3, H4, H5}
-use Rattle.rota_items.proofs.CellCounts.{count-none, none-pass, one-work, the_one}
+use Rattle.rota_items.proofs.ItemLemmas.{count-none, none-pass, one-work, the_one, in-cell, rises-skill_cells, rises-work_cells}
+use Rattle.rota_items.proofs.ItemLemmas.{skill-are, work-are, in-work_cells, sound-cells, sound-demand}
 use Rattle.rota_judge.proofs.HardRules.Sound.{at_least, at_most, one-where_true, AllHold, Holds, IsHardRuleSound, IsRowSound, Keeps}
 use Rattle.rota_judge.proofs.HardRules.Succession.{succession}
 use Rattle.rota_items.proofs.LogicWords.{all-weaker, count_by-each, Are, alone, in-parts, in-turns, listed, of-each, where-holds}
-use Rattle.rota_items.proofs.RisingCells.{in-cell, rises-skill_cells, rises-work_cells, skill-are, work-are}
-use Rattle.rota_items.proofs.SoundTerms.{in-work_cells, sound-cells, sound-demand}
 
 module _ (problem : Problem) where
   -- ---- H1: at most one cell of a nurse's day

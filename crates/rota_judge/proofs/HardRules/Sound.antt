@@ -2,8 +2,7 @@
 use Rattle.rota_judge.proofs.Common.Imports.{◌≡◌, ◌↔◌, ℕ, ◌≤◌, ◌≤ℤ◌, ◌-ℤ◌, pos, negsuc, ◌+ℤ◌, Bool, true, false, cond, refl, arith, ints, List}
 use Rattle.rota_judge.proofs.Common.Imports.{AllByRecursion, count_by, times, KeepsOneCell, KeepsMinimum, KeepsSuccession, KeepsSkills, KeepsHeld}
 use Rattle.rota_judge.proofs.Common.Imports.{Roster, Problem, Rule, Cell, rows_of_hard_rule, value_of, LinearRow, H1, H2, H3, H4, H5, Hard}
-use Rattle.rota_items.proofs.SoundTerms.{AreSound}
-use Rattle.rota_items.proofs.PatternItems.{value_of-sum}
+use Rattle.rota_items.proofs.ItemLemmas.{AreSound, value_of-sum}
 
 -- the row holds on the roster
 abbrev pub Holds : Roster → LinearRow Cell → Type 0

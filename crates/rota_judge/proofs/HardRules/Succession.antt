@@ -3,12 +3,9 @@ use Rattle.rota_judge.proofs.Common.Imports.{◌≡◌, ℕ, ◌+◌, ◌<◌, �
 use Rattle.rota_judge.proofs.Common.Imports.{Option, Some, None, cases_Bool, sum_by-append, AllByRecursion-append, KeepsOneCell, KeepsSuccession}
 use Rattle.rota_judge.proofs.Common.Imports.{is_on, InWeek, Roster, Problem, cell_number, on_cells, h3_monday_row, h3_row, is_forbidden_after, H3}
 use Rattle.rota_core.proofs.LogicWords.{rises-append}
-use Rattle.rota_items.proofs.CellCounts.{any-on_cells, one-on}
+use Rattle.rota_items.proofs.ItemLemmas.{any-on_cells, one-on, any_or_none, day_start, on-keeps, rises-on_cells, in-on_cells, sound-cells}
 use Rattle.rota_judge.proofs.HardRules.Sound.{at_most, Holds, IsHardRuleSound, IsRowSound}
 use Rattle.rota_items.proofs.LogicWords.{in-parts, in-turns, where-holds}
-use Rattle.rota_items.proofs.PatternItems.{any_or_none}
-use Rattle.rota_items.proofs.RisingCells.{day_start, on-keeps, rises-on_cells}
-use Rattle.rota_items.proofs.SoundTerms.{in-on_cells, sound-cells}
 
 module _ (problem : Problem) where
   module _ (roster : Roster) where

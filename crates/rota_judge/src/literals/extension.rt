@@ -11,7 +11,7 @@ use crate::literals::slack_values::emit_slack_values;
 use rota_core::{Instance, Roster};
 
 // The literals of the cells, and the literal of the unit variable.
-#[tactic(auto, using(rota_items::proofs::Taking::taking))]
+#[tactic(auto, using(rota_items::proofs::ItemLemmas::taking))]
 fn emit_assigned<T: LiteralTaker>(
     instance: &Instance,
     roster: &Roster,

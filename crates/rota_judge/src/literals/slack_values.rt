@@ -16,7 +16,7 @@ use rota_items::{
 use std::convert::Infallible;
 
 // The literals of `count` variables. The first `maximum` are true, or all if `maximum` is larger.
-#[tactic(auto, using(rota_items::proofs::Taking::taking))]
+#[tactic(auto, using(rota_items::proofs::ItemLemmas::taking))]
 fn emit_first_true<T: LiteralTaker>(taker: &mut T, count: u32, maximum: u64) -> Result<(), T::Fault>
     ensures { TakesLiterals T.LiteralTaker (first_true count maximum) taker.old taker.new result }
 {

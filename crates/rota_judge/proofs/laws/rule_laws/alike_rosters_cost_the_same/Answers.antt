@@ -1,4 +1,4 @@
-use Rattle.rota_rules.proofs.AlikeCosts.{penalty-alike, rule_cost-alike}
+use Rattle.rota_rules.proofs.CostLemmas.{penalty-alike, rule_cost-alike}
 use Rattle.rota_judge.proofs.AlikeRosters.{keeps-alike}
 use Rattle.rota_judge.proofs.laws.rule_laws.alike_rosters_cost_the_same.Goals as goal
 

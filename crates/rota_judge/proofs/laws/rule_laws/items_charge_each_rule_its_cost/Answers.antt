@@ -1,5 +1,5 @@
 use Rattle.rota_judge.proofs.LawProofs.{charged-rule}
-use Rattle.rota_items.proofs.SoftRules.EachRule.{charged_on}
+use Rattle.rota_items.proofs.ItemLemmas.{charged_on}
 use Rattle.rota_judge.proofs.laws.rule_laws.items_charge_each_rule_its_cost.Goals as goal
 
 pub returns-clause-charges : goal.returns-clause-charges

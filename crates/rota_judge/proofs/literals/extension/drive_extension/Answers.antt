@@ -1,6 +1,6 @@
 use Rattle.rota_judge.proofs.Common.{exits, problem_of, set_of}
 use Rattle.rota_judge.proofs.ExtensionTruths.{truths-parts}
-use Rattle.rota_items.proofs.Taking.{Refused-before, Takes-then}
+use Rattle.rota_items.proofs.ItemLemmas.{Refused-before, Takes-then}
 use Rattle.rota_judge.proofs.literals.extension.drive_extension.Goals as goal
 
 pub returns-in_err-emit_assigned-clause-takes : goal.returns-in_err-emit_assigned-clause-takes
