@@ -4,7 +4,7 @@ use Rattle.rota_items.proofs.Common.Imports.{AllByRecursion-singleton_if, Cell, 
 use Rattle.rota_items.proofs.Common.Imports.{numbered_row, rule_rows, rows_of_hard_rule, hard_rules, h5_row, rows_of, item_rows, first_slack}
 use Rattle.rota_items.proofs.Common.Imports.{numbered_items, H1, H2, H3, H4, H5, h3_rows_of, flat_map}
 use Rattle.std.specs.Prelude.{◌≢◌, ◌+◌}
-use Rattle.rota_items.proofs.Lists.{all-flat_map, all-map}
+use Rattle.rota_items.proofs.LogicWords.{all-flat_map, all-map}
 
 abbrev IsConstraint : {X : Type 0} → LinearRow X → Type 0
 IsConstraint row = row.part ≢ Objective
