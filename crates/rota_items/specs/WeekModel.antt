@@ -1,4 +1,4 @@
--- The model of a week, over the numbers of its variables; and the slacks of items: their numbers, and the slacks that are needed.
+-- The model of a week, over the numbers of its variables; and the numbers of the slacks of items.
 use Rattle.std.specs.Prelude.{◌+◌, ◌∷◌, ◌++◌, ◌-◌}
 use Rattle.rota_items.specs.Imports.{ℕ, pos, nat_lt, List, [], map, sum_by, range_with_len, Cell, Problem, Unit}
 use Rattle.rota_items.specs.Rows.{Term, Constraint, Model, LinearRow, Hard, Soft, linear_constraint, times, Item, numbered, cell_at}

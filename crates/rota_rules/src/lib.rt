@@ -1,7 +1,7 @@
 //! The soft rules: the weights, and the cost of a roster in a week.
 //!
-//! The specs define the costs. A nurse who has worked 12 times, and may work 15 times in all, pays with `--early` for
-//! the assignments above 15 in each of the weeks in which she works 3 and 2 times more:
+//! The specs define the costs. With `--early` a week charges the assignments above the maximum when they occur. A nurse
+//! who may work 15 times has worked 12 times; in the next two weeks she works 3 and 2 times, so 2 assignments are charged:
 //!
 //! ```
 //! assert_eq!(rt; early_excess(15, 12, &[3, 2]), 2);
