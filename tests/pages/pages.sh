@@ -135,13 +135,13 @@ CONTRIBUTING.md 901
 examples/README.md 302
 bench/README.md 659
 README.md 694
-docs/DECISIONS.md 1043
+docs/DECISIONS.md 1080
 docs/answers.md 1540
-docs/changing.md 785
+docs/changing.md 797
 docs/embedding.md 1477
 docs/formats.md 1311
 docs/helpers.md 838
-docs/layers.md 532
+docs/layers.md 536
 docs/model.md 1686
 docs/promises.md 632
 docs/proved.md 1355

@@ -1,4 +1,4 @@
-//! Ports over memory, for tests.
+//! Ports over memory.
 ghost use Rattle.std.specs.Prelude.{◌≡◌, ◌<◌, ◌≤◌, ◌+◌, ◌-◌, ◌||◌, false, nat_eq, Some, [], length, is_err, IfOk, MatchResult, vec_len, vec_capacity};
 ghost use Rattle.byte_ports.specs.SourceCalls.{ReadsInto};
 ghost use Rattle.byte_ports.specs.TargetCalls.{FlushesSent, WritesPiece};

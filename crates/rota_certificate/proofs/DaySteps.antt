@@ -11,7 +11,7 @@ use Rattle.rota_core.specs.Roster.{Roster, cell}
 use Rattle.rota_core.specs.Problem.{Problem}
 use Rattle.rota_core.specs.declared.values.Past.{Past}
 use Rattle.rota_core.specs.declared.values.Span.{Span}
-use Rattle.rota_rules.specs.Successions.{is_forbidden_after}
+use Rattle.rota_core.specs.Successions.{is_forbidden_after}
 use Rattle.rota_rules.specs.Runs.{day_cost}
 use Rattle.rota_rules.specs.Runs.{run_length}
 use Rattle.rota_rules.specs.ConsecutiveAssignments.{history_on, work_run_weight}

@@ -9,7 +9,7 @@ use Rattle.rota_core.specs.Problem.{Problem}
 use Rattle.rota_core.specs.declared.values.Contract.{Contract}
 use Rattle.rota_core.specs.declared.values.Past.{Past}
 use Rattle.rota_core.specs.declared.values.Span.{Span}
-use Rattle.rota_rules.specs.Successions.{is_forbidden_after}
+use Rattle.rota_core.specs.Successions.{is_forbidden_after}
 use Rattle.rota_rules.specs.TotalAssignments.{assignment_weight}
 use Rattle.rota_certificate.specs.EquivalentPasts.{AreEquivalent, AreEquivalentNumbers, HaveSameLimits, IsSameForEquivalent}
 use Rattle.rota_certificate.specs.DayCharges.{assignment_above, day_cost, fixed_charge, is_shift, missing_total, over_charge, past_after, run_charge, run_on}

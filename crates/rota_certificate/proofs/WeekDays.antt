@@ -14,7 +14,7 @@ use Rattle.rota_core.specs.declared.certificate.ChargeKind.TheVariants.{ShiftRun
 use Rattle.rota_core.specs.declared.values.Contract.{Contract}
 use Rattle.rota_core.specs.declared.values.Past.{Past}
 use Rattle.rota_core.specs.declared.values.Span.{Span}
-use Rattle.rota_rules.specs.Successions.{is_forbidden_after}
+use Rattle.rota_core.specs.Successions.{is_forbidden_after}
 use Rattle.rota_rules.specs.Runs.{day_cost}
 use Rattle.rota_rules.specs.Runs.{is_over, run_cost, run_over, run_under, run_length}
 use Rattle.rota_rules.specs.CompleteWeekends.{complete_weekend_cost_of}

@@ -9,7 +9,7 @@ use Rattle.rota_core.specs.Roster.{cell}
 use Rattle.rota_core.specs.Problem.{Problem}
 use Rattle.rota_core.specs.SumsBelow.{any_below}
 use Rattle.rota_core.specs.declared.values.Past.{Past}
-use Rattle.rota_rules.specs.Successions.{is_forbidden_after}
+use Rattle.rota_core.specs.Successions.{is_forbidden_after}
 use Rattle.rota_rules.specs.TotalAssignments.{assignment_weight}
 use Rattle.rota_certificate.specs.Minimums.{least_below, not_allowed}
 use Rattle.rota_certificate.specs.DayCharges.{day_cost, missing_total, past_after, start_cost}

@@ -25,6 +25,7 @@ pub mod RuleNames
 pub mod Rules
 pub mod ScenarioTables
 pub mod Sizes
+pub mod Successions
 pub mod SumsBelow
 pub mod WeekTables
 pub mod Words

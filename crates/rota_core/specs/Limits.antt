@@ -34,7 +34,7 @@ max_number = 9999
 abbrev pub max_price : ℕ
 max_price = 999999999
 
--- the maximum number of bytes in a scenario, history, week, solution, fix or prices file
+-- the maximum number of bytes in a scenario, history, week, solution, fix, certificate or facts file
 abbrev pub max_file_len : ℕ
 max_file_len = 4194304
 

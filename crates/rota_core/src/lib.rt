@@ -1,4 +1,4 @@
-//! The data that all crates of the product share: the tables of a rostering week.
+//! The data that the crates above share: tables of a rostering week, rosters and certificates.
 //!
 //! Puts a shift on Sunday into a roster of the week that `instance` describes:
 //!

@@ -25,6 +25,6 @@ pub const MAX_NUMBER: u16 = 9999;
 /// The maximum price, in thousandths of a point.
 pub const MAX_PRICE: u32 = 999_999_999;
 
-/// The maximum number of bytes in a scenario, history, week, solution, fix or prices file. A solver's answer may
-/// have any length.
+/// The maximum number of bytes in a scenario, history, week, solution, fix, certificate or facts file. A
+/// solver's answer may have any length.
 pub const MAX_FILE_LEN: usize = 4_194_304;

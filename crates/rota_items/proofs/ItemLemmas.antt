@@ -1,4 +1,4 @@
--- The lemmas of this crate that the proofs of the meaning of the model use.
+-- The lemmas of this crate that the proofs of `rota_judge` use.
 pub use Rattle.rota_items.proofs.CellCounts.{any-on_cells, count-none, count-on_cells, count-work_cells, none-pass, one-on, one-work}
 pub use Rattle.rota_items.proofs.CellCounts.{the_one}
 pub use Rattle.rota_items.proofs.PatternItems.{any_or_none, chosen-small, positive_part-parts, shortage-minimum, spread, value_of-append}

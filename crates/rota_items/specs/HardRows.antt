@@ -1,6 +1,6 @@
 -- The rows that mean the hard rules, over cells.
 use Rattle.std.specs.Prelude.{◌∷◌, ◌+◌, ◌-◌, ◌++◌, ℕ, pos, negsuc, nat_lt, not}
-use Rattle.rota_rules.specs.Successions.{is_forbidden_after}
+use Rattle.rota_core.specs.Successions.{is_forbidden_after}
 use Rattle.rota_items.specs.Imports.{DAYS, List, [], map, flat_map, Cell, Problem, Rule, hard_rules, H1, H2, H3, H4, H5}
 use Rattle.rota_items.specs.Rows.{LinearRow, Hard, times, concat_below, singleton_if, on_cells, work_cells, demand_cells, skill_cells}
 use Rattle.rota_items.specs.Rows.{cells_of}

@@ -1,4 +1,4 @@
--- The charge of the model for a rule, as the laws and the judge use it.
+-- The charge of the model for a rule, as `rota_judge` uses it.
 use Rattle.std.specs.Prelude.{◌*◌, ◌+◌, ◌+ℤ◌}
 use Rattle.rota_items.specs.Imports.{ℕ, ℤ, pos, Bool, List, sum_by, Rule, Roster, Problem, sum_below}
 use Rattle.rota_core.specs.HardRules.{KeepsMinimum, KeepsOneCell}

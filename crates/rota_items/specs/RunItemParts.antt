@@ -1,4 +1,4 @@
--- The run items of a day, and the conditions of the laws on run items.
+-- The run items of a day, and the conditions of the laws of `rota_judge` on them.
 use Rattle.std.specs.Prelude.{◌≤◌, ◌<◌, ◌++◌, ◌≡◌, ◌+◌}
 use Rattle.rota_core.specs.Sizes.{DAYS}
 use Rattle.rota_items.specs.Imports.{ℕ, Bool, List, map, count_by, length, range_with_len, not, list_any}

@@ -158,7 +158,7 @@ pub fn constant(instance: &Instance) -> u64
 /// avoid: the history is above a maximum of the contract, or too far below the minimum for seven assignments
 /// to reach it. With early charging, the excess before the week is not included.
 ///
-/// Each assignment costs 20 and each weekend 30, as in INRC-II. Both parts are 0 except in the last week.
+/// Each assignment and each weekend costs its weight. Both parts are 0 except in the last week.
 pub fn constant_parts(instance: &Instance) -> [u64; 2]
     ensures { let problem = problem_of instance.now in
         result ≡ constant_of_assignments problem ∷ constant_of_weekends problem ∷ [] }

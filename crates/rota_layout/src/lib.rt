@@ -1,4 +1,4 @@
-//! The text of a file as tokens, and the slots that they fill in order, which all files of a rostering week share.
+//! The text of a file as tokens, and the slots that they fill in order, which all files share.
 //!
 //! A layout lists the slots of a file. A `Cursor` reads them one by one: each of its functions reads one slot or a few, and
 //! stops at the text's one fault. The crates above read whole files with it:

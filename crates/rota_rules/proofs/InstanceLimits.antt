@@ -1,4 +1,4 @@
--- The numbers of an instance's week are within the limits that bound the model's numbers.
+-- The numbers of an instance's week are within the limits of the files.
 use Rattle.std.proofs.Common.{rules, ℕ, zero, suc, ◌≤◌, List, [], ◌∷◌, arith, slice_index_or}
 use Rattle.std.specs.List.{AllByRecursion}
 use Rattle.rota_core.specs.Defaults.{no_demand, no_past, no_span}

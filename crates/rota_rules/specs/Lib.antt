@@ -10,7 +10,6 @@ pub mod OptimalCoverage
 pub mod Penalty
 pub mod Runs
 pub mod ShiftOffRequests
-pub mod Successions
 pub mod TotalAssignments
 pub mod WithinLimits
 pub mod WorkedWeekends

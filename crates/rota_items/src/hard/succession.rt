@@ -3,7 +3,7 @@ ghost use Rattle.std.specs.Prelude.{◌≡◌, ◌<◌, ◌+◌, ◌-◌};
 ghost use Rattle.rota_core.specs.InstanceTables.{problem_of};
 ghost use Rattle.rota_core.specs.Lists.{concat_below};
 ghost use Rattle.rota_items.specs.HardRows.{h3_monday_rows, h3_rows, h3_rows_at, h3_rows_between, h3_rows_of};
-ghost use Rattle.rota_rules.specs.Successions.{is_forbidden_after};
+ghost use Rattle.rota_core.specs.Successions.{is_forbidden_after};
 ghost use Rattle.rota_items.specs.Takes.{TakesRows};
 
 use crate::cell_sum::CellSum;

@@ -38,7 +38,7 @@ pub use Rattle.rota_items.specs.Counting.{counted, counts_of, maximum, is_constr
 pub use Rattle.rota_judge.specs.FirstUnmet.{first_unmet, later, rule_of_part, FirstBroken, NamesFirstBroken}
 pub use Rattle.rota_items.specs.HardRows.{rows_of_hard_rule, rule_rows, h5_row, h1_row, h1_rows, h2_row, h5_rows, h3_monday_row, h3_row}
 pub use Rattle.rota_items.specs.HardRows.{h4_row}
-pub use Rattle.rota_rules.specs.Successions.{is_forbidden_after}
+pub use Rattle.rota_core.specs.Successions.{is_forbidden_after}
 pub use Rattle.rota_judge.specs.ItemConstraints.{AreBelow, item_constraints, item_constraint}
 pub use Rattle.rota_rules.specs.WithinLimits.{IsWithinLimits}
 pub use Rattle.rota_items.specs.Linear.{Term, value_of, Satisfies, Constraint, SatisfiesModel, objective_value}
