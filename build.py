@@ -6,7 +6,7 @@ usage: build.py PROGRAM=CRATE ..
   PROGRAM=CRATE  the program of this crate becomes out/PROGRAM
 
 The order comes from crates.txt. Of the crates that can be proved, the one with the longest chain of crates above it comes first; a crate
-counts by the bytes of its sources. Each has a job for half of the processors, and one that is alone for all: the functions of a crate wait
+counts by the bytes of its code. Each has a job for half of the processors, and one that is alone for all: the functions of a crate wait
 for one another, so more jobs are worth less and less. For the same reason crates start until there are a quarter more jobs than processors;
 a longer chain has the higher priority.
 
@@ -61,6 +61,10 @@ class Crate(NamedTuple):
         """The file that `rt` writes last: the program, or the mark of the library."""
         return self.home / "out" / (self.name if self.is_program else "rlib/stamp")
 
+    def code_size(self) -> int:
+        """The bytes of its code, whose functions are what takes time to prove."""
+        return sum(path.stat().st_size for path in (self.home / "src").rglob("*.rt"))
+
     def sources(self) -> Iterator[Path]:
         """The files that `rt` reads."""
         for part in ("src", "specs", "proofs"):
@@ -93,7 +97,7 @@ def chains(crates: Dict[str, Crate]) -> Dict[str, int]:
     lengths: Dict[str, int] = {}
     for name, crate in reversed(list(crates.items())):
         above = [lengths[other] for other, one in crates.items() if name in one.below]
-        lengths[name] = sum(path.stat().st_size for path in crate.sources()) + max(above, default=0)
+        lengths[name] = crate.code_size() + max(above, default=0)
     return lengths
 
 
