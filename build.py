@@ -62,7 +62,7 @@ class Crate(NamedTuple):
         return self.home / "out" / (self.name if self.is_program else "rlib/stamp")
 
     def code_size(self) -> int:
-        """The bytes of its code, whose functions are what takes time to prove."""
+        """The bytes of its code: most of the time goes into proofs of its functions."""
         return sum(path.stat().st_size for path in (self.home / "src").rglob("*.rt"))
 
     def sources(self) -> Iterator[Path]:

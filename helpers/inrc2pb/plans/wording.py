@@ -83,6 +83,6 @@ class Wording:
 
 
 def _named(text: str, names: Collection[str], whole: bool = False) -> List[str]:
-    """The names that begin with this text, in small or capital letters, or those that it is as a whole."""
+    """The names that begin with this text, or that equal it if it is a whole name; case does not matter."""
     wanted = text.replace(" ", "_").casefold()
     return [name for name in names if name.casefold()[: None if whole else len(wanted)] == wanted]

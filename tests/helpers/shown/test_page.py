@@ -161,7 +161,7 @@ class Page(PageTest):
         self.assertEqual(rows[2][1], "DcDay Charge")
         self.assertIn("c = Charge", [words(item) for item in page.iter("li")])
         self.assertIn("Amara,10,17 to 21,7 to 11 left,10,0,0,2,2,1,0,1,10".split(","), self.caption(page, "Totals"))
-        # On a wall the sums say of which weeks they are.
+        # On a wall the heads of the sums name their weeks.
         wall = self.page("--only-table", later, self.changed(ROSTER, "0 ward", "2 ward", "last.txt"))
         self.assertEqual(self.caption(wall, "Shifts")[0], ["", "week 1", "week 2", "weeks 1 to 2"])
         # A table of the roster has four weeks, and one of the coverage has two.
