@@ -1,7 +1,7 @@
 #!/usr/bin/env bash
 # Checks the pages: runs each shell block, in the order of its page, in a copy of the repository, and compares its output with
-# the block of text that follows it. Checks the links between the pages, their lengths, the roster that README.md shows, the table of
-# laws, that the code on a page is in a crate, and that the pages exist which sources and scripts name.
+# the block of text that follows it. Checks the links between the pages, that they answer the questions of their readers, the roster that
+# README.md shows, the table of laws, that the code on a page is in a crate, and that the pages exist which sources and scripts name.
 #
 #   tests/pages/pages.sh [llvm | rattle | PROGRAM]
 #
@@ -128,54 +128,14 @@ named_pages_exist() {
         '\b(docs|bench)/[A-Za-z_]+\.md|\b(README|CONTRIBUTING|CHANGELOG)\.md' crates/*/src tests | sort -u)
 }
 
-# The most words of each page, without its measured table, so that a new sentence takes the place of an old one.
-limits() {
-    cat << END
-CONTRIBUTING.md 909
-examples/README.md 302
-bench/README.md 659
-README.md 694
-docs/DECISIONS.md 1080
-docs/answers.md 1540
-docs/changing.md 797
-docs/embedding.md 1477
-docs/formats.md 1311
-docs/helpers.md 838
-docs/layers.md 536
-docs/model.md 1686
-docs/promises.md 632
-docs/proved.md 1355
-docs/reading.md 2729
-docs/rules.md 1354
-docs/solvers.md 1102
-docs/tested.md 715
-docs/trusted.md 775
-docs/your_ward.md 1278
-END
-}
-
-lengths_hold() {
-    local page most words
-    while read -r page most; do
-        begins_case "the length of $page"
-        words=$(sed '/^<!-- measured -->/,/^<!-- end of measured -->/d' "$page" | wc -w)
-        [ "$words" -le "$most" ] || complain "$words words, at most $most"
-    done < <(limits)
-    begins_case 'that each page has a limit, and README.md and docs together 20,000'
-    for page in README.md docs/*.md; do
-        limits | grep -q "^$page " || complain "$page has none"
-    done
-    words=$(limits | awk '/^(README.md|docs)/ { sum += $2 } END { print sum }')
-    [ "$words" -le 20000 ] || complain "$words words are allowed"
-}
-
 for page in README.md CONTRIBUTING.md CHANGELOG.md bench/README.md examples/README.md docs/*.md; do
     runs_blocks "$page"
     links_hold "$page"
     quotes_code "$page"
 done
 named_pages_exist
-lengths_hold
+begins_case 'the questions in tests/pages/questions.txt'
+python3 tests/pages/questions.py > "$room/questions" || complain "$(cat "$room/questions")"
 begins_case 'the laws in docs/proved.md'
 python3 tests/pages/laws.py compare > "$room/laws" || complain "$(cat "$room/laws")"
 shows_roster
