@@ -6,15 +6,19 @@ use Rattle.rota_certificate.specs.Minimums.{not_allowed}
 use Rattle.rota_certificate.specs.Nearness.{IsNear}
 use Rattle.rota_certificate.specs.NurseBounds.{LeafWeek, Terms, allowed_rebate, least_left}
 use Rattle.rota_certificate.specs.Stages.{IsStage, all_of, days_before, terms_of, week_of}
-use Rattle.rota_certificate.specs.declared.known.Known.{Known}
 use Rattle.rota_certificate.specs.declared.known.KnownCost.{KnownCost}
 use Rattle.rota_certificate.specs.declared.known.KnownRebate.{KnownRebate}
 use Rattle.rota_certificate.specs.declared.stages.Stage.{Stage}
 
--- there are entries for costs and for rebates
-pub record HasEntries (known : Known) : Type 0 where
-  pub costs : 0 < length known.costs.items
-  pub rebates : 0 < length known.rebates.items
+-- the entries for costs and for rebates: each is free, or has a cost or a rebate that was computed before
+pub record KnownTables : Type 0 where
+  pub costs : List (Option KnownCost)
+  pub rebates : List (Option KnownRebate)
+
+-- there is at least one entry for costs, and one for rebates
+pub record HasEntries (known : KnownTables) : Type 0 where
+  pub costs : 0 < length known.costs
+  pub rebates : 0 < length known.rebates
 
 -- the rebate of the first of the weeks
 abbrev pub first_rebate : List LeafWeek → (nurse day : ℕ) → Option ℕ → ℕ
@@ -29,29 +33,28 @@ IsRightCost terms weeks n known = known.cost ≡ least_left terms (drop known.we
 abbrev pub IsRightRebate : List LeafWeek → (nurse : ℕ) → KnownRebate → Type 0
 IsRightRebate weeks n known = known.rebate ≡ first_rebate (drop known.week weeks) n known.day known.choice
 
--- there are entries, and each cost and each rebate that is known is right for the nurse in the weeks
-pub record AreRightFor (terms : Terms) (weeks : List LeafWeek) (nurse : ℕ) (known : Known) : Type 0 where
-  pub entries : HasEntries known
-  pub costs : All (λ one. IfSome one (IsRightCost terms weeks nurse)) known.costs.items
-  pub rebates : All (λ one. IfSome one (IsRightRebate weeks nurse)) known.rebates.items
+-- each cost and each rebate that is known is right for the nurse in the weeks
+pub record AreRightFor (terms : Terms) (weeks : List LeafWeek) (nurse : ℕ) (known : KnownTables) : Type 0 where
+  pub costs : All (λ one. IfSome one (IsRightCost terms weeks nurse)) known.costs
+  pub rebates : All (λ one. IfSome one (IsRightRebate weeks nurse)) known.rebates
 
 -- the entries are right for the nurse of the stage
-abbrev pub AreRight : Stage → Known → Type 0
+abbrev pub AreRight : Stage → KnownTables → Type 0
 AreRight stage known = AreRightFor (terms_of stage) (all_of stage) stage.nurse known
 
 -- the search is at a stage, and the entries are right for it
-pub record IsReady (stage : Stage) (known : Known) : Type 0 where
+pub record IsReady (stage : Stage) (known : KnownTables) : Type 0 where
   pub at : IsStage stage
   pub right : AreRight stage known
 
 -- the search is before the last `left` days of the stage's week, after a past to which the days before them can lead
-pub record IsBefore (stage : Stage) (known : Known) (left : ℕ) (past : Past) : Type 0 where
+pub record IsBefore (stage : Stage) (known : KnownTables) (left : ℕ) (past : Past) : Type 0 where
   pub ready : IsReady stage known
   pub within : left ≤ DAYS
   pub near : IsNear (week_of stage).week.shifts (days_before stage (DAYS - left)) past
 
 -- the search has found this cost, and the entries stay right
-pub record Finds (stage : Stage) (known : Known) (cost result : ℕ) : Type 0 where
+pub record Finds (stage : Stage) (known : KnownTables) (cost result : ℕ) : Type 0 where
   pub found : result ≡ cost
   pub small : result ≤ not_allowed
   pub right : AreRight stage known

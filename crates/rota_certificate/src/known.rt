@@ -2,11 +2,12 @@
 //! day, and past or choice. A later one replaces it there, and a lost one is computed again.
 
 ghost use Rattle.std.specs.Prelude.{◌≡◌, ℕ, ◌≤◌, ◌<◌, All, IfOk, IfSome, List, None, drop, length};
-ghost use Rattle.rota_certificate.specs.KnownCosts.{AreRightFor, HasEntries, IsRightCost, IsRightRebate, first_rebate};
+ghost use Rattle.rota_certificate.specs.KnownCosts.{AreRightFor, IsRightCost, IsRightRebate, first_rebate};
 ghost use Rattle.rota_certificate.specs.NurseBounds.{LeafWeek, Terms, least_left};
 
 use rota_core::Past;
 use std::alloc::{AllocError, Global};
+use std::marker::Model;
 
 /// The minimum cost of the last `left` days of the week and of the later weeks, after the past.
 #[derive(Clone, Copy, Debug, PartialEq, Eq)]
@@ -113,11 +114,19 @@ fn rebate_entry(entries: usize, week: usize, day: u8, choice: Option<u8>) -> usi
     with_part(with_part(week, u16::from(day)), number_of(choice)) % entries
 }
 
+impl Model for Known {
+    ghost use Rattle.rota_certificate.specs.KnownCosts.{HasEntries, KnownTables};
+
+    ghost Value = { KnownTables };
+
+    ghost view = { λ k. record { costs = k.costs.items; rebates = k.rebates.items } };
+
+    ghost invariant = { λ k. HasEntries (record { costs = k.costs.items; rebates = k.rebates.items }) };
+}
+
 impl Known {
     /// Entries for this number of weeks.
-    pub fn for_weeks(alloc: Global, weeks: usize) -> Result<Known, AllocError>
-        ensures { IfOk result HasEntries }
-    {
+    pub fn for_weeks(alloc: Global, weeks: usize) -> Result<Known, AllocError> {
         let costs = no_costs(alloc, cost_entries(weeks))?;
         let rebates = no_rebates(alloc)?;
         Ok(Known { costs, rebates })
@@ -125,26 +134,21 @@ impl Known {
 
     // Forgets the costs.
     fn forget_costs(&mut self)
-        requires { HasEntries self.old }
-        ensures entries { HasEntries self.new }
-        ensures none { All (λ known. known ≡ None) self.new.costs.items }
+        ensures none { All (λ known. known ≡ None) self.new.costs }
     {
         self.costs.fill(None);
     }
 
     // Forgets the rebates.
     fn forget_rebates(&mut self)
-        requires { HasEntries self.old }
-        ensures entries { HasEntries self.new }
         ensures costs { self.new.costs ≡ self.old.costs }
-        ensures none { All (λ known. known ≡ None) self.new.rebates.items }
+        ensures none { All (λ known. known ≡ None) self.new.rebates }
     {
         self.rebates.fill(None);
     }
 
     /// Forgets all costs and rebates.
     pub fn forget(&mut self)
-        requires { HasEntries self.old }
         ensures { (terms : Terms) (weeks : List LeafWeek) (nurse : ℕ) → AreRightFor terms weeks nurse self.new }
     {
         self.forget_costs();
@@ -153,7 +157,6 @@ impl Known {
 
     /// The cost, if it is known.
     pub fn cost(&self, week: usize, left: u8, past: Past) -> Option<u64>
-        requires { HasEntries self.now }
         ensures { (terms : Terms) (weeks : List LeafWeek) (nurse : ℕ) → AreRightFor terms weeks nurse self.now →
             IfSome result (λ cost. cost ≡ least_left terms (drop week weeks) nurse left past) }
     {
@@ -168,7 +171,6 @@ impl Known {
 
     /// Keeps the cost.
     pub fn keep_cost(&mut self, known: KnownCost)
-        requires { HasEntries self.old }
         ensures { (terms : Terms) (weeks : List LeafWeek) (nurse : ℕ) → AreRightFor terms weeks nurse self.old →
             IsRightCost terms weeks nurse known → AreRightFor terms weeks nurse self.new }
     {
@@ -178,7 +180,6 @@ impl Known {
 
     /// The rebate, if it is known.
     pub fn rebate(&self, week: usize, day: u8, choice: Option<u8>) -> Option<u64>
-        requires { HasEntries self.now }
         ensures { (terms : Terms) (weeks : List LeafWeek) (nurse : ℕ) → AreRightFor terms weeks nurse self.now →
             IfSome result (λ rebate. rebate ≡ first_rebate (drop week weeks) nurse day choice) }
     {
@@ -193,7 +194,6 @@ impl Known {
 
     /// Keeps the rebate.
     pub fn keep_rebate(&mut self, known: KnownRebate)
-        requires { HasEntries self.old }
         ensures { (terms : Terms) (weeks : List LeafWeek) (nurse : ℕ) → AreRightFor terms weeks nurse self.old →
             IsRightRebate weeks nurse known → AreRightFor terms weeks nurse self.new }
     {

@@ -6,7 +6,6 @@ ghost use Rattle.rota_core.specs.Limits.{max_price};
 ghost use Rattle.rota_core.specs.SumsBelow.{sum_below};
 ghost use Rattle.rota_certificate.specs.CaseLimits.{AreLimitedCharges};
 ghost use Rattle.rota_certificate.specs.CertificateBounds.{thousandths};
-ghost use Rattle.rota_certificate.specs.KnownCosts.{HasEntries};
 ghost use Rattle.rota_certificate.specs.LeafBounds.{added_prices, bound_of_leaf, leaf_bound, most_bound, nurse_count};
 ghost use Rattle.rota_certificate.specs.Minimums.{not_allowed};
 ghost use Rattle.rota_certificate.specs.NurseBounds.{nurse_bound};
@@ -41,8 +40,6 @@ fn nurse_bounds(
     requires unit_in { unit ≤ thousandths }
     requires leaf { IsLeaf leaf.now }
     requires limited { AreLimitedCharges charges.now }
-    requires entries { HasEntries known.old }
-    ensures entries { HasEntries known.new }
     ensures none { result ≡ None → has_overdrawn unit charges.now (nurse_count (weeks_of leaf.now)) ≡ true }
     ensures some { let weeks = weeks_of leaf.now in IfSome result (λ sum. has_overdrawn unit charges.now (nurse_count weeks) ≡ false) }
     ensures bounds { let weeks = weeks_of leaf.now in
@@ -75,8 +72,6 @@ fn bound_of_leaf(unit: u64, leaf: &LentLeaf<'_>, charges: &[Surcharged], known: 
     requires unit_in { unit ≤ thousandths }
     requires leaf { IsLeaf leaf.now }
     requires limited { AreLimitedCharges charges.now }
-    requires entries { HasEntries known.old }
-    ensures entries { HasEntries known.new }
     ensures bound { let weeks = weeks_of leaf.now in
         result ≡ (if has_overdrawn unit charges.now (nurse_count weeks) then 0 else bound_of_leaf unit leaf.now.case.now charges.now weeks) }
     ensures small { result ≤ most_bound }
@@ -107,8 +102,6 @@ pub fn leaf_bound(
     requires unit_in { unit ≤ thousandths }
     requires leaf { IsLeaf leaf.now }
     requires surcharges { AllByRecursion (λ surcharge. surcharge ≤ max_price) surcharges.now }
-    requires entries { HasEntries known.old }
-    ensures entries { HasEntries known.new }
     ensures bound { IfOk result (λ sum. sum ≡
         leaf_bound unit (map week_lent leaf.now.weeks.now) leaf.now.case.now (map prices_lent leaf.now.weeks.now) surcharges.now) }
     ensures small { IfOk result (λ sum. sum ≤ most_bound) }

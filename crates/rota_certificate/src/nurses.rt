@@ -3,7 +3,7 @@
 ghost use Rattle.std.specs.Prelude.{◌≡◌, ◌+◌, ◌-◌, ◌*◌, ◌≤◌, ◌<◌, IfSome};
 ghost use Rattle.rota_core.specs.InstanceTables.{problem_of};
 ghost use Rattle.rota_certificate.specs.CertificateBounds.{thousandths};
-ghost use Rattle.rota_certificate.specs.KnownCosts.{AreRight, Finds, HasEntries, IsBefore, IsReady};
+ghost use Rattle.rota_certificate.specs.KnownCosts.{AreRight, Finds, IsBefore, IsReady};
 ghost use Rattle.rota_certificate.specs.LeafBounds.{nurse_count};
 ghost use Rattle.rota_certificate.specs.Minimums.{not_allowed};
 ghost use Rattle.rota_certificate.specs.NurseBounds.{allowed_rebate, choice_value, is_barred, least_choice, nurse_bound};
@@ -169,10 +169,8 @@ pub fn nurse_bound(
     requires leaf { IsLeaf leaf.now }
     requires unit_in { unit ≤ thousandths }
     requires nurse_in { nurse < nurse_count (weeks_of leaf.now) }
-    requires entries { HasEntries known.old }
     ensures bound { result ≡ nurse_bound unit tariff (weeks_of leaf.now) nurse }
     ensures small { result ≤ 3 * not_allowed }
-    ensures entries { HasEntries known.new }
 {
     let stage = Stage::first(leaf, unit, tariff, nurse);
     let _nurses = stage.instance.nurses();

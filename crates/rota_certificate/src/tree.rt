@@ -8,7 +8,6 @@ ghost use Rattle.rota_core.specs.Limits.{max_number, max_price};
 ghost use Rattle.rota_core.specs.PriceTables.{prices_of};
 ghost use Rattle.rota_core.specs.Prices.{ArePrices};
 ghost use Rattle.rota_certificate.specs.CertificateBounds.{HaveTables, least_bound, lower_bound, minimums_bound, rounded_up, says_even, says_odd};
-ghost use Rattle.rota_certificate.specs.KnownCosts.{HasEntries};
 ghost use Rattle.rota_certificate.specs.LeafBounds.{most_bound};
 ghost use Rattle.rota_certificate.specs.PeriodBounds.{AreEvidence, AreOptimalAt, HaveNoPlan, NoneCostLess};
 ghost use Rattle.rota_certificate.specs.Evidence.{AreLent, IsShortPath, IsEvidence, bound_asked, bound_by};
@@ -139,8 +138,6 @@ fn bound_by(
 ) -> Result<u64, AllocError>
     requires leaf { IsLeaf leaf.now }
     requires surcharges { AllByRecursion (λ surcharge. surcharge ≤ max_price) surcharges.now }
-    requires entries { HasEntries known.old }
-    ensures entries { HasEntries known.new }
     ensures bound { IfOk result (λ bound. bound ≡
         bound_by rules (map week_lent leaf.now.weeks.now) leaf.now.case.now (map prices_lent leaf.now.weeks.now) surcharges.now) }
     ensures small { IfOk result (λ bound. bound ≤ most_bound) }
@@ -165,8 +162,6 @@ fn bound_at(
     requires evidence { IsEvidence evidence.now }
     requires path { IsShortPath (2 * max_number) path.now }
     requires leaf { IsLeafFor (length evidence.now.certificate.now.prices.items) leaf.now }
-    requires entries { HasEntries known.old }
-    ensures entries { HasEntries known.new }
     ensures bound { IfOk result (λ bound. bound ≡ bound_asked evidence.now (reverse path.now) leaf.now) }
     ensures small { IfOk result (λ bound. bound ≤ most_bound) }
 {

@@ -1,6 +1,5 @@
 use Rattle.std.proofs.Common.{◌≡◌, ◌≤◌, ◌*◌, false}
 use Rattle.rota_core.specs.SumsBelow.{sum_below}
-use Rattle.rota_certificate.specs.KnownCosts.{HasEntries}
 use Rattle.rota_certificate.specs.Minimums.{not_allowed}
 use Rattle.rota_certificate.specs.NurseBounds.{nurse_bound}
 use Rattle.rota_certificate.specs.Stages.{weeks_of}
@@ -12,5 +11,4 @@ invariant-loop-nurse l = record {
   none : has_overdrawn l.unit l.charges l.nurse ≡ false;
   sum : l.sum ≡ sum_below l.nurse (λ n. nurse_bound l.unit (tariff_of l.unit l.charges n) (weeks_of l.leaf) n);
   small : l.sum ≤ l.nurse * (3 * not_allowed);
-  entries : HasEntries l.known;
 }

@@ -21,7 +21,7 @@ returns-then-not-branch c =
     let is : node ≡ slice_index_or nodes i node =
     c.node-item.is ∙ ap (λ (xs : List Node). slice_index_or xs i node) c.deref-node-items.ensures.value in
     c.min-least.ensures ∙
-    at-last (bound_asked evidence) nodes i c.loop-node.least c.loop-node.path.items node inside is c.loop-node.invariant.searched c.in-Leaf.leaf
+    at-last (bound_asked evidence) nodes i c.loop-node.least c.loop-node.path.items node inside is c.loop-node.invariant c.in-Leaf.leaf
     c.in_ok-bound-in-Leaf.bound c.in-Leaf.is (rw c.if-not-branch.true at c.in_ok-go_on-in-Leaf.ensures)
     (c.in_ok-bound-in-Leaf.ensures.bound ∙ ap (λ (items : List Condition). bound_asked evidence (reverse items) c.in-Leaf.leaf) c.deref.ensures.value)
     c.in_ok-bound-in-Leaf.ensures.small
@@ -39,29 +39,22 @@ loop-node-preserved c =
     omega (arith, c.loop-node-test.true, ap (λ (xs : List Node). length xs) c.deref-node-items.ensures.value) in
     let is : node ≡ slice_index_or nodes i node =
     c.node-item.is ∙ ap (λ (xs : List Node). slice_index_or xs i node) c.deref-node-items.ensures.value in
-    let so_far = c.loop-node.invariant.searched in
+    let so_far = c.loop-node.invariant in
     elim c.match-node.branch [
       | in-Split+in_ok-push-in-Split w ↦
           let fact = w.in-Split.fact in
           let limited = subst (PassesNode IsLimited (IsLeafFor (length certificate.prices.items))) w.in-Split.is
           (node-at evidence.weeks.now certificate i node c.requires.is_for inside is) in
           let pushed = w.in_ok-push-in-Split.ensures.items ∙ ap (λ (one : Condition). items ++ (one ∷ [])) w.with.ensures in
-          record {
-            searched = rw (w.path-is, w.least-is)
-                (after-split (bound_asked evidence) nodes i least items node inside is so_far fact w.push.new.self.items w.in-Split.is
-                limited pushed);
-            entries = rw w.known-is c.loop-node.invariant.entries;
-          }
+          rw (w.path-is, w.least-is)
+          (after-split (bound_asked evidence) nodes i least items node inside is so_far fact w.push.new.self.items w.in-Split.is limited pushed)
       | in-Leaf+in_ok-bound-in-Leaf+in_ok-go_on-in-Leaf+else-not-branch w ↦
           let leaf = w.in-Leaf.leaf in
           let found = w.in_ok-bound-in-Leaf.ensures.bound ∙
           ap (λ (path : List Condition). bound_asked evidence (reverse path) leaf) w.deref.ensures.value in
-          record {
-            searched = rw (w.path-is, w.least-is, w.min-least.ensures)
-                (after-leaf (bound_asked evidence) nodes i least items node inside is so_far leaf w.go_on.new.path.items
-                w.in_ok-bound-in-Leaf.bound w.in-Leaf.is (rw w.if-not-branch.false at w.in_ok-go_on-in-Leaf.ensures) found);
-            entries = rw w.known-is w.in_ok-bound-in-Leaf.ensures.entries;
-          }
+          rw (w.path-is, w.least-is, w.min-least.ensures)
+          (after-leaf (bound_asked evidence) nodes i least items node inside is so_far leaf w.go_on.new.path.items
+          w.in_ok-bound-in-Leaf.bound w.in-Leaf.is (rw w.if-not-branch.false at w.in_ok-go_on-in-Leaf.ensures) found)
     ]
 
 pub returns : goal.returns
@@ -70,4 +63,4 @@ returns c =
     let nodes = evidence.certificate.now.nodes.items in
     let past : length nodes ≤ c.loop-node.node-index =
     omega (arith, c.loop-node-test.false, ap (λ (xs : List Node). length xs) c.deref-node-items.ensures.value) in
-    at-end (bound_asked evidence) nodes c.loop-node.node-index c.loop-node.least c.loop-node.path.items past c.loop-node.invariant.searched
+    at-end (bound_asked evidence) nodes c.loop-node.node-index c.loop-node.least c.loop-node.path.items past c.loop-node.invariant

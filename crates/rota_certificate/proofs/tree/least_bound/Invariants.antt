@@ -1,11 +1,6 @@
 use Rattle.rota_certificate.specs.Evidence.{bound_asked}
-use Rattle.rota_certificate.specs.KnownCosts.{HasEntries}
 use Rattle.rota_certificate.proofs.TreePaths.{IsSearched}
 use Rattle.rota_certificate.proofs.tree.least_bound.Given as goal
 
 abbrev pub invariant-loop-node : goal.invariant-loop-node
-invariant-loop-node l =
-    record {
-      searched : IsSearched (bound_asked l.evidence) l.evidence.certificate.now.nodes.items l.node-index l.least l.path.items;
-      entries : HasEntries l.known;
-    }
+invariant-loop-node l = IsSearched (bound_asked l.evidence) l.evidence.certificate.now.nodes.items l.node-index l.least l.path.items
