@@ -74,14 +74,14 @@ module _ {X E : Type 0} {R : Type 1} (step : X → R → PeriodStep X) (one_of :
         (stopped fault refl ends (λ more. none-touched untouched more (drop (i + 1) olds)))))
 
   -- all files are counted
-  pub length-each : (news : List E) → length news ≡ length olds → length (each_of one_of olds news) ≡ length olds
+  pub length-each : (news : List E) → length (each_of one_of olds news) ≡ length olds
   unfolding each_of
-  length-each news same = each-length olds news same
+  length-each news = each-length olds news
     where
-      each-length : (os ns : List E) → length ns ≡ length os → length (each_of one_of os ns) ≡ length os
-      each-length [] ns is = refl
-      each-length (o ∷ os) [] is = absurd (omega (arith, is))
-      each-length (o ∷ os) (n ∷ ns) is = ap suc (each-length os ns (omega (arith, is)))
+      each-length : (os ns : List E) → length (each_of one_of os ns) ≡ length os
+      each-length [] ns = refl
+      each-length (o ∷ os) [] = ap suc (each-length os [])
+      each-length (o ∷ os) (n ∷ ns) = ap suc (each-length os ns)
 
   -- all files are read
   pub reads-all : (i : ℕ) (now : List E) (found : X) → Reads step one_of start olds i now found → length olds ≤ i →

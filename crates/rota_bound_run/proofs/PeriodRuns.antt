@@ -76,13 +76,13 @@ judge_some weeks given readers =
 
 module _ {S : Type 0} (port : Ghosts S) (weeks : List InstanceTables) (given : GivenTables) where
   -- with rosters
-  pub judges-some : (olds news : List S) → 0 < length olds → length news ≡ length olds → (result : Result (Option Judged) PeriodFault) →
+  pub judges-some : (olds news : List S) → 0 < length olds → (result : Result (Option Judged) PeriodFault) →
       (judge_some weeks given (each_of (reader_of port) olds news)).ends result →
       (judge_plan weeks given (each_of (reader_of port) olds news)).ends result
   unfolding each_of
-  judges-some [] news some same result ends = absurd (omega (arith, some))
-  judges-some (old ∷ olds) [] some same result ends = absurd (omega (arith, same))
-  judges-some (old ∷ olds) (new ∷ news) some same result ends = ends
+  judges-some [] news some result ends = absurd (omega (arith, some))
+  judges-some (old ∷ olds) [] some result ends = ends
+  judges-some (old ∷ olds) (new ∷ news) some result ends = ends
 
   -- without rosters
   pub judges-no-rosters : (olds news : List S) → length olds ≡ 0 → (judge_plan weeks given (each_of (reader_of port) olds news)).ends (Ok

@@ -1,5 +1,5 @@
 -- The readers of a period's files.
-use Rattle.std.specs.Prelude.{◌≡◌, ℕ, ◌<◌, ◌⊎◌, ⊤, List, [], ◌∷◌, length, Option, Some, None, is_some}
+use Rattle.std.specs.Prelude.{◌≡◌, ℕ, ◌<◌, ◌⊎◌, ⊤, List, [], ◌∷◌, length, Option, Some, None, is_some, unwrap_or}
 use Rattle.byte_ports.specs.declared.ports.Source.{Ghosts as SourceGhosts}
 use Rattle.rota_pb.specs.RunPorts.{Reader, reader_of}
 use Rattle.rota_bound_run.specs.declared.files.PeriodFiles.{PeriodFiles}
@@ -35,17 +35,19 @@ pub record FilesOfPeriod : Type 1 where
 
 -- ---- files before and after a run
 
--- the things that are these before the run and those after it
+-- The files before a run decide which readers there are: a file of which nothing is left after the run is one that the run did not touch, so
+-- that no file is hidden from a run by letting it go.
+
+-- a reader for each of the files that are these before the run, in their order, and those after it
 unfoldable pub each_of : {X : Type 0} {R : Type 1} → (X → X → R) → List X → List X → List R
 each_of one_of [] news = []
-each_of one_of (old ∷ olds) [] = []
+each_of one_of (old ∷ olds) [] = one_of old old ∷ each_of one_of olds []
 each_of one_of (old ∷ olds) (new ∷ news) = one_of old new ∷ each_of one_of olds news
 
--- the reader of a file that may be missing
+-- the reader of a file that may be missing: it is there if the file was there before the run
 abbrev pub reader_if : {S : Type 0} → SourceGhosts S → Option S → Option S → OptionalReader
-reader_if port (Some old) (Some new) = named (reader_of port old new)
-reader_if port (Some old) None = absent
 reader_if port None new = absent
+reader_if port (Some old) new = named (reader_of port old (unwrap_or new old))
 
 -- the readers of a week's files that are these before the run and those after it
 abbrev pub week_readers : {S : Type 0} → SourceGhosts S → WeekFiles S → WeekFiles S → FilesOfWeek

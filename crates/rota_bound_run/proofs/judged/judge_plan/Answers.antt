@@ -15,7 +15,7 @@ returns-in_err-judged-clause-reads g c =
     let p = err_from_is_err_and c.from_residual.result c.from_residual.ensures.1 in
     rw (p.1, p.2)
     (judges-some g.S.Source c.args.weeks.now (given_of c.args.given.now) c.args.files.now c.judge_all.new.files
-    (not-zero (length c.args.files.now) c.is_empty.result c.is_empty.ensures c.if-is_empty.false) c.in_err-judged.ensures.count _
+    (not-zero (length c.args.files.now) c.is_empty.result c.is_empty.ensures c.if-is_empty.false) _
     (stopped _ refl c.in_err-judged.ensures.reads (λ rosters. (tt, λ judged. tt))))
 
 pub returns-in_err-meet_given-clause-reads : goal.returns-in_err-meet_given-clause-reads
@@ -23,13 +23,13 @@ returns-in_err-meet_given-clause-reads g c =
     let p = err_from_is_err_and c.from_residual-in_err-meet_given.result c.from_residual-in_err-meet_given.ensures.1 in
     rw (p.1, p.2)
     (judges-some g.S.Source c.args.weeks.now (given_of c.args.given.now) c.args.files.now c.judge_all.new.files
-    (not-zero (length c.args.files.now) c.is_empty.result c.is_empty.ensures c.if-is_empty.false) c.in_ok-judged.ensures.count _
+    (not-zero (length c.args.files.now) c.is_empty.result c.is_empty.ensures c.if-is_empty.false) _
     (went_on c.in_ok-judged.judged.rosters.items c.in_ok-judged.ensures.reads
     (stopped _ refl (rw c.in_ok-judged.ensures.same at c.in_err-meet_given.ensures) (λ judged. tt))))
 
 pub returns-clause-reads : goal.returns-clause-reads
 returns-clause-reads g c =
     judges-some g.S.Source c.args.weeks.now (given_of c.args.given.now) c.args.files.now c.judge_all.new.files
-    (not-zero (length c.args.files.now) c.is_empty.result c.is_empty.ensures c.if-is_empty.false) c.in_ok-judged.ensures.count _
+    (not-zero (length c.args.files.now) c.is_empty.result c.is_empty.ensures c.if-is_empty.false) _
     (went_on c.in_ok-judged.judged.rosters.items c.in_ok-judged.ensures.reads
     (went_on c.in_ok-meet_given.field-0 (rw c.in_ok-judged.ensures.same at c.in_ok-meet_given.ensures) refl))

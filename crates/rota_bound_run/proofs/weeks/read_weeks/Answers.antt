@@ -18,12 +18,11 @@ use Rattle.rota_bound_run.proofs.weeks.read_weeks.Goals as goal
 -- there is a week for each file
 counted : {S : Type 0} (port : Ghosts S) (early : Bool) (ward : Ward) (olds now : List (WeekFiles S)) (result : Result
     (List InstanceTables) PeriodFault) →
-    length now ≡ length olds →
     (in_turn (read_next early ward (length olds)) [] (each_of (week_readers port) olds now)).ends result →
     (read_weeks early ward (each_of (week_readers port) olds now)).ends result
-counted port early ward olds now result same ends =
+counted port early ward olds now result ends =
     subst (λ (n : ℕ). (in_turn (read_next early ward n) [] (each_of (week_readers port) olds now)).ends result)
-    (sym (length-each (read_next early ward (length olds)) (week_readers port) [] olds now same)) ends
+    (sym (length-each (read_next early ward (length olds)) (week_readers port) [] olds now)) ends
 
 pub loop-index-init : goal.loop-index-init
 unfolding AreWeeksFrom
@@ -54,7 +53,6 @@ returns-in_err-push-in-Ok-clause-reads g c =
     let inside : c.loop-index.index < length c.args.files.now = omega (arith, c.loop-index-test.true) in
     rw (p.1, p.2)
     (counted g.S.Source c.args.early c.args.ward.now c.args.files.now (slice_set c.loop-index.files i c.read_week.new.files) _
-    (same-length c.args.files.now _ (returns-in_err-push-in-Ok-clause-same g c))
     (stops-at step (week_readers g.S.Source) [] c.args.files.now i c.loop-index.files c.loop-index.weeks.items inv.reads inside
     c.index-files-index.result c.read_week.new.files c.index-files-index.is
     (reads-no-week g.S.Source c.args.early c.args.ward.now (length c.args.files.now)) _
@@ -79,7 +77,6 @@ returns-in-Err-clause-reads g c =
     let inside : c.loop-index.index < length c.args.files.now = omega (arith, c.loop-index-test.true) in
     rw c.in_week.ensures
     (counted g.S.Source c.args.early c.args.ward.now c.args.files.now (slice_set c.loop-index.files i c.read_week.new.files) _
-    (same-length c.args.files.now _ (returns-in-Err-clause-same g c))
     (stops-at step (week_readers g.S.Source) [] c.args.files.now i c.loop-index.files c.loop-index.weeks.items inv.reads inside
     c.index-files-index.result c.read_week.new.files c.index-files-index.is
     (reads-no-week g.S.Source c.args.early c.args.ward.now (length c.args.files.now)) _
@@ -114,6 +111,5 @@ loop-index-preserved g c =
 pub returns-clause-reads : goal.returns-clause-reads
 returns-clause-reads g c =
     counted g.S.Source c.args.early c.args.ward.now c.args.files.now c.loop-index.files _
-    (same-length c.args.files.now c.loop-index.files c.loop-index.invariant.same)
     (reads-all (read_next c.args.early c.args.ward.now (length c.args.files.now)) (week_readers g.S.Source) [] c.args.files.now
     c.loop-index.index c.loop-index.files c.loop-index.weeks.items c.loop-index.invariant.reads (omega (arith, c.loop-index-test.false)))
