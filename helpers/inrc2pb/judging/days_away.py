@@ -16,6 +16,11 @@ class DaysAway(NamedTuple):
     nights: FrozenSet[str] = frozenset()
     fixed: int = 0
 
+    def of(self, nurse: str) -> "DaysAway":
+        """Those of one nurse."""
+        training, free = (frozenset(one for one in days if one[0] == nurse) for days in (self.training, self.free))
+        return self._replace(training=training, free=free)
+
 
 class LongRow(NamedTuple):
     """Days in a row with work and training, more than the contract of the nurse has with work. `number` is with the days before Monday."""

@@ -1,9 +1,9 @@
 """The days beside days away in words: work in a row with training in it, and night shifts before training or leave."""
 
-from typing import Iterator
+from typing import Iterator, Mapping
 
 from ..judging.absences import readable
-from ..judging.days_away import long_rows, nights_before
+from ..judging.days_away import DaysAway, NurseDay, long_rows, nights_before
 from ..week.hints import plural
 from .ward_plan import WardPlan
 
@@ -11,9 +11,13 @@ from .ward_plan import WardPlan
 def beside_lines(plan: WardPlan) -> Iterator[str]:
     """The nurses who have more days in a row with work or training than their contracts have with work, or who come to training or leave
     from a night shift."""
-    away, shifts, first = plan.days_away, plan.shifts, plan.first
-    if not plan.weeks:
-        return
+    if plan.weeks:
+        yield from beside_words(plan, plan.days_away, plan.shifts)
+
+
+def beside_words(plan: WardPlan, away: DaysAway, shifts: Mapping[NurseDay, str]) -> Iterator[str]:
+    """The same if nurses have these shift types and days away, both by the days from the first one that is not over."""
+    first = plan.first
     for row in long_rows(plan.scenario, plan.histories[plan.open_week], away, shifts):
         days = plan.days.span([first + row.days[0], first + row.days[-1]])
         number = plural(row.number, "day")

@@ -4,9 +4,7 @@ import collections
 import time
 from typing import Callable, Counter, Dict, Iterator, List, Mapping, NamedTuple, Optional, Sequence, Tuple
 
-from ..judging import days_away
 from ..judging.absences import absences_of, is_broken_by
-from ..judging.days_away import DaysAway
 from ..judging.rules import MISSING_NURSE
 from ..week.records import Cell, Place
 from .days_beside_absences import days_off_beside_absences
@@ -80,11 +78,7 @@ class _Judge:
         """How much they do not keep of absences, of limits that hold, and beside days away."""
         plan = self._plan
         working = sum(is_broken_by(self._away[day // WEEK_DAYS], cell._replace(day=day % WEEK_DAYS)) for day, cell in cells.items())
-        training, free = (frozenset(one for one in days if one[0] == nurse) for days in plan.days_away[:2])
-        shifts = {(nurse, day - plan.first): cell.shift for day, cell in cells.items()}
-        beside = DaysAway(training, free, plan.days_away.nights)
-        above = days_away.excess(plan.scenario, plan.histories[plan.open_week], beside, shifts)
-        return working + self._alone.above(nurse, cells)[0] + above
+        return working + self._alone.above(nurse, cells)[0] + self._alone.beside(nurse, cells)[0]
 
     def _points(self, nurse: str, cells: Mapping[int, Cell]) -> int:
         """What the nurse is charged, with the points of her changes, as a search counts them; a nurse without shifts in the old plan may

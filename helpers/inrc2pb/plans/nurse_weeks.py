@@ -1,12 +1,15 @@
-"""The weeks of a plan that are not over as one nurse has them: what she is charged, and what she has above limits that hold."""
+"""The weeks of a plan that are not over as one nurse has them: what she is charged, what she has above limits that hold, and what is
+wrong beside her days away."""
 
 from dataclasses import replace
 from typing import Dict, Iterator, List, Mapping, Tuple
 
+from ..judging import days_away
 from ..judging.limits import exceeded, excess, limits_in_words
 from ..judging.next_history import next_nurse_history
 from ..judging.rules import costs
 from ..week.records import Cell, History, Week, WeekData
+from .days_beside import beside_words
 from .plan_days import WEEK_DAYS
 from .ward_plan import WardPlan
 
@@ -49,3 +52,12 @@ class NurseWeeks:
         named = [self._plan.day_names(number) for number in self._plan.weeks]
         words = [limits_in_words(charges, of_week, names) for (charges, of_week), names in zip(weeks, named) if charges]
         return sum(excess(charges) for charges, _ in weeks), words
+
+    def beside(self, nurse: str, cells: NurseCells) -> Tuple[int, List[str]]:
+        """By how many days the nurse's rows with training are too long with these assignments, and with how many nights before training or
+        leave; and in words."""
+        plan = self._plan
+        away = plan.days_away.of(nurse)
+        shifts = {(nurse, day - plan.first): cell.shift for day, cell in cells.items()}
+        above = days_away.excess(plan.scenario, plan.histories[plan.open_week], away, shifts)
+        return above, list(beside_words(plan, away, shifts))

@@ -87,6 +87,7 @@ class Swaps:
         above, words = self._alone.above(nurse, cells)
         if above > self._alone.above(nurse, self._cells[nurse])[0]:
             yield f"{', '.join(words)}, and this limit holds"
+        yield from self._faults_beside(nurse, cells)
         shift_on = {
             plan.first - 1: plan.histories[plan.open_week].nurses[nurse].last_shift,
             **{day: cell.shift for day, cell in cells.items()},
@@ -100,6 +101,12 @@ class Swaps:
             before, now = shift_on.get(day - 1), shift_on.get(day)
             if before and now and now in plan.scenario.shift_types[before].forbidden_next:
                 yield readable(f"{nurse} may not work {now} on {plan.days.text(day)} after {before}")
+
+    def _faults_beside(self, nurse: str, cells: Dict[int, Cell]) -> Iterator[str]:
+        """What these assignments make worse beside the nurse's days of training and leave."""
+        (before, known), (now, words) = (self._alone.beside(nurse, of_nurse) for of_nurse in (self._cells[nurse], cells))
+        if now > before:
+            yield from (line for line in words if line not in known)
 
     def _cell_faults(self, cell: Cell) -> Iterator[str]:
         """Why the nurse cannot have this assignment alone."""

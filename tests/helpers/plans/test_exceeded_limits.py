@@ -8,7 +8,7 @@ from ward import HAS_CBC, run
 
 from inrc2pb.commands.plan import read_sheet
 from inrc2pb.plans.not_kept import days_away_lines, exceeded_lines, not_kept_lines
-from inrc2pb.plans.swaps import Swaps
+from inrc2pb.plans.swaps import Swap, Swaps
 from inrc2pb.plans.ward_plan import continued, read_stored
 
 # In the stored plan each nurse with a full contract has ten shifts in 14 days, and Grace hers from Monday to Friday.
@@ -113,6 +113,51 @@ class Lines(ExceededTest):
             self.assertEqual(limits["Grace"], kept, first)
             named = any("Grace has 12 shifts of at most 10" in line for line in not_kept_lines(kept_plan))
             self.assertEqual((named, bool(list(days_away_lines(kept_plan)))), (kept < 2, kept == 2), first)
+
+
+class SwapsBesideTraining(ExceededTest):
+    """Full contracts have at most six days of work in a row. Grace works Day from Monday to Friday in both weeks."""
+
+    LONG = "Grace has 12 days in a row with work or training, Mon 30 Nov to Fri 11 Dec, and her contract at most 6 with work"
+    NIGHT = "Grace works Night on Sat 5 Dec, and has leave on Sun 6 Dec"
+
+    def setUp(self):
+        super().setUp()
+        self.rows["contracts"][1][1:5] = ["8", "20", "3", "6!"]
+        self.write()
+
+    def judged(self, nurse, day, *words):
+        """The faults of a swap in which Grace takes the nurse's shift of this day, and whether it is on offer, if the spreadsheet has these
+        words for her."""
+        self.days(*words)
+        swaps, swap = Swaps(self.read()), Swap(nurse, "Grace", (day,))
+        return swaps.faults(swap), swap in [offer.swap for offer in swaps.offers(nurse, day)]
+
+    def test_too_many_days_in_a_row_with_training(self):
+        # With Sunday she works eleven days, in rows of five and of six, and with training on Saturday twelve in a row.
+        self.assertEqual(self.judged("Dilek", 6), ([], True))
+        self.assertEqual(self.judged("Dilek", 6, *[""] * 5, "training"), ([self.LONG], False))
+        # Days of leave are no work.
+        self.assertEqual(self.judged("Dilek", 6, *[""] * 5, "leave"), ([], True))
+
+    def test_a_night_before_leave(self):
+        self.assertEqual(self.judged("Chen", 5), ([], True))
+        self.assertEqual(self.judged("Chen", 5, *[""] * 6, "leave"), ([self.NIGHT], False))
+        # Nobody comes to an illness from a night shift: it is not known before.
+        self.assertEqual(self.judged("Chen", 5, *[""] * 6, "ill"), ([], True))
+
+    def test_a_swap_that_makes_nothing_worse(self):
+        # Her first row is too long before and after a sixth shift in the second week, which only costs points.
+        self.rows["contracts"][1][4] = "5"
+        self.assertEqual(self.judged("Dilek", 12, *[""] * 5, "training"), ([], True))
+
+    def test_the_verb_says_why_and_writes_nothing(self):
+        self.days(*[""] * 5, "training")
+        before = self.last()
+        status, printed, _ = run("plan", self.ward, "swap", "Dilek", "2026-12-06", "Grace", "--do")
+        self.assertEqual((status, printed.splitlines()[:2]), (6, [f"not possible: {self.LONG}", "nothing is written"]))
+        self.assertEqual(self.last(), before)
+        self.assertNotIn("Grace takes it", printed)
 
 
 @unittest.skipUnless(HAS_CBC, "cbc is not installed")
