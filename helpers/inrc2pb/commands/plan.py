@@ -1,13 +1,14 @@
 """Plans a ward from one folder: its spreadsheet, and what verbs have made of it."""
 
 import argparse
+import re
 import shlex
 import sys
 from pathlib import Path
 from typing import Callable, Dict, List, Optional, Sequence
 
 from ..plans.local_jobs import Jobs
-from ..plans.local_server import LocalServer
+from ..plans.local_server import LOCAL, LocalServer
 from ..plans.plan_days import PlanDays
 from ..plans.written_absences import WrittenAbsence, with_written
 from ..plans.plan_store import Means
@@ -39,7 +40,9 @@ VERBS = {
     "serve": "a page in your browser that does the same",
 }
 _NAMES = tuple(dict.fromkeys((*(usage.split(" ")[0] for usage in VERBS), *AWAY)))
-LOCAL = "127.0.0.1"
+# Hosts by which a server is reached by all names of its machine, of which a browser can write none.
+_ALL_HOSTS = ("", "0.0.0.0", "::")
+_ORIGIN = re.compile(r"https?://[a-z0-9.-]+(:[0-9]{1,5})?")
 
 
 def _options() -> argparse.ArgumentParser:
@@ -70,6 +73,12 @@ def _options() -> argparse.ArgumentParser:
         default=LOCAL,
         help="with serve: the name or number of this machine (default: %(default)s, for its own users)",
     )
+    options.add_argument(
+        "--origin",
+        metavar="URL",
+        default="",
+        help="with serve: how the address in browsers begins, as https://ward.example, if a proxy or a tunnel leads to this machine",
+    )
     options.add_argument("--free", action="store_true", help="with plan: all shifts may change, also of a plan that hangs on the wall")
     return options
 
@@ -99,14 +108,24 @@ def _check(given: argparse.Namespace) -> None:
         raise Misuse("--do is for swap: leave it out")
     if given.free and given.verb != "plan":
         raise Misuse("--free is for plan: leave it out")
-    if (given.port or given.host != LOCAL) and given.verb != "serve":
-        raise Misuse("--port and --host are for serve: leave them out")
-    if not 0 <= given.port < 65536:
-        raise Misuse(f"--port {given.port}: give a number from 1024 to 65535")
+    _check_address(given)
     if given.words and given.verb in ("check", "page", "undo", "serve"):
         raise Misuse(f"'{given.words[0]}' is a word too many: {given.verb} has none")
     if given.time is not None:
         check_seconds(given.time, "--time")
+
+
+def _check_address(given: argparse.Namespace) -> None:
+    """The options of an address fit."""
+    if (given.port or given.host != LOCAL or given.origin) and given.verb != "serve":
+        raise Misuse("--port, --host and --origin are for serve: leave them out")
+    if not 0 <= given.port < 65536:
+        raise Misuse(f"--port {given.port}: give a number from 1024 to 65535")
+    if given.origin and not _ORIGIN.fullmatch(given.origin):
+        raise Misuse(f"--origin '{given.origin}': give the beginning of an address, as https://ward.example or http://localhost:9999")
+    if given.host in _ALL_HOSTS and not given.origin:
+        cure = "give the name or number of this machine, or with --origin the address that browsers have"
+        raise Misuse(f"--host '{given.host}' is no address that a browser can open: {cure}")
 
 
 def _options_first(words: Sequence[str]) -> List[str]:
@@ -114,7 +133,7 @@ def _options_first(words: Sequence[str]) -> List[str]:
     options: List[str] = []
     others: List[str] = []
     for before, word in zip(["", *words], words):
-        (options if word.startswith("-") or before in ("--time", "--port", "--host") else others).append(word)
+        (options if word.startswith("-") or before in ("--time", "--port", "--host", "--origin") else others).append(word)
     return [*options, *others]
 
 
@@ -141,11 +160,13 @@ def _serve(folder: WardFolder, given: argparse.Namespace) -> None:
     """Serves the local page until Ctrl-C."""
     with interrupts() as signals:
         try:
-            server = LocalServer(Jobs(folder, read_sheet, signals, given.time), given.host, given.port)
+            server = LocalServer(Jobs(folder, read_sheet, signals, given.time), given.host, given.port, given.origin)
         except OSError as fault:
             cure = "give the name of this machine, and a free port"
             raise Misuse(f"--host {given.host} --port {given.port}: {fault.strerror}: {cure}") from fault
         print(f"open this address in a browser, and give it to nobody else: {server.address}", flush=True)
+        if given.host not in (LOCAL, "localhost"):
+            _say("who reads your network reads this address and the roster: without a proxy with TLS, serve only where you trust all")
         _say("Ctrl-C ends it")
         server.run(signals)
 

@@ -8,6 +8,7 @@ from typing import Iterable, List, NamedTuple, Tuple
 from ..judging.absences import readable
 from ..week.faults import FileFault
 from .plan_days import OtherPlan, PlanDays
+from .record import state_text
 
 NAME = "agreed.csv"
 
@@ -32,15 +33,14 @@ def read_agreed(folder: Path, days: PlanDays) -> Tuple[AgreedDay, ...]:
     found: List[AgreedDay] = []
     if not path.exists():
         return ()
-    with open(path, encoding="utf-8", newline="") as file:
-        for number, row in enumerate(csv.reader(file), 1):
-            if len(row) != 2:
-                raise FileFault(path, number, "this row was changed: write a nurse and a day")
-            if number > 1:
-                try:
-                    found.append(AgreedDay(row[0], days.number(row[1], 0)))
-                except OtherPlan:
-                    continue
+    for number, row in enumerate(csv.reader(state_text(path).splitlines()), 1):
+        if len(row) != 2:
+            raise FileFault(path, number, "this row was changed: write a nurse and a day")
+        if number > 1:
+            try:
+                found.append(AgreedDay(row[0], days.number(row[1], 0)))
+            except OtherPlan:
+                continue
     return tuple(found)
 
 

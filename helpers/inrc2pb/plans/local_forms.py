@@ -90,7 +90,7 @@ def _seconds(fields: Fields) -> Optional[float]:
     text = fields.get("seconds", "")
     if not text:
         return None
-    if not text.isdigit() or not 0 < int(text) <= _MOST_SECONDS:
+    if not text.isdecimal() or len(text) > 4 or not 0 < int(text) <= _MOST_SECONDS:
         raise Misuse(f"'{text}' is no number of seconds from 1 to {_MOST_SECONDS:.0f}")
     return float(text)
 

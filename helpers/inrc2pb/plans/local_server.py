@@ -3,10 +3,11 @@
 import hmac
 import itertools
 import secrets
+import sys
 import threading
 from dataclasses import replace
 from http.server import BaseHTTPRequestHandler, ThreadingHTTPServer
-from typing import Dict, List, NamedTuple, Optional, Tuple
+from typing import Any, Dict, List, NamedTuple, Optional, Sequence, Tuple
 from urllib.parse import parse_qsl, quote, urlencode, urlsplit
 
 from ..judging.absences import readable
@@ -17,7 +18,7 @@ from ..week.faults import Misuse
 from .local_forms import STAMP, SURE, Fields, not_written, verb_of, writes
 from .local_jobs import CHANGED, RUNS, Jobs, Said, fault_lines
 from .local_page import Place, Shown, calendars_markup, page_markup
-from .pages import CALENDARS, roster_content
+from .pages import CALENDARS, own_calendars, roster_content
 from .plan_days import PERIOD_IS_OVER, PeriodOver
 from .ward_plan import WardPlan
 
@@ -29,6 +30,8 @@ _SENT = "sent"
 # The verbs that say something before they write, which goes with their questions.
 _TOLD = ("swap", "away", "back", "undo")
 _PAUSE = 0.2
+# The host that only programs of this machine reach.
+LOCAL = "127.0.0.1"
 _HEADERS = {
     "Content-Security-Policy": "default-src 'none'; style-src 'unsafe-inline'; form-action 'self'; frame-ancestors 'none'; base-uri 'none'",
     "Referrer-Policy": "same-origin",
@@ -47,10 +50,12 @@ class Sent(NamedTuple):
 
 
 class Site:
-    """The page of a folder's verbs at an address with a secret."""
+    """The page of a folder's verbs at an address with a secret. `origins` are the beginnings of the addresses by which browsers know it, as
+    `http://127.0.0.1:8000`: a form of another page, and a page of another name that leads to this server, are refused."""
 
-    def __init__(self, jobs: Jobs, host: str) -> None:
-        self.jobs, self.host, self.port = jobs, host, 0
+    def __init__(self, jobs: Jobs, origins: Sequence[str]) -> None:
+        self.jobs, self.origins = jobs, origins
+        self.hosts = {urlsplit(origin).netloc for origin in origins}
         self.base = f"/{secrets.token_urlsafe(16)}/"
         # The ward, as far as it is known.
         self.name = "Ward"
@@ -175,8 +180,8 @@ class _Handler(BaseHTTPRequestHandler):
 
     def _page(self, path: str, plan: WardPlan) -> None:
         """Shows another page of a plan: with costs, for the wall, or of calendars; or sends a calendar."""
-        folder = self.site.jobs.folder.top / CALENDARS
-        there = {file.name for file in folder.iterdir()} if plan.published and folder.is_dir() else set()
+        top = self.site.jobs.folder.top
+        there = own_calendars(top) if plan.published else set()
         names = {f"{CALENDARS}/{quote(name)}": name for name in file_names(plan.scenario.nurses).values() if name in there}
         if path == "roster":
             self._answer(page_text(roster_content(plan)))
@@ -185,7 +190,7 @@ class _Handler(BaseHTTPRequestHandler):
         elif path == CALENDARS:
             self._answer(calendars_markup(plan, self.site.base, there))
         elif path in names:
-            self._answer((folder / names[path]).read_bytes().decode("utf-8"), kind="text/calendar; charset=utf-8")
+            self._answer((top / CALENDARS / names[path]).read_bytes().decode("utf-8"), kind="text/calendar; charset=utf-8")
         else:
             self._refuse(404, "there is no such page")
 
@@ -194,13 +199,13 @@ class _Handler(BaseHTTPRequestHandler):
         path, _ = self._path()
         if path is None:
             return
-        length, origin = self.headers.get("Content-Length", ""), self.headers.get("Origin")
-        if origin is not None and urlsplit(origin).netloc != self.headers.get("Host"):
+        length, origin = _length(self.headers.get("Content-Length", "")), self.headers.get("Origin")
+        if origin is not None and origin not in self.site.origins:
             return self._refuse(403, "this form is of another page")
-        if path or not length.isdigit() or int(length) > _MOST_BYTES:
+        if path or length is None:
             return self._refuse(400, "this is no form of the page")
         try:
-            fields = dict(parse_qsl(self.rfile.read(int(length)).decode(), max_num_fields=_MOST_FIELDS))
+            fields = dict(parse_qsl(self.rfile.read(length).decode(), max_num_fields=_MOST_FIELDS))
         except ValueError:
             return self._refuse(400, "this is no form of the page")
         query = self.site.post(fields)
@@ -211,23 +216,16 @@ class _Handler(BaseHTTPRequestHandler):
 
     def _path(self) -> Tuple[Optional[str], Dict[str, str]]:
         """The part of the path after the secret, and the query; None if the request is refused."""
-        found = urlsplit(self.path)
-        known = hmac.compare_digest(found.path[: len(self.site.base)].encode(), self.site.base.encode())
-        if not known or not self._is_own_host() or len(self.path) > _MOST_BYTES:
+        place, _, query = self.path.partition("?")
+        known = hmac.compare_digest(place[: len(self.site.base)].encode(), self.site.base.encode())
+        if not known or self.headers.get("Host") not in self.site.hosts or len(self.path) > _MOST_BYTES:
             self._refuse(403, "open the address that inrc2pb-plan has printed")
             return None, {}
         try:
-            return found.path[len(self.site.base) :], dict(parse_qsl(found.query, max_num_fields=_MOST_FIELDS))
+            return place[len(self.site.base) :], dict(parse_qsl(query, max_num_fields=_MOST_FIELDS))
         except ValueError:
             self._refuse(400, "this is no address of the page")
             return None, {}
-
-    def _is_own_host(self) -> bool:
-        """Whether the browser means this server by its own name: a page of another name could have been led here."""
-        port = self.site.port
-        return self.headers.get("Host") in {
-            f"{name}:{port}" for name in (self.site.host, *(["localhost"] if self.site.host == "127.0.0.1" else []))
-        }
 
     def _answer(self, text: str, status: int = 200, kind: str = "text/html; charset=utf-8") -> None:
         data = text.encode("utf-8", errors="replace")
@@ -262,16 +260,34 @@ def _looked(plan: Optional[WardPlan], kept: Fields, said: Said) -> Optional[Plac
     return Place(nurse, day) if day is not None and nurse in plan.scenario.nurses else None
 
 
-class LocalServer:
-    """A server that runs until a signal comes. `address` is that of its page."""
+def _length(text: str) -> Optional[int]:
+    """The number of bytes of a form; None if it is none, or too large."""
+    is_number = text.isascii() and text.isdecimal() and len(text) <= len(str(_MOST_BYTES))
+    return int(text) if is_number and int(text) <= _MOST_BYTES else None
 
-    def __init__(self, jobs: Jobs, host: str, port: int) -> None:
-        site = Site(jobs, host)
-        self._jobs = jobs
-        self._server = ThreadingHTTPServer((host, port), type("Handler", (_Handler,), {"site": site}))
-        self._server.daemon_threads = True
-        site.port = self._server.server_port
-        self.address = f"http://{host}:{site.port}{site.base}"
+
+class _Server(ThreadingHTTPServer):
+    """A server that says nothing of browsers that go away before they have their answer."""
+
+    daemon_threads = True
+
+    def handle_error(self, request: Any, client_address: Any) -> None:
+        """Tells a fault of the program."""
+        if not isinstance(sys.exc_info()[1], (ConnectionError, TimeoutError)):
+            super().handle_error(request, client_address)
+
+
+class LocalServer:
+    """A server that runs until a signal comes, at a port. `address` is that of its page. It begins with `origin`, if a proxy stands before
+    the server, so that browsers know the page by another name."""
+
+    def __init__(self, jobs: Jobs, host: str, port: int, origin: str = "") -> None:
+        self._jobs, self._server = jobs, _Server((host, port), _Handler)
+        self.port = self._server.server_port
+        names = [host, "localhost"] if host == LOCAL else [host]
+        site = Site(jobs, [origin] if origin else [f"http://{name}:{self.port}" for name in names])
+        self._server.RequestHandlerClass = type("Handler", (_Handler,), {"site": site})
+        self.address = f"{site.origins[0]}{site.base}"
 
     def run(self, signals: Interrupts) -> None:
         """Serves until a signal comes; a verb that runs is stopped, and keeps its best plan."""

@@ -4,13 +4,13 @@ import datetime
 import re
 from dataclasses import replace
 from pathlib import Path
-from typing import Collection, Dict, Iterator, List, Mapping, NamedTuple, Optional, Sequence
+from typing import Collection, Dict, Iterator, List, Mapping, NamedTuple, Optional, Sequence, Set
 
 from ..shown.calendars import file_names, issue_now, write_calendars
 from ..shown.page import page_text
 from ..shown.page_tables import Content
 from ..week.dates import DAY, date_text
-from ..week.writing import file_at, write_text
+from ..week.writing import write_text
 from .days_beside import beside_lines
 from .not_kept import days_away_lines, not_kept_lines
 from .plan_days import WEEK_DAYS, PlanDays
@@ -53,6 +53,7 @@ def write_pages(
     # The pages that say which plan they show come last, so a run that was killed before its end is known by them.
     calendars = _write_calendars(top, plan, before) if plan.published else []
     for name, content in contents.items():
+        _without_link(top / name)
         write_text(top / name, page_text(content))
     return Pages([*(top / name for name in contents), *calendars], gone)
 
@@ -60,22 +61,34 @@ def write_pages(
 def other_plan_lines(top: Path, stamp: str) -> Iterator[str]:
     """The pages of the folder that show another plan than the one with this name, as after a run that was killed."""
     for path in (top / ROSTER, top / WALL):
-        found = _PLAN.search(path.read_text(encoding="utf-8", errors="replace")) if path.is_file() else None
+        found = _PLAN.search(path.read_text(encoding="utf-8", errors="replace")) if is_own_file(path) else None
         if found and found[1] != stamp:
             yield f"{path.name} shows another plan than the one that holds, as if a run was killed: the verbs plan and page write it anew"
 
 
+def is_own_file(path: Path) -> bool:
+    """Whether the path is a file of its folder, and not a link: a link could lead to a file that only the user of this program may read."""
+    return path.is_file() and not path.is_symlink()
+
+
+def _without_link(path: Path) -> None:
+    """Takes a link away, so that what is written there does not change a file that the link leads to."""
+    if path.is_symlink():
+        path.unlink()
+
+
 def taken_away(top: Path, names: Sequence[str]) -> List[Path]:
-    """Takes these files away. Returns those that were there."""
+    """Takes these files away; of a link only the link. Returns those that were there."""
     there = [top / name for name in names if (top / name).is_file()]
     for path in there:
-        file_at(path).unlink()
+        path.unlink()
     return there
 
 
 def calendars_taken_away(top: Path, nurses: Sequence[str], before: Mapping[str, Collection[int]]) -> List[Path]:
     """Takes the calendars of this period away, if it has some. Returns their folder, if there were any."""
     names = file_names(dict.fromkeys((*nurses, *before))).values() if before else ()
+    _without_link(top / CALENDARS)
     gone = taken_away(top / CALENDARS, list(names))
     if gone and not any((top / CALENDARS).iterdir()):
         (top / CALENDARS).rmdir()
@@ -89,7 +102,7 @@ def worked_name(days: PlanDays, periods: int) -> str:
 
 def worked_pages(top: Path) -> Dict[str, str]:
     """The names of the pages of weeks that are over, of all periods, the last one first, and their texts."""
-    names = sorted((file.name for file in top.iterdir() if file.is_file()), key=lambda name: (len(name), name), reverse=True)
+    names = sorted((file.name for file in top.iterdir() if is_own_file(file)), key=lambda name: (len(name), name), reverse=True)
     found = [match for match in map(_WORKED.fullmatch, names) if match]
     return {match[0]: f"Weeks that are over{_period_text(match[1])}" for match in found}
 
@@ -105,6 +118,12 @@ def _period_text(period: Optional[str]) -> str:
         return f", period {period}"
 
 
+def own_calendars(top: Path) -> Set[str]:
+    """The names of the files in the folder of the calendars, if this folder is no link."""
+    folder = top / CALENDARS
+    return {path.name for path in folder.iterdir() if is_own_file(path)} if folder.is_dir() and not folder.is_symlink() else set()
+
+
 def _worked_content(plan: WardPlan) -> Content:
     """What the page of the weeks that are over shows: how they were worked."""
     return Content(plan.view(range(plan.open_week)), None, plan.days.monday, plan.sheet.times, as_of=datetime.datetime.now())
@@ -116,6 +135,9 @@ def _write_calendars(top: Path, plan: WardPlan, before: Mapping[str, Collection[
     if monday is None or not plan.is_planned:
         return []
     dates = {nurse: [plan.days.date(day) for day in days] for nurse, days in before.items()}
+    _without_link(top / CALENDARS)
+    for path in (top / CALENDARS).glob("*.ics"):
+        _without_link(path)
     write_calendars(plan.view(range(plan.days.weeks)), top / CALENDARS, monday, plan.sheet.times, issue_now(dates))
     return [top / CALENDARS]
 

@@ -87,7 +87,7 @@ class PlanStore:
 
     def worked_pages(self, plan: Optional[WardPlan]) -> Dict[str, str]:
         """The pages of weeks that are over, and their texts; if the sheet has a fault, so there is no plan, that of the roster too."""
-        is_left = plan is None and (self.folder.top / pages.ROSTER).is_file()
+        is_left = plan is None and pages.is_own_file(self.folder.top / pages.ROSTER)
         found = {pages.ROSTER: "The roster as it was last written"} if is_left else {}
         return {**found, **pages.worked_pages(self.folder.top)}
 

@@ -5,6 +5,7 @@ from pathlib import Path
 from typing import Dict, NamedTuple, NoReturn, Optional
 
 from ..week.faults import FileFault
+from ..week.slots import is_utf8, text_of
 from .plan_days import PlanDays
 
 NAME = "plan.txt"
@@ -33,13 +34,23 @@ class Record(NamedTuple):
         return f"{self.verb}, {self.time:%Y-%m-%d %H:%M}"
 
 
+def state_text(path: Path) -> str:
+    """The text of a file that verbs have written; a FileFault names its line if another program has saved it with other bytes."""
+    text = text_of(path)
+    for number, line in enumerate(text.splitlines(), 1):
+        if not is_utf8(line):
+            cure = "save the file as UTF-8, or type undo to go back to the plan before it"
+            raise FileFault(path, number, f"this line has a byte that is no UTF-8, as another program has saved it: {cure}")
+    return text
+
+
 def read_record(folder: Path) -> Record:
     """The record of a plan's folder."""
     path = folder / NAME
     values: Dict[str, str] = {}
     if not path.exists():
         raise FileFault(folder, 0, "this folder is no plan: move it away, or type undo to go back to the plan before it")
-    for line in path.read_text(encoding="utf-8").splitlines():
+    for line in state_text(path).splitlines():
         key, _, value = line.partition(" = ")
         values[key] = value
     if list(values) != list(_KEYS):

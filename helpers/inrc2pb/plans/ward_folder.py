@@ -9,7 +9,7 @@ import shutil
 import tempfile
 import threading
 from pathlib import Path
-from typing import Callable, Dict, Iterator, List, Optional, TextIO
+from typing import Callable, Dict, Iterator, List, Optional, TextIO, Tuple
 
 from ..programs.interrupts import interrupts
 from ..week.faults import Misuse
@@ -18,7 +18,7 @@ from ..week.writing import write_text
 
 PLANS, UNDONE, LOCK = "plans", "undone", "lock"
 _SPREADSHEETS, _CSV = (".ods", ".xlsx"), (".csv", ".tsv")
-_NAME = re.compile("([0-9]{4})-.+")
+_NAME = re.compile("([0-9]{4,})-.+")
 # Seconds between two looks whether the run that works in the folder has ended.
 _PAUSE = 0.2
 
@@ -47,7 +47,7 @@ class WardFolder:
         """The folders of all plans, in the order in which they were made."""
         if not self.plans.is_dir():
             return []
-        return sorted(path for path in self.plans.iterdir() if path.is_dir() and _NAME.fullmatch(path.name))
+        return sorted((path for path in self.plans.iterdir() if path.is_dir() and _NAME.fullmatch(path.name)), key=_place)
 
     def last(self) -> Optional[Path]:
         """The folder of the plan that holds, if there is one."""
@@ -61,7 +61,7 @@ class WardFolder:
 
     def add(self, verb: str, texts: Dict[str, str], now: datetime.datetime) -> Path:
         """Writes a plan with these files: its folder is there as a whole or not at all."""
-        number = 1 + max((int(path.name[:4]) for path in [*self.all_plans(), *self.undone()]), default=0)
+        number = 1 + max((_place(path)[0] for path in [*self.all_plans(), *self.undone()]), default=0)
         target = self.plans / f"{number:04}-{now:%Y-%m-%d-%H%M}-{verb}"
         new = Path(tempfile.mkdtemp(prefix=".new-", dir=self.plans))
         try:
@@ -122,6 +122,11 @@ class WardFolder:
                     say("the other run has ended")
                     return
         raise KeyboardInterrupt
+
+
+def _place(plan: Path) -> Tuple[int, str]:
+    """The number and the name of a plan's folder: the plan after number 9999 has five digits."""
+    return int(plan.name.partition("-")[0]), plan.name
 
 
 def _is_taken(file: TextIO) -> bool:

@@ -12,6 +12,7 @@ from ..sheets.sheet_rows import SheetCell, tidy
 from ..sheets.ward_sheets import table_of
 from ..week.faults import FileFault, Misuse
 from .plan_days import OtherPlan, PlanDays
+from .record import state_text
 
 NAME = "absences.csv"
 # The words of days on which a nurse is back: the first empties her cell, the second gives the day its cell of the spreadsheet again.
@@ -62,13 +63,12 @@ def read_written(folder: Path, days: PlanDays) -> Tuple[WrittenAbsence, ...]:
     """The absences of a plan's folder that are on these days."""
     path = folder / NAME
     found: List[WrittenAbsence] = []
-    with open(path, encoding="utf-8", newline="") as file:
-        for number, row in enumerate(csv.reader(file), 1):
-            if len(row) != 3:
-                raise FileFault(path, number, "this row was changed: write a nurse, a day and a word")
-            day = _day(path, number, row[1], days) if number > 1 else None
-            if day is not None:
-                found.append(WrittenAbsence(row[0], day, row[2]))
+    for number, row in enumerate(csv.reader(state_text(path).splitlines()), 1):
+        if len(row) != 3:
+            raise FileFault(path, number, "this row was changed: write a nurse, a day and a word")
+        day = _day(path, number, row[1], days) if number > 1 else None
+        if day is not None:
+            found.append(WrittenAbsence(row[0], day, row[2]))
     return tuple(found)
 
 

@@ -16,7 +16,10 @@ from inrc2pb.programs.interrupts import interrupts
 
 
 class ServedPage(FolderTest):
-    """A folder whose page is served. A form that a test sends has the stamp of the plan, if it has none of its own."""
+    """A folder whose page is served, as `origin` if there is one. A form that a test sends has the stamp of the plan, if it has none of its
+    own."""
+
+    origin = ""
 
     def setUp(self):
         super().setUp()
@@ -24,8 +27,9 @@ class ServedPage(FolderTest):
         self.addCleanup(stack.close)
         signals = stack.enter_context(interrupts())
         self.jobs = Jobs(WardFolder(self.ward), read_sheet, signals, 7.0)
-        server = LocalServer(self.jobs, "127.0.0.1", 0)
-        self.site = urlsplit(server.address)
+        server = LocalServer(self.jobs, "127.0.0.1", 0, self.origin)
+        self.address = server.address
+        self.site = urlsplit(f"http://127.0.0.1:{server.port}{urlsplit(server.address).path}")
         # The address that the browser shows.
         self.shown = self.site.path
         thread = threading.Thread(target=server.run, args=(signals,))

@@ -3,6 +3,7 @@
 import datetime
 import random
 import re
+import shutil
 import sys
 import unittest
 from dataclasses import dataclass, field, replace
@@ -294,6 +295,48 @@ class Undone(FolderPages):
         self.verbs.undo()
         for name in ("notes.html", "calendars/mine.ics", "worked-2026-11-02.html"):
             self.assertEqual((self.ward / name).read_text(), "mine")
+
+
+class Links(FolderPages):
+    """A folder that several people may write: who links a page or a calendar to a file gets nothing written there."""
+
+    def setUp(self):
+        super().setUp()
+        self.outside = self.folder / "outside.txt"
+        self.outside.write_text("mine")
+
+    def test_pages_and_calendars_take_the_place_of_links(self):
+        (self.ward / "calendars").mkdir()
+        names = ("roster.html", "wall.html", "worked-2026-11-30.html", "calendars/Finn.ics")
+        for name in names:
+            (self.ward / name).symlink_to(self.outside)
+        self.page()
+        self.over(random.Random(1))
+        self.assertEqual(self.outside.read_text(), "mine")
+        for name in names:
+            self.assertTrue((self.ward / name).is_file() and not (self.ward / name).is_symlink(), name)
+        self.assert_pages("page and over")
+
+    def test_a_folder_of_calendars_that_is_a_link(self):
+        other = self.folder / "other"
+        other.mkdir()
+        (other / "Finn.ics").write_text("mine")
+        (self.ward / "calendars").symlink_to(other)
+        self.page()
+        self.assertEqual([path.read_text() for path in other.iterdir()], ["mine"])
+        self.assert_pages("page")
+        # Neither does undo take anything away there.
+        shutil.rmtree(self.ward / "calendars")
+        (self.ward / "calendars").symlink_to(other)
+        self.undo()
+        self.assertEqual([path.read_text() for path in other.iterdir()], ["mine"])
+
+    def test_undo_takes_a_link_away_and_not_its_file(self):
+        (self.ward / "wall.html").symlink_to(self.outside)
+        (self.ward / "worked-2026-11-30.html").symlink_to(self.outside)
+        self.over(random.Random(1))
+        self.undo()
+        self.assertEqual((self.outside.read_text(), (self.ward / "wall.html").is_symlink()), ("mine", False))
 
 
 class Calendars(FolderPages):

@@ -2,7 +2,11 @@
 
 import fcntl
 import html
+import io
 import re
+import socket
+import struct
+import threading
 import time
 import unittest
 from unittest import mock
@@ -33,6 +37,56 @@ class Page(ServedPage):
             with self.subTest(words):
                 self.assertEqual(self.asks(**words)[0], status)
         self.assertEqual(set(self.ward.rglob("*")), before)
+
+    def test_no_link_is_followed_out_of_the_folder(self):
+        self.write_plan()
+        self.sends(verb="page")
+        secret, calendars = self.folder / "secret.txt", self.ward / "calendars"
+        secret.write_text("the secret")
+        (self.ward / "worked-2026-11-02.html").symlink_to(secret)
+        (calendars / "Chen.ics").unlink()
+        (calendars / "Chen.ics").symlink_to(secret)
+        self.assertNotIn("worked-2026-11-02.html", self.asks()[1])
+        self.assertNotIn("Chen.ics", self.asks(path=f"{self.site.path}calendars")[1])
+        for name in ("worked-2026-11-02.html", "calendars/Chen.ics"):
+            self.assertEqual(self.asks(path=f"{self.site.path}{name}")[0], 404)
+        # Nor a folder of calendars that is a link, nor the last roster if the spreadsheet has a fault.
+        calendars.rename(self.folder / "other")
+        calendars.symlink_to(self.folder / "other")
+        self.assertEqual(self.asks(path=f"{self.site.path}calendars/Finn.ics")[0], 404)
+        (self.ward / "roster.html").unlink()
+        (self.ward / "roster.html").symlink_to(secret)
+        self.rows["plan"][1][1] = "wihs"
+        self.write()
+        self.assertEqual(self.asks(path=f"{self.site.path}roster.html")[0], 404)
+
+    def test_odd_requests_print_no_traceback(self):
+        with mock.patch("sys.stderr", io.StringIO()) as printed:
+            for status, words in (
+                (400, {"method": "POST", "form": "verb=check", "Content_Length": "²".encode()}),
+                (400, {"method": "POST", "form": "verb=check", "Content_Length": "1" * 5000}),
+                (400, {"method": "POST", "form": "verb=check", "Content_Length": "-1"}),
+                (403, {"method": "POST", "form": "verb=check", "Origin": "http://["}),
+                (403, {"path": "HTTP://["}),
+            ):
+                with self.subTest(words):
+                    self.assertEqual(self.asks(**words)[0], status)
+            self.assert_refused("is no number of seconds", {"verb": "plan", "seconds": "²"})
+            self.goes_away()
+        self.assertEqual(printed.getvalue(), "")
+
+    def goes_away(self):
+        """A browser that asks for a page and resets its connection before the answer."""
+        threads = threading.active_count()
+        with socket.create_connection((self.site.hostname, self.site.port)) as browser:
+            browser.setsockopt(socket.SOL_SOCKET, socket.SO_LINGER, struct.pack("ii", 1, 0))
+            browser.sendall(f"GET {self.site.path} HTTP/1.1\r\nHost: {self.site.netloc}\r\n\r\n".encode())
+            limit = time.monotonic() + 30
+            while threading.active_count() == threads and time.monotonic() < limit:
+                time.sleep(0.01)
+        while threading.active_count() > threads and time.monotonic() < limit:
+            time.sleep(0.05)
+        self.assertEqual((threading.active_count(), self.asks()[0]), (threads, 200))
 
     def test_what_no_form_sends_is_a_sentence_on_the_page(self):
         for says, fields in (
@@ -314,6 +368,28 @@ class Page(ServedPage):
             time.sleep(0.1)
         self.assertFalse(self.jobs.runs)
         self.assertTrue(list((self.ward / "plans").glob("0*")))
+
+
+class BehindAProxy(ServedPage):
+    """A page that a proxy with TLS shows as https://ward.example."""
+
+    origin = "https://ward.example"
+
+    def test_only_the_name_of_the_proxy_is_known(self):
+        self.assertEqual(self.address.split(self.site.path)[0], self.origin)
+        self.write_plan()
+        for status, words in (
+            (200, {}),
+            (303, {"method": "POST", "form": "verb=check"}),
+            (303, {"method": "POST", "form": "verb=check", "Origin": self.origin}),
+            (403, {"Host": self.site.netloc}),
+            (403, {"Host": "ward.example:80"}),
+            (403, {"method": "POST", "form": "verb=check", "Origin": "http://ward.example"}),
+            (403, {"method": "POST", "form": "verb=check", "Origin": f"http://{self.site.netloc}"}),
+        ):
+            with self.subTest(words):
+                self.assertEqual(self.asks(**{"Host": "ward.example", **words})[0], status)
+            self.jobs.wait()
 
 
 if __name__ == "__main__":

@@ -13,11 +13,13 @@ import time
 import unittest
 from dataclasses import replace
 from pathlib import Path
+from unittest import mock
 
 from ward import HAS_CBC, HELPERS, ROSTER, HelperTest, files, program, run
 
 from inrc2pb.commands.plan import read_sheet
 from inrc2pb.plans.few_changes import with_few_changes
+from inrc2pb.plans.local_server import LocalServer
 from inrc2pb.plans.plan_days import OtherPlan, PlanDays
 from inrc2pb.plans.record import Record
 from inrc2pb.plans.skill_labels import with_old_skills
@@ -490,6 +492,12 @@ class Refused(FolderTest):
             ("--time has to be a number of seconds above 0", "plan", "--time", "0"),
             ("--port 70000: give a number from 1024 to 65535", "serve", "--port", "70000"),
             ("--port 0: Cannot assign requested address: give the name of this machine, and a free port", "serve", "--host", "203.0.113.1"),
+            ("--host '0.0.0.0' is no address that a browser can open: give the name or number of this machine, or with --origin the address",
+             "serve", "--host", "0.0.0.0"),
+            ("--host '' is no address", "serve", "--host", ""),
+            ("--origin 'ward.example': give the beginning of an address, as https://ward.example", "serve", "--origin", "ward.example"),
+            ("--origin 'https://ward.example/': give the beginning", "serve", "--origin", "https://ward.example/"),
+            ("--port, --host and --origin are for serve: leave them out", "plan", "--origin", "https://ward.example"),
             (f"has no plan yet: type inrc2pb-plan '{self.ward}' plan", "swap", "Chen", "Fri"),
             ("has no plan yet", "page"),
             ("there is nothing to undo", "undo"),
@@ -498,6 +506,45 @@ class Refused(FolderTest):
             with self.subTest(words):
                 self.assert_refused(says, self.ward, *words)
                 self.assertFalse(list((self.ward / "plans").glob("0*")))
+
+    def test_a_page_beyond_this_machine_is_told_to_be_in_clear_text(self):
+        says = "who reads your network reads this address and the roster: without a proxy with TLS, serve only where you trust all\n"
+        for words, begin, is_told in (
+            ((), "http://127.0.0.1:", False),
+            (("--host", "localhost"), "http://localhost:", False),
+            (("--host", "127.0.0.2"), "http://127.0.0.2:", True),
+            (("--host", "0.0.0.0", "--origin", "http://ward.example:9999"), "http://ward.example:9999/", True),
+            (("--origin", "https://ward.example"), "https://ward.example/", False),
+        ):
+            with self.subTest(words), mock.patch.object(LocalServer, "run"):
+                status, printed, said = run("plan", self.ward, "serve", *words)
+                self.assertEqual((status, says in said), (0, is_told), said)
+                self.assertIn(f"to nobody else: {begin}", printed)
+
+    def test_a_file_of_the_plan_that_another_program_has_saved(self):
+        # A spreadsheet program has saved `Müller` in a code page of Windows.
+        for name in ("absences.csv", "agreed.csv", "plan.txt"):
+            with self.subTest(name):
+                self.write_plan()
+                self.write_plan()
+                before, path = self.last(), self.last() / name
+                line = path.read_bytes().count(b"\n") + 1
+                path.write_bytes(path.read_bytes() + b"M\xfcller\n")
+                says = "this line has a byte that is no UTF-8, as another program has saved it: save the file as UTF-8, or type undo"
+                for verb in ("check", "plan", "page"):
+                    self.assert_refused(f"{name} line {line}: {says}", self.ward, verb)
+                self.assertIn("holds again", self.does("undo"))
+                self.assertNotEqual(self.last(), before)
+
+    def test_the_plan_after_number_9999(self):
+        self.write_plan()
+        self.last().rename(self.ward / "plans" / "9999-2026-11-28-1200-plan")
+        for name in ("10000", "10001"):
+            self.write_plan()
+            self.assertEqual([path.name.split("-")[0] for path in WardFolder(self.ward).all_plans()][-1], name)
+            self.assertEqual(WardFolder(self.ward).last(), WardFolder(self.ward).plans / f"{name}-2026-11-28-1200-plan")
+        WardFolder(self.ward).undo()
+        self.assertEqual(WardFolder(self.ward).stamp, "10000-2026-11-28-1200-plan")
 
     def test_times_of_some_shifts_only(self):
         for row, times in zip(self.rows["shifts"], ("times", "7:00-15:30", "", "22:30-25:00")):
