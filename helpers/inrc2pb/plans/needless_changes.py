@@ -76,7 +76,6 @@ class _Judge:
 
     def _not_kept(self, nurse: str, cells: Mapping[int, Cell]) -> int:
         """How much they do not keep of absences, of limits that hold, and beside days away."""
-        plan = self._plan
         working = sum(is_broken_by(self._away[day // WEEK_DAYS], cell._replace(day=day % WEEK_DAYS)) for day, cell in cells.items())
         return working + self._alone.above(nurse, cells)[0] + self._alone.beside(nurse, cells)[0]
 
