@@ -10,12 +10,12 @@ from typing import Callable, Dict, List, Optional, Sequence
 from ..plans.local_jobs import Jobs
 from ..plans.local_server import LOCAL, LocalServer
 from ..plans.plan_days import PlanDays
-from ..plans.written_absences import WrittenAbsence, with_written
 from ..plans.plan_store import Means
+from ..plans.state import DayWord
 from ..plans.verbs import Verbs
 from ..plans.ward_folder import WardFolder
-from ..plans.ward_plan import Sheet
-from ..plans.week_rows import week_rows
+from ..plans.ward import Ward
+from ..plans.ward_sheet import week_rows, with_written
 from ..programs.interrupts import interrupts
 from ..programs.program import find_program
 from ..programs.progress import Progress
@@ -83,14 +83,14 @@ def _options() -> argparse.ArgumentParser:
     return options
 
 
-def read_sheet(path: Path, name: Optional[str], written: Sequence[WrittenAbsence]) -> Sheet:
+def read_sheet(path: Path, name: Optional[str], written: Sequence[DayWord]) -> Ward:
     """The files of a ward's spreadsheet, with these absences in its plan."""
     book = read_book(path)
     book = with_written(book, read_days(book), written)
     days = read_days(book)
     files = ward_files(book, name or ward_name(path), days, days.weeks, COUNTED)
     credit = {nurse: shifts for nurse, (_, shifts) in files.credit.items()}
-    return Sheet(files.texts, files.warnings, PlanDays(days.monday, days.weeks), credit, shift_times(book), files.holidays, week_rows(book))
+    return Ward(files.texts, files.warnings, PlanDays(days.monday, days.weeks), credit, shift_times(book), files.holidays, week_rows(book))
 
 
 def _check(given: argparse.Namespace) -> None:

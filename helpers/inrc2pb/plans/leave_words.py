@@ -6,7 +6,8 @@ from ..judging.absences import joined, readable
 from ..judging.rules import Charge
 from ..shown.charge_words import in_words
 from .plan_days import WEEK_DAYS
-from .ward_plan import ALWAYS_OFF, WardPlan
+from .state import NurseDay
+from .ward import ALWAYS_OFF, WardPlan
 
 
 def leave_lines(plan: WardPlan) -> Iterator[str]:
@@ -24,5 +25,5 @@ def _words(plan: WardPlan, number: int, charge: Charge) -> List[str]:
     if not charge.days or charge.nurse is None:
         return []
     first, last = (WEEK_DAYS * number + day for day in charge.days)
-    reasons = (plan.away.get((charge.nurse, day), ALWAYS_OFF) for day in range(first - charge.before, last + 1))
+    reasons = (plan.away.get(NurseDay(charge.nurse, day), ALWAYS_OFF) for day in range(first - charge.before, last + 1))
     return [word for word in dict.fromkeys(reasons) if word != ALWAYS_OFF]

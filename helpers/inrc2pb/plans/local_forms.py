@@ -10,7 +10,7 @@ from ..week.hints import quoted
 from .plan_days import WEEK_DAYS
 from .search_verbs import CHANGE_SECONDS, WEEK_SECONDS
 from .verbs import Verbs
-from .ward_plan import WardPlan
+from .ward import WardPlan
 
 Fields = Mapping[str, str]
 _MOST_SECONDS = 3600.0

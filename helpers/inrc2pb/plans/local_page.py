@@ -15,10 +15,11 @@ from .local_forms import FORMS, STAMP, Fields, form_markup, sure_markup, swap_ma
 from .local_jobs import Said
 from .pages import CALENDARS, roster_content
 from .plan_days import WEEK_DAYS
+from .state import NurseDay
 from .swap_verb import NOT_WRITTEN
 from .swap_words import MOST_OFFERS, offer_text, why_nobody
 from .swaps import Swaps
-from .ward_plan import WardPlan
+from .ward import WardPlan
 
 REFRESH_SECONDS = 2
 _ROSTER = "roster"
@@ -175,14 +176,14 @@ def calendars_markup(plan: WardPlan, address: str, there: Collection[str]) -> st
 def _cell(plan: WardPlan, place: Place, address: str, stamp: str) -> Markup:
     """What a nurse is charged in the week of a day, and who could take her shift on it."""
     nurse, day = place
-    week = plan.view().weeks[day // WEEK_DAYS - plan.open_week]
+    week = plan.view().weeks[day // WEEK_DAYS - plan.state.open_week]
     names = day_names(plan.days.monday, day // WEEK_DAYS)
     charged = [charge for charge in week.charges or () if charge.nurse == nurse]
     items = [element("li", readable(f"{charge.cost} points: {in_words(charge, False, names)}")) for charge in charged]
     nothing = "nothing is charged in this week" if week.charges is not None else "this week has no cost, since it breaks a hard rule"
     swaps = Swaps(plan)
     cell = swaps.works(nurse, day)
-    has = readable(f"{cell.shift} {cell.skill}") if cell else plan.away.get((nurse, day), "off")
+    has = readable(f"{cell.shift} {cell.skill}") if cell else plan.away.get(NurseDay(nurse, day), "off")
     parts = [
         element("h2", f"{readable(nurse)}, {plan.days.text(day)}: {has}"),
         element("ul", *(items or [element("li", nothing)])),

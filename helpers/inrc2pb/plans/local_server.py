@@ -20,7 +20,7 @@ from .local_jobs import CHANGED, RUNS, Jobs, Said, fault_lines
 from .local_page import Place, Shown, calendars_markup, page_markup
 from .pages import CALENDARS, own_calendars, roster_content
 from .plan_days import PERIOD_IS_OVER, PeriodOver
-from .ward_plan import WardPlan
+from .ward import WardPlan
 
 # The most bytes of a form and of its address, its most fields, the seconds that a browser has for a request, and the most forms that
 # are kept.
@@ -181,7 +181,7 @@ class _Handler(BaseHTTPRequestHandler):
     def _page(self, path: str, plan: WardPlan) -> None:
         """Shows another page of a plan: with costs, for the wall, or of calendars; or sends a calendar."""
         top = self.site.jobs.folder.top
-        there = own_calendars(top) if plan.published else set()
+        there = own_calendars(top) if plan.state.published else set()
         names = {f"{CALENDARS}/{quote(name)}": name for name in file_names(plan.scenario.nurses).values() if name in there}
         if path == "roster":
             self._answer(page_text(roster_content(plan)))

@@ -6,8 +6,7 @@ from ..judging.absences import absences_of, in_words, joined, readable, working_
 from ..judging.limits import exceeded, limits_in_words, limits_way_out
 from ..week.facts import SHIFTS, Charged
 from ..week.hints import plural
-from .plan_days import WEEK_DAYS
-from .ward_plan import WardPlan
+from .ward import WardPlan
 
 # The rule on the shifts of a period.
 _TOTAL = "S6"
@@ -26,7 +25,7 @@ def not_kept_lines(plan: WardPlan) -> List[str]:
     """Who works while she is away, or above a limit that holds, and what would help."""
     lines: List[str] = []
     for number in plan.weeks:
-        cells, week, names = plan.rosters[number], plan.week(number), plan.day_names(number)
+        cells, week, names = plan.state.roster(number), plan.week(number), plan.day_names(number)
         broken, over = working_while_away(absences_of(week.data), cells), exceeded(week, week.data.limits, cells)
         if broken:
             skills = joined(dict.fromkeys(readable(cell.skill) for cell in broken))
@@ -41,7 +40,7 @@ def not_kept_lines(plan: WardPlan) -> List[str]:
 def exceeded_lines(plan: WardPlan) -> Iterator[str]:
     """The limits that hold which the plan that holds exceeds, and what would help; none if there is no plan."""
     for number in plan.weeks if plan.is_planned else ():
-        week, cells = plan.week(number), plan.rosters[number]
+        week, cells = plan.week(number), plan.state.roster(number)
         charged = [charge for charge in exceeded(week, week.data.limits, cells) if charge.rule != _TOTAL]
         words = (limits_in_words([charge], cells, plan.day_names(number)) for charge in charged)
         yield from (f"week {number} exceeds a limit that holds: {one}: plan again, or allow her more" for one in words)
@@ -55,7 +54,7 @@ def days_away_lines(plan: WardPlan) -> Iterator[str]:
 
 def _too_many_shifts(plan: WardPlan) -> Iterator[_TooMany]:
     """The nurses whose shifts exceed limits that hold, by the spreadsheet."""
-    for (fact, _), (kept, _) in zip(plan.sheet_claims, plan.claims) if plan.weeks and plan.is_planned else ():
+    for (fact, _), (kept, _) in zip(plan.ward.claims, plan.limits) if plan.weeks and plan.is_planned else ():
         if isinstance(fact, Charged) and isinstance(kept, Charged) and fact.kind == SHIFTS and fact.nurse is not None:
             contract = plan.scenario.contract_of(fact.nurse).assignments.maximum
             found = _TooMany(fact.nurse, plan.shifts_of(fact.nurse), contract + fact.most, contract + kept.most)
@@ -64,10 +63,9 @@ def _too_many_shifts(plan: WardPlan) -> Iterator[_TooMany]:
 
 def _shifts_line(plan: WardPlan, one: _TooMany) -> str:
     """That a nurse has too many shifts, in words. Shifts that are not over and not held can be taken away."""
-    held = {(cell.nurse, WEEK_DAYS * number + cell.day) for number in plan.weeks for cell in plan.held[number]}
-    fixed = {*held, *plan.away}
-    days = sorted(day for nurse, day in plan.works if nurse == one.nurse and (nurse, day) not in fixed)
-    above, counted = one.shifts - one.most, plan.sheet.credit.get(one.nurse, 0)
+    fixed = {*plan.held, *plan.away}
+    days = sorted(place.day for place in plan.works if place.nurse == one.nurse and place not in fixed)
+    above, counted = one.shifts - one.most, plan.ward.credit.get(one.nurse, 0)
     part = f", {counted} of them for days away," if counted else ""
     number = f"{plural(one.shifts, 'shift')}{part} of at most {one.most} in the period"
     cure = "no plan takes so many away, since the others were worked or are held: allow her more"

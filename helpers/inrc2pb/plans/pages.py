@@ -14,7 +14,7 @@ from ..week.writing import write_text
 from .days_beside import beside_lines
 from .not_kept import days_away_lines, not_kept_lines
 from .plan_days import WEEK_DAYS, PlanDays
-from .ward_plan import WardPlan
+from .ward import WardPlan
 
 ROSTER, WALL, CALENDARS = "roster.html", "wall.html", "calendars"
 # The name of the plan that a page shows, in its head.
@@ -43,15 +43,15 @@ def write_pages(
     """Writes the pages of a plan with this name, after this number of older periods. Each page of the folder then shows it, or weeks that
     are over. `old` is an older plan of the same weeks, and `before` has the days of nurses' shifts in the calendars of this period."""
     worked, contents = worked_name(plan.days, periods), {}
-    if plan.open_week:
+    if plan.state.open_week:
         contents[worked] = _worked_content(plan)
     if plan.is_planned and plan.weeks:
         contents[ROSTER] = replace(roster_content(plan, old), plan=stamp)
-        contents.update({WALL: replace(roster_content(plan), only_table=True, plan=stamp)} if plan.published else {})
+        contents.update({WALL: replace(roster_content(plan), only_table=True, plan=stamp)} if plan.state.published else {})
     gone = taken_away(top, [name for name in (worked, ROSTER, WALL) if name not in contents])
-    gone += [] if plan.published else calendars_taken_away(top, list(plan.scenario.nurses), before)
+    gone += [] if plan.state.published else calendars_taken_away(top, list(plan.scenario.nurses), before)
     # The pages that say which plan they show come last, so a run that was killed before its end is known by them.
-    calendars = _write_calendars(top, plan, before) if plan.published else []
+    calendars = _write_calendars(top, plan, before) if plan.state.published else []
     for name, content in contents.items():
         _without_link(top / name)
         write_text(top / name, page_text(content))
@@ -126,7 +126,7 @@ def own_calendars(top: Path) -> Set[str]:
 
 def _worked_content(plan: WardPlan) -> Content:
     """What the page of the weeks that are over shows: how they were worked."""
-    return Content(plan.view(range(plan.open_week)), None, plan.days.monday, plan.sheet.times, as_of=datetime.datetime.now())
+    return Content(plan.view(range(plan.state.open_week)), None, plan.days.monday, plan.ward.times, as_of=datetime.datetime.now())
 
 
 def _write_calendars(top: Path, plan: WardPlan, before: Mapping[str, Collection[int]]) -> List[Path]:
@@ -138,7 +138,7 @@ def _write_calendars(top: Path, plan: WardPlan, before: Mapping[str, Collection[
     _without_link(top / CALENDARS)
     for path in (top / CALENDARS).glob("*.ics"):
         _without_link(path)
-    write_calendars(plan.view(range(plan.days.weeks)), top / CALENDARS, monday, plan.sheet.times, issue_now(dates))
+    write_calendars(plan.view(range(plan.days.weeks)), top / CALENDARS, monday, plan.ward.times, issue_now(dates))
     return [top / CALENDARS]
 
 
@@ -146,8 +146,8 @@ def roster_content(plan: WardPlan, old: Optional[WardPlan] = None) -> Content:
     """What the pages show: the weeks that are not over, as of now."""
     monday = None if plan.days.monday is None else plan.days.monday + plan.first * DAY
     before = old.view() if old and old.is_planned else None
-    holidays = {day - plan.first for day in plan.sheet.holidays if day >= plan.first}
+    holidays = {day - plan.first for day in plan.ward.holidays if day >= plan.first}
     notes = (*not_kept_lines(plan), *days_away_lines(plan), *beside_lines(plan))
-    swapped = {(one.day // WEEK_DAYS - plan.open_week, one.nurse, one.day % WEEK_DAYS) for one in plan.agreed}
+    swapped = {(one.day // WEEK_DAYS - plan.state.open_week, one.nurse, one.day % WEEK_DAYS) for one in plan.state.agreed}
     now = datetime.datetime.now()
-    return Content(plan.view(), before, monday, plan.sheet.times, holidays=holidays, as_of=now, notes=notes, swapped=swapped)
+    return Content(plan.view(), before, monday, plan.ward.times, holidays=holidays, as_of=now, notes=notes, swapped=swapped)

@@ -3,9 +3,9 @@
 import tempfile
 from dataclasses import replace
 from pathlib import Path
-from typing import Collection, Dict, Iterator, List, NamedTuple, Sequence, Tuple
+from typing import Collection, Dict, Iterator, List, NamedTuple, Sequence
 
-from ..judging.absences import absences_of, is_broken_by, readable
+from ..judging.absences import is_broken_by, readable
 from ..judging.days_away import DaysAway
 from ..judging.runs import ANY_CHOICE
 from ..programs.clock import Clock
@@ -21,13 +21,11 @@ from ..week.faults import FileFault, fault_line
 from ..week.files import history_text, solution_text, week_text
 from ..week.records import DAYS, Cell, Solution, Week, WeekData
 from ..week.writing import write_text
-from .agreed_days import AgreedDay
 from .bound_words import UNKNOWN, bound_words
-from .days_beside_absences import days_off_beside_absences
-from .few_changes import CALL_POINTS, with_few_changes
+from .changes import CALL_POINTS, days_off_beside_absences, with_few_changes, with_old_skills
 from .plan_days import WEEK_DAYS
-from .skill_labels import with_old_skills
-from .ward_plan import FACTS, WardPlan
+from .state import NurseDay, in_week
+from .ward import FACTS, WardPlan, limits_for_leavers
 
 # The end of a line on a nurse who is away.
 IS_AWAY = " is away"
@@ -59,7 +57,7 @@ def search_plan(old: WardPlan, asked: Asked, progress: Progress) -> Found:
     with tempfile.TemporaryDirectory(prefix="inrc2pb-plan-") as name:
         files, beside = _files(old, asked, Path(name)), old.days_away._replace(fixed=asked.first - old.first)
         weeks = _weeks(files, beside, Calls(_older_rows(old), CALL_POINTS) if asked.few_changes and old.is_planned else Calls())
-        start = [cell._replace(day=cell.day - old.first) for cell in old.cells()] if old.is_planned else None
+        start = [cell._replace(day=cell.day - old.first) for cell in old.cells] if old.is_planned else None
         clock = Clock(asked.seconds)
         search = PeriodSearch(weeks, kept.append, clock, progress, start=start)
         with interrupts() as signals, signals.calling(search.interrupt):
@@ -70,8 +68,7 @@ def search_plan(old: WardPlan, asked: Asked, progress: Progress) -> Found:
                     raise
                 progress.warn(fault_line(fault))
     cells = [cell._replace(day=cell.day + old.first) for cell in kept[-1]]
-    held = [cell._replace(day=WEEK_DAYS * number + cell.day) for number in old.weeks for cell in old.held[number]]
-    labelled = with_old_skills(old.scenario, cells, [*old.cells(), *held])
+    labelled = with_old_skills(old.scenario, cells, [*old.cells, *old.held.values()])
     # The search may have counted points that a plan has not.
     bound = UNKNOWN if asked.few_changes or asked.agreed == MOST else bound_words(search)
     return Found(old.with_cells(labelled), bound, clock.stopped)
@@ -81,9 +78,10 @@ def _older_rows(old: WardPlan) -> Dict[str, bytes]:
     """The rows of the nurses who have shifts in the plan. On a day on which one is away she need not be called."""
     numbers = {shift: number for number, shift in enumerate(old.scenario.shift_types, 1)}
     found: Dict[str, bytes] = {}
-    for nurse in dict.fromkeys(nurse for nurse, _ in old.works):
-        cells = ((day, old.works.get((nurse, day))) for day in range(old.first, old.days.total))
-        found[nurse] = bytes(ANY_CHOICE if (nurse, day) in old.away else numbers[cell.shift] if cell else 0 for day, cell in cells)
+    for nurse in dict.fromkeys(one.nurse for one in old.works):
+        places = (NurseDay(nurse, day) for day in range(old.first, old.days.total))
+        cells = ((one, old.works.get(one)) for one in places)
+        found[nurse] = bytes(ANY_CHOICE if one in old.away else numbers[cell.shift] if cell else 0 for one, cell in cells)
     return found
 
 
@@ -97,56 +95,57 @@ def _weeks(files: PeriodFiles, beside: DaysAway, calls: Calls) -> PlannedWeeks:
 
 def _files(old: WardPlan, asked: Asked, folder: Path) -> PeriodFiles:
     """The files of a search, in this folder."""
-    history, given = folder / history_name(old.open_week), folder / FACTS
+    history, given = folder / history_name(old.state.open_week), folder / FACTS
     agreed = _kept_agreed(old, asked)
     claims = [*_later_claims(old, asked.first), *_past_claims(old, asked.first)]
     claims += _agreed_off(old, agreed) if asked.agreed == ALL else []
-    write_text(folder / "ward.txt", old.sheet.texts["ward.txt"])
-    write_text(history, history_text(old.histories[old.open_week]))
+    write_text(folder / "ward.txt", old.ward.texts["ward.txt"])
+    write_text(history, history_text(old.past))
     write_text(given, facts_text(old.scenario.name, claims))
+    held = [cell for cell in old.held.values() if cell.day >= asked.first] + [cell for cell in old.cells if cell.day < asked.first]
+    if asked.agreed == ALL:
+        held += [old.works[one] for one in agreed if one in old.works]
     weeks, fixes = [], {}
     for number in old.weeks:
-        first = asked.first - WEEK_DAYS * number
         path, fixes[number] = folder / f"week-{number}.txt", folder / f"fix-{number}.txt"
-        of_week = {(nurse, day - WEEK_DAYS * number) for nurse, day in agreed if day // WEEK_DAYS == number}
-        softly = range(max(first, 0), WEEK_DAYS if asked.few_changes else 0)
-        write_text(path, week_text(_week(old, number, softly, of_week if asked.agreed == MOST else ())))
-        cells = old.rosters.get(number, ())
-        held = [*(cell for cell in old.held[number] if cell.day >= first), *(cell for cell in cells if cell.day < first)]
-        held += [cell for cell in cells if (cell.nurse, cell.day) in of_week] if asked.agreed == ALL else []
-        write_text(fixes[number], solution_text(Solution(number, old.scenario.name, tuple(held))))
+        write_text(path, week_text(_week(old, number, asked, agreed if asked.agreed == MOST else ())))
+        write_text(fixes[number], solution_text(Solution(number, old.scenario.name, in_week(held, number))))
         weeks.append(path)
     return PeriodFiles(folder / "ward.txt", history, weeks, fixes, given=given)
 
 
-def _week(old: WardPlan, number: int, softly: range, agreed: Collection[Tuple[str, int]]) -> WeekData:
-    """The file of a week. On these days few shifts change, and as few agreed ones of nurses as possible."""
-    if number not in old.rosters:
+def _week(old: WardPlan, number: int, asked: Asked, agreed: Collection[NurseDay]) -> WeekData:
+    """The file of a week, in which few shifts change, if that is asked for, and as few of these agreed ones as possible."""
+    if not old.is_planned:
         return old.data[number]
-    new = set(old.scenario.nurses) - {nurse for nurse, _ in old.works}
-    days_off = ((nurse, day - WEEK_DAYS * number) for nurse, day in days_off_beside_absences(old))
-    beside = [(nurse, day) for nurse, day in days_off if day in range(WEEK_DAYS)]
-    return with_few_changes(old.scenario, old.data[number], old.rosters[number], softly, agreed=agreed, new=new, beside=beside)
+    new = set(old.scenario.nurses) - {one.nurse for one in old.works}
+    first = WEEK_DAYS * number
+    softly = range(max(asked.first - first, 0), WEEK_DAYS if asked.few_changes else 0)
+    of_week, beside = (
+        [(one.nurse, one.day - first) for one in days if one.day // WEEK_DAYS == number] for days in (agreed, days_off_beside_absences(old))
+    )
+    return with_few_changes(old.scenario, old.data[number], old.state.roster(number), softly, agreed=of_week, new=new, beside=beside)
 
 
-def _kept_agreed(old: WardPlan, asked: Asked) -> List[AgreedDay]:
+def _kept_agreed(old: WardPlan, asked: Asked) -> List[NurseDay]:
     """The agreed days that can be kept: nobody is away on them, and the spreadsheet holds no shift."""
-    held = {(cell.nurse, WEEK_DAYS * number + cell.day) for number in old.weeks for cell in old.held[number]}
-    works = {(cell.nurse, cell.day): cell for cell in old.cells()}
 
-    def can_be_kept(one: AgreedDay) -> bool:
-        cell = works.get(one)
-        away = absences_of(old.data[one.day // WEEK_DAYS])
-        is_away = cell is not None and is_broken_by(away, cell._replace(day=cell.day % WEEK_DAYS))
-        return one.day >= asked.first and one not in held and not is_away
+    def can_be_kept(one: NurseDay) -> bool:
+        cell = old.works.get(one)
+        is_away = cell is not None and is_broken_by(old.absences, cell)
+        return one.day >= asked.first and one not in old.held and not is_away
 
-    return [one for one in old.agreed if asked.agreed != NONE and old.is_planned and can_be_kept(one)]
+    return [one for one in old.state.agreed if asked.agreed != NONE and old.is_planned and can_be_kept(one)]
 
 
-def _agreed_off(old: WardPlan, agreed: Sequence[AgreedDay]) -> List[Claim]:
+def _agreed_off(old: WardPlan, agreed: Sequence[NurseDay]) -> List[Claim]:
     """That nurses are off on agreed days on which they have no shift."""
-    works = {(cell.nurse, cell.day) for cell in old.cells()}
-    return [Claim(Choice(day // WEEK_DAYS + 1, nurse, day % WEEK_DAYS, None)) for nurse, day in agreed if (nurse, day) not in works]
+    return [_off(one) for one in agreed if one not in old.works]
+
+
+def _off(one: NurseDay) -> Claim:
+    """That a nurse is off on a day."""
+    return Claim(Choice(one.day // WEEK_DAYS + 1, one.nurse, one.day % WEEK_DAYS, None))
 
 
 def _later_claims(old: WardPlan, first: int) -> List[Claim]:
@@ -155,15 +154,13 @@ def _later_claims(old: WardPlan, first: int) -> List[Claim]:
     def is_past(fact: Fact) -> bool:
         return isinstance(fact, Choice) and WEEK_DAYS * (fact.week - 1) + fact.day < first
 
-    return [claim for claim in old.allowing(first).claims if not is_past(claim.fact)]
+    return [claim for claim in limits_for_leavers(old.ward, old.state, old.limits, first) if not is_past(claim.fact)]
 
 
 def _past_claims(old: WardPlan, first: int) -> Iterator[Claim]:
     """That whoever was off before this day, in the weeks that are not over, stays off."""
-    works = {(cell.nurse, cell.day) for cell in old.cells()}
-    for day in range(old.first, first):
-        off = (nurse for nurse in old.scenario.nurses if (nurse, day) not in works)
-        yield from (Claim(Choice(day // WEEK_DAYS + 1, nurse, day % WEEK_DAYS, None)) for nurse in off)
+    places = (NurseDay(nurse, day) for day in range(old.first, first) for nurse in old.scenario.nurses)
+    return (_off(one) for one in places if one not in old.works)
 
 
 def why_no_plan(plan: WardPlan) -> List[str]:
@@ -196,7 +193,7 @@ def _week_files(plan: WardPlan, week: Week, folder: Path) -> WeekFiles:
     """The files of a week, in this folder."""
     number = week.history.week
     paths = [folder / file for file in ("ward.txt", "history.txt", f"week-{number}.txt", f"fix-{number}.txt", FACTS)]
-    texts = plan.sheet.texts
+    texts = plan.ward.texts
     for path in paths:
         write_text(path, history_text(week.history) if path.name == "history.txt" else texts[path.name])
     return WeekFiles(paths[0], paths[1], paths[2], paths[3], given=paths[4])

@@ -7,24 +7,24 @@ from dataclasses import replace
 from pathlib import Path
 from typing import Callable, Dict, Iterable, List, NamedTuple, Optional, Sequence, Set
 
-from ..programs.program import READ_OR_WRITE
+from ..programs.program import READ_OR_WRITE, WeekFiles, penalty_of
 from ..programs.progress import Progress
 from ..week.faults import FileFault, Misuse, fault_line
-from ..week.files import read_scenario, read_solution, read_week
+from ..week.files import history_text, read_scenario, read_solution, read_week, write_solution
 from ..week.hints import plural
-from ..week.records import Cell
+from ..week.records import Cell, Solution
+from ..week.writing import write_text
 from . import pages
 from .pages import Pages
 from .plan_days import WEEK_DAYS, PlanDays
-from .record import Record, read_record
+from .state import DayWord, Record, read_record, read_state, roster_name, state_texts
+from .ward import Ward, WardPlan, continued, first_plan
 from .ward_folder import WardFolder
-from .ward_plan import Sheet, WardPlan, continued, first_plan, read_stored, roster_name
-from .week_rows import anew_lines, unchanged_rows
+from .ward_sheet import anew_lines, unchanged_rows
 from .wording import Wording
-from .written_absences import WrittenAbsence
 
 # Reads the spreadsheet of a ward, which has this name, if it has one, with these absences in its plan.
-Reader = Callable[[Path, Optional[str], Sequence[WrittenAbsence]], Sheet]
+Reader = Callable[[Path, Optional[str], Sequence[DayWord]], Ward]
 
 
 class Means(NamedTuple):
@@ -46,15 +46,14 @@ class PlanStore:
         self.folder, self.means, self.only_reads = folder, means, only_reads
         self.status = 0
 
-    def current(self, written: Sequence[WrittenAbsence] = ()) -> WardPlan:
-        """The plan that holds, with what the spreadsheet says now, and with more absences."""
+    def current(self, absences: Sequence[DayWord] = ()) -> WardPlan:
+        """The plan that holds, with what the spreadsheet says now; with these absences, if there are some."""
         last, spreadsheet = self.folder.last(), self.folder.spreadsheet()
         if last is None:
-            return first_plan(self.means.read(spreadsheet, None, written))
-        stored = read_stored(last)
-        all_written = written or stored.written
-        sheet = self.means.read(spreadsheet, stored.start.scenario, all_written)
-        return replace(continued(stored, sheet), written=tuple(all_written))
+            return first_plan(self.means.read(spreadsheet, None, absences))
+        state = read_state(last)
+        state = replace(state, absences=tuple(absences or state.absences))
+        return continued(self.means.read(spreadsheet, state.start.scenario, state.absences), state)
 
     def planned(self) -> WardPlan:
         """The same; that it has no rosters is a Misuse."""
@@ -72,7 +71,7 @@ class PlanStore:
         if self.only_reads:
             return []
         now = datetime.datetime.now()
-        self.folder.add(verb.split(" ", 1)[0], plan.texts(Record(verb, now, plan.days, plan.open_week, plan.published)), now)
+        self.folder.add(verb.split(" ", 1)[0], plan_texts(plan, plan.state.record(verb, now)), now)
         return self.pages(plan, old)
 
     def anew(self, plan: WardPlan) -> List[str]:
@@ -81,9 +80,9 @@ class PlanStore:
         if not last or not _ends_period(last):
             return []
         ward = read_scenario(last / "ward.txt")
-        paths = {row.week: last / f"week-{row.week}.txt" for row in plan.sheet.week_rows}
+        paths = {row.week: last / f"week-{row.week}.txt" for row in plan.ward.week_rows}
         older = {number: read_week(path, ward).requirements for number, path in paths.items() if path.exists()}
-        return list(anew_lines(unchanged_rows(plan.sheet.week_rows, older), plan.days))
+        return list(anew_lines(unchanged_rows(plan.ward.week_rows, older), plan.days))
 
     def worked_pages(self, plan: Optional[WardPlan]) -> Dict[str, str]:
         """The pages of weeks that are over, and their texts; if the sheet has a fault, so there is no plan, that of the roster too."""
@@ -95,7 +94,7 @@ class PlanStore:
         """Makes the pages of the folder those of a plan. Returns the lines that name them."""
         if self.only_reads:
             return []
-        is_ended = bool(plan.open_week) and not plan.weeks
+        is_ended = bool(plan.state.open_week) and not plan.weeks
         periods, before = self._periods() - is_ended, self._before(plan.days)
         return self._paged(lambda: pages.write_pages(self.folder.top, plan, self.folder.stamp, periods, before, old))
 
@@ -129,7 +128,8 @@ class PlanStore:
 def fitted(plan: WardPlan) -> WardPlan:
     """The plan; that the spreadsheet does not have its names any more is a Misuse."""
     if plan.unknown:
-        names = f"the plan has '{plan.unknown[0].row()}', and the spreadsheet has not all of these names"
+        row = plan.unknown[0]._replace(day=plan.unknown[0].day % WEEK_DAYS).row()
+        names = f"the plan has '{row}', and the spreadsheet has not all of these names"
         raise Misuse(f"{names}: the verb plan makes a plan that fits, undo goes back to the plan before it")
     return plan
 
@@ -171,9 +171,27 @@ def wording_of(plan: WardPlan, words: Sequence[str], usage: str) -> Wording:
     return Wording(words, plan.scenario.nurses, plan.days, plan.first, usage)
 
 
+def plan_texts(plan: WardPlan, record: Record) -> Dict[str, str]:
+    """The files of a plan's folder."""
+    return {**plan.ward.texts, **state_texts(plan.state, record, plan.scenario, plan.histories)}
+
+
+def _penalties(plan: WardPlan, folder: Path) -> Dict[int, int]:
+    """The penalty of each week that is not over, by `inrc2pb extend`, whose files are written to the folder."""
+    for name, text in plan.ward.texts.items():
+        write_text(folder / name, text)
+    found = {}
+    for number in plan.weeks:
+        history, roster = folder / f"history-{number}.txt", folder / roster_name(number)
+        write_text(history, history_text(plan.histories[number]))
+        write_solution(roster, Solution(number, plan.scenario.name, plan.state.roster(number)))
+        found[number] = penalty_of(WeekFiles(folder / "ward.txt", history, folder / f"week-{number}.txt"), roster)
+    return found
+
+
 def cost_lines(plan: WardPlan) -> List[str]:
     """What each week costs, by `inrc2pb extend`."""
     with tempfile.TemporaryDirectory(prefix="inrc2pb-plan-") as folder:
-        penalties = plan.penalties(Path(folder))
+        penalties = _penalties(plan, Path(folder))
     lines = [f"week {number}: {points} points" for number, points in penalties.items()]
     return [*lines, f"{plural(len(lines), 'week')}: {sum(penalties.values())} points"] if len(lines) > 1 else lines

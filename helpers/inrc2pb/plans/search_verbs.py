@@ -1,5 +1,6 @@
 """The verbs that search for a plan: plan, the reasons to be away, and back."""
 
+from dataclasses import replace
 from typing import Iterator, List, Optional, Sequence
 
 from ..judging.absences import readable
@@ -8,20 +9,17 @@ from ..programs.program import BROKEN_RULE, NO_ROSTER
 from ..shown.ward_sentences import part_sentences
 from ..week.faults import Misuse, ProgramFault
 from ..week.hints import plural
-from .agreed_days import AgreedDay, broken_line
 from .days_beside import beside_lines
-from .few_changes import BESIDE_POINTS, CALL_POINTS, POINTS
+from .changes import BESIDE_POINTS, CALL_POINTS, POINTS, shift_changes, without_needless_changes
 from .leave_words import leave_lines
 from .lifted_absences import lifted_absence, stays_away_lines
-from .needless_changes import without_needless_changes
 from .not_kept import days_away_lines, not_kept_lines
-from .plan_days import WEEK_DAYS
 from .plan_search import MOST, NONE, Asked, Found, search_plan, why_no_plan
 from .plan_store import PlanStore, cost_lines, wording_of
-from .shift_changes import Away, call_lines, cell_text, change_lines, shift_changes
-from .ward_plan import WardPlan
+from .shift_changes import Away, call_lines, cell_text, change_lines
+from .ward import WardPlan, limits_for_leavers, limits_of
 from .wish_words import wish_lines
-from .written_absences import BACK, with_days
+from .state import BACK, NurseDay, with_days
 
 # The seconds of a search, for each week if it is a whole plan.
 WEEK_SECONDS, CHANGE_SECONDS = 20.0, 30.0
@@ -36,11 +34,12 @@ def plan(store: PlanStore, words: Sequence[str], seconds: Optional[float], free:
     wording = wording_of(old, words, "plan, or plan 2026-12-09 to leave all days before it as they are")
     first = old.first if wording.is_over else wording.open_day()
     wording.end()
-    for warning in (*old.sheet.warnings, *store.anew(old)):
+    for warning in (*old.ward.warnings, *store.anew(old)):
         store.means.say(f"warning: {readable(warning)}")
-    few = old.published and old.is_planned and not free
+    few = old.state.published and old.is_planned and not free
     asked = Asked(first, few, seconds or WEEK_SECONDS * len(old.weeks))
-    return _search(store, "plan", old.keeping_limits(first), asked._replace(agreed=NONE) if free else asked)
+    keeping = replace(old, limits=limits_of(old.ward, old.state, first))
+    return _search(store, "plan", keeping, asked._replace(agreed=NONE) if free else asked)
 
 
 def away(store: PlanStore, word: str, words: Sequence[str], seconds: Optional[float]) -> List[str]:
@@ -52,7 +51,7 @@ def away(store: PlanStore, word: str, words: Sequence[str], seconds: Optional[fl
     wording.end()
     if last < first:
         raise Misuse(f"{old.days.text(last)} is before {old.days.text(first)}: give the first day first")
-    written = with_days(old.written, nurse, range(first, last + 1), word)
+    written = with_days(old.state.absences, nurse, range(first, last + 1), word)
     store.means.say(f"{readable(nurse)}: {word}, {old.days.span([first, last])}")
     named = f"{word} {nurse} {old.days.head(first)} {old.days.head(last)}"
     lifted = [line for day in range(first, last + 1) for line in lifted_lines(old, nurse, day, word)]
@@ -71,9 +70,9 @@ def part_lines(old: WardPlan, new: WardPlan, nurse: str) -> List[str]:
 
 def lifted_lines(old: WardPlan, nurse: str, day: int, word: str) -> Iterator[str]:
     """That an absence lifts a shift that the spreadsheet holds."""
-    for cell in old.held[day // WEEK_DAYS]:
-        if (cell.nurse, cell.day) == (nurse, day % WEEK_DAYS):
-            yield readable(f"{nurse}, {old.days.text(day)}: {word} lifts {cell.shift}, which the spreadsheet holds")
+    cell = old.held.get(NurseDay(nurse, day))
+    if cell:
+        yield readable(f"{nurse}, {old.days.text(day)}: {word} lifts {cell.shift}, which the spreadsheet holds")
 
 
 def back(store: PlanStore, words: Sequence[str], seconds: Optional[float]) -> List[str]:
@@ -84,7 +83,7 @@ def back(store: PlanStore, words: Sequence[str], seconds: Optional[float]) -> Li
     wording.end()
     lifted = lifted_absence(old, nurse, first)
     new = store.current(lifted.written)
-    same = [day for day in lifted.days if new.away.get((nurse, day)) == lifted.word]
+    same = [day for day in lifted.days if new.away.get(NurseDay(nurse, day)) == lifted.word]
     # The spreadsheet has the same absence.
     new = store.current(with_days(lifted.written, nurse, same, BACK)) if same else new
     said = [f"{readable(nurse)}: back, {old.days.span(lifted.days)} ({lifted.word})", *stays_away_lines(new, nurse, first)]
@@ -112,19 +111,20 @@ def _search(store: PlanStore, verb: str, old: WardPlan, asked: Asked, older: Opt
         if asked.few_changes and old.is_planned:
             found = found._replace(plan=without_needless_changes(old, found.plan))
         works, before = found.plan.works, old.works
-        new = found.plan.with_agreed(tuple(one for one in old.agreed if works.get(one) == before.get(one)))
+        agreed = tuple(one for one in old.state.agreed if works.get(one) == before.get(one))
+        new = found.plan.with_state(replace(found.plan.state, agreed=agreed))
         lines = _result(store, old, found._replace(plan=new), asked, (older or old).away)
         return [*lines, *store.save(verb, new, (older or old) if old.is_planned else None)]
 
 
 def _found(store: PlanStore, old: WardPlan, asked: Asked) -> Found:
     """The best plan that keeps the agreed days, or, if it would keep less of the absences and limits, one that keeps most of them."""
-    if not old.agreed or asked.agreed == NONE:
+    if not old.state.agreed or asked.agreed == NONE:
         return search_plan(old, asked, store.means.progress)
     firm: Optional[Found] = None
     try:
         firm = search_plan(old, asked, store.means.progress)
-        if firm.stopped or not not_kept_lines(firm.plan.allowing(asked.first)):
+        if firm.stopped or not not_kept_lines(_for_leavers(firm.plan, asked.first)):
             return firm
     except ProgramFault as fault:
         if fault.status != NO_ROSTER or "stopped" in fault.message:
@@ -134,22 +134,27 @@ def _found(store: PlanStore, old: WardPlan, asked: Asked) -> Found:
     return firm if firm and len(not_kept_lines(firm.plan)) <= len(not_kept_lines(free.plan)) else free
 
 
+def _for_leavers(plan: WardPlan, first: int) -> WardPlan:
+    """The plan, judged as a search from this day on: nurses who leave keep their shifts before it."""
+    return replace(plan, limits=limits_for_leavers(plan.ward, plan.state, plan.limits, first))
+
+
 def _result(store: PlanStore, old: WardPlan, found: Found, asked: Asked, away: Away) -> List[str]:
     """What the plan does not keep, what it changes, and what it costs. `away` are the absences of the older plan."""
     before, new, few_changes = (old if old.is_planned else None), found.plan, asked.few_changes
     lines = not_kept_lines(new)
     is_kept = not lines
-    is_older = len(lines) > len(not_kept_lines(new.allowing(asked.first)))
+    is_older = len(lines) > len(not_kept_lines(_for_leavers(new, asked.first)))
     lines += [f"shifts before {new.days.text(asked.first)} stay: plan from an earlier day can take some of them away"] * is_older
     lines += days_away_lines(new)
-    changes = shift_changes(before.cells(), new.cells()) if before else []
-    if before and (before.published or few_changes):
+    changes = shift_changes(before.cells, new.cells) if before else []
+    if before and (before.state.published or few_changes):
         called = call_lines(changes, new.away) or ["no nurse has to be called"]
         lines += [*change_lines(changes, new.days, new.away, away), *called] if changes else ["no shift changes"]
     elif before:
         # Nobody has seen the older plan.
         lines.append(f"{plural(len(changes), 'shift')} {'differs' if len(changes) == 1 else 'differ'} from the last plan")
-    lines += [_broken(old, new, one) for one in old.agreed if one not in new.agreed]
+    lines += [_broken(old, new, one) for one in old.state.agreed if one not in new.state.agreed]
     lines += [*beside_lines(new), *leave_lines(new), *wish_lines(before, new), *cost_lines(new)]
     lines += [found.bound] * (is_kept and not few_changes)
     lines += ["stopped: this is the best plan until then"] * found.stopped
@@ -159,9 +164,10 @@ def _result(store: PlanStore, old: WardPlan, found: Found, asked: Asked, away: A
     return lines
 
 
-def _broken(old: WardPlan, new: WardPlan, one: AgreedDay) -> str:
+def _broken(old: WardPlan, new: WardPlan, one: NurseDay) -> str:
     now = new.away.get(one) or cell_text(new.works.get(one))
-    return broken_line(one, cell_text(old.works.get(one)), now, new.days)
+    day, agreed = new.days.text(one.day), cell_text(old.works.get(one))
+    return f"this breaks an agreed swap: {readable(one.nurse)}, {day}: {readable(now)}, agreed was {agreed}"
 
 
 def _no_plan(store: PlanStore, old: WardPlan, fault: ProgramFault) -> List[str]:

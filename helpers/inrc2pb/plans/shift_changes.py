@@ -1,32 +1,16 @@
-"""The shifts and skills that differ in two plans of the same days."""
+"""Changes of shifts in words."""
 
-from typing import Iterable, List, Mapping, NamedTuple, Optional, Tuple
+from typing import List, Mapping, Optional
 
 from ..judging.absences import readable
 from ..week.hints import plural, quoted
 from ..week.records import Cell
+from .changes import ShiftChange
 from .plan_days import PlanDays
+from .state import NurseDay
 
 OFF = "off"
-
-
-class ShiftChange(NamedTuple):
-    """A nurse's day, and her assignments on it; None if she is off."""
-
-    nurse: str
-    day: int
-    before: Optional[Cell]
-    now: Optional[Cell]
-
-
-def shift_changes(old: Iterable[Cell], new: Iterable[Cell]) -> List[ShiftChange]:
-    """The nurses' days with another shift type or skill, in the order of days."""
-    before, now = ({(cell.day, cell.nurse): cell for cell in cells} for cells in (old, new))
-    found = [ShiftChange(nurse, day, before.get((day, nurse)), now.get((day, nurse))) for day, nurse in sorted({*before, *now})]
-    return [one for one in found if one.before != one.now]
-
-
-Away = Mapping[Tuple[str, int], str]
+Away = Mapping[NurseDay, str]
 
 
 def change_lines(changes: List[ShiftChange], days: PlanDays, away: Away = {}, before: Away = {}) -> List[str]:
@@ -34,7 +18,7 @@ def change_lines(changes: List[ShiftChange], days: PlanDays, away: Away = {}, be
 
     def line(one: ShiftChange) -> str:
         now, older = (
-            cell_text(cell) if cell else words.get((one.nurse, one.day), OFF) for cell, words in ((one.now, away), (one.before, before))
+            cell_text(cell) if cell else words.get(NurseDay(one.nurse, one.day), OFF) for cell, words in ((one.now, away), (one.before, before))
         )
         return f"{readable(one.nurse)}, {days.text(one.day)}: {now} instead of {older}"
 
@@ -43,7 +27,7 @@ def change_lines(changes: List[ShiftChange], days: PlanDays, away: Away = {}, be
 
 def call_lines(changes: List[ShiftChange], away: Away = {}) -> List[str]:
     """The nurses to call, if there are some: those with a change on a day on which they are not away."""
-    called = list(dict.fromkeys(one.nurse for one in changes if (one.nurse, one.day) not in away))
+    called = list(dict.fromkeys(one.nurse for one in changes if NurseDay(one.nurse, one.day) not in away))
     return [f"{plural(len(called), 'nurse')} to call: {quoted(map(readable, called), len(called))}"] * bool(called)
 
 

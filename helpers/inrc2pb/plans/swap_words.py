@@ -7,7 +7,7 @@ from ..shown.charge_words import difference, in_words
 from ..week.faults import Misuse
 from .plan_days import PlanDays
 from .swaps import Offer, Swap, Swaps
-from .ward_plan import WardPlan
+from .ward import WardPlan
 
 # The most swaps that are offered.
 MOST_OFFERS = 8

@@ -1,12 +1,71 @@
-"""Swaps of two nurses: on each day of a swap they have each other's shifts, so each place keeps its number of nurses."""
+"""Swaps of two nurses: on each day of a swap they have each other's shifts, so each place keeps its number of nurses.
 
-from typing import Dict, Iterator, List, NamedTuple, Optional, Sequence, Tuple
+A swap is judged by the weeks of its two nurses alone: what they are charged, what they have above limits that hold, and what is wrong
+beside their days away.
+"""
 
-from ..judging.absences import absences_of, is_broken_by, readable
-from ..week.records import Cell
-from .nurse_weeks import NurseWeeks
+from dataclasses import replace
+from typing import Dict, Iterator, List, Mapping, NamedTuple, Optional, Sequence, Tuple
+
+from ..judging import days_away
+from ..judging.absences import is_broken_by, readable
+from ..judging.limits import exceeded, excess, limits_in_words
+from ..judging.next_history import next_nurse_history
+from ..judging.rules import costs
+from ..week.records import Cell, History, Week, WeekData
+from .days_beside import beside_words
 from .plan_days import WEEK_DAYS
-from .ward_plan import WardPlan
+from .state import NurseDay
+from .ward import WardPlan
+
+# A nurse's assignments, by the days of the plan.
+NurseCells = Mapping[int, Cell]
+
+
+def _of_nurse(data: WeekData, nurse: str) -> WeekData:
+    """What a week's file has about one nurse."""
+    requests = tuple(request for request in data.requests if request.nurse == nurse)
+    return replace(data, requirements={}, requests=requests, limits=frozenset(limit for limit in data.limits if limit.nurse == nurse))
+
+
+class NurseWeeks:
+    """Each nurse's weeks, as if the ward had her alone and needed nobody."""
+
+    def __init__(self, plan: WardPlan) -> None:
+        self._plan = plan
+        self._data: Dict[Tuple[str, int], WeekData] = {
+            (nurse, number): _of_nurse(plan.data[number], nurse) for nurse in plan.scenario.nurses for number in plan.weeks
+        }
+
+    def _weeks(self, nurse: str, cells: NurseCells) -> Iterator[Tuple[Week, List[Cell]]]:
+        """Each week, with her assignments."""
+        plan = self._plan
+        scenario = replace(plan.scenario, nurses={nurse: plan.scenario.nurses[nurse]})
+        past = plan.past.nurses[nurse]
+        for number in plan.weeks:
+            of_week = [cell._replace(day=day % WEEK_DAYS) for day, cell in cells.items() if day // WEEK_DAYS == number]
+            yield Week(scenario, History(number, scenario.name, {nurse: past}), self._data[nurse, number]), of_week
+            past = next_nurse_history(past, {cell.day: cell.shift for cell in of_week})
+
+    def cost(self, nurse: str, cells: NurseCells) -> int:
+        """What the nurse is charged for these assignments."""
+        return sum(sum(costs(week, of_week).values()) for week, of_week in self._weeks(nurse, cells))
+
+    def above(self, nurse: str, cells: NurseCells) -> Tuple[int, List[str]]:
+        """How much these assignments of the nurse have above limits that hold, and in words."""
+        weeks = [(exceeded(week, week.data.limits, of_week), of_week) for week, of_week in self._weeks(nurse, cells)]
+        named = [self._plan.day_names(number) for number in self._plan.weeks]
+        words = [limits_in_words(charges, of_week, names) for (charges, of_week), names in zip(weeks, named) if charges]
+        return sum(excess(charges) for charges, _ in weeks), words
+
+    def beside(self, nurse: str, cells: NurseCells) -> Tuple[int, List[str]]:
+        """By how many days the nurse's rows with training are too long with these assignments, and with how many nights before training or
+        leave; and in words."""
+        plan = self._plan
+        away = plan.days_away.of(nurse)
+        shifts = {(nurse, day - plan.first): cell.shift for day, cell in cells.items()}
+        above = days_away.excess(plan.scenario, plan.past, away, shifts)
+        return above, list(beside_words(plan, away, shifts))
 
 
 class Swap(NamedTuple):
@@ -36,11 +95,9 @@ class Swaps:
     def __init__(self, plan: WardPlan) -> None:
         self._plan = plan
         self._cells: Dict[str, Dict[int, Cell]] = {nurse: {} for nurse in plan.scenario.nurses}
-        for cell in plan.cells():
+        for cell in plan.cells:
             self._cells[cell.nurse][cell.day] = cell
         self._alone = NurseWeeks(plan)
-        self._away = {number: absences_of(plan.data[number]) for number in plan.weeks}
-        self._held = {(cell.nurse, WEEK_DAYS * number + cell.day) for number in plan.weeks for cell in plan.held[number]}
         self._costs = {nurse: self._alone.cost(nurse, cells) for nurse, cells in self._cells.items()}
 
     def works(self, nurse: str, day: int) -> Optional[Cell]:
@@ -49,7 +106,7 @@ class Swaps:
 
     def is_held(self, nurse: str, day: int) -> bool:
         """Whether the spreadsheet fixes the nurse's shift on a day."""
-        return (nurse, day) in self._held
+        return NurseDay(nurse, day) in self._plan.held
 
     def _after(self, swap: Swap) -> Iterator[Tuple[str, Dict[int, Cell]]]:
         """The assignments of the two nurses after the swap."""
@@ -89,7 +146,7 @@ class Swaps:
             yield f"{', '.join(words)}, and this limit holds"
         yield from self._faults_beside(nurse, cells)
         shift_on = {
-            plan.first - 1: plan.histories[plan.open_week].nurses[nurse].last_shift,
+            plan.first - 1: plan.past.nurses[nurse].last_shift,
             **{day: cell.shift for day, cell in cells.items()},
         }
         for day in days:
@@ -111,10 +168,10 @@ class Swaps:
     def _cell_faults(self, cell: Cell) -> Iterator[str]:
         """Why the nurse cannot have this assignment alone."""
         plan = self._plan
-        why = plan.away.get((cell.nurse, cell.day))
+        why = plan.away.get(NurseDay(cell.nurse, cell.day))
         if why:
             yield readable(f"{cell.nurse} is away on {plan.days.text(cell.day)} ({why})")
-        elif is_broken_by(self._away[cell.day // WEEK_DAYS], cell._replace(day=cell.day % WEEK_DAYS)):
+        elif is_broken_by(plan.absences, cell):
             yield readable(f"{cell.nurse} never works {cell.shift}")
         if cell.skill not in plan.scenario.nurses[cell.nurse].skills:
             yield readable(f"{cell.nurse} does not have the skill {cell.skill}")

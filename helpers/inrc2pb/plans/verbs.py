@@ -16,7 +16,7 @@ from .not_kept import exceeded_lines
 from .pages import other_plan_lines
 from .plan_store import Means, PlanStore, fitted, known_record
 from .ward_folder import WardFolder
-from .ward_plan import WardPlan
+from .ward import WardPlan
 from .ward_words import ward_lines
 
 
@@ -62,9 +62,9 @@ class Verbs:
     def check(self) -> List[str]:
         """The warnings of the spreadsheet, and the ward in sentences. That no plan can meet a minimum is in the status."""
         plan = self.current()
-        self._store.status = _status_of(plan.sheet.warnings)
+        self._store.status = _status_of(plan.ward.warnings)
         folder = self._store.folder
-        warnings = [*other_plan_lines(folder.top, folder.stamp), *plan.sheet.warnings, *self._store.anew(plan)]
+        warnings = [*other_plan_lines(folder.top, folder.stamp), *plan.ward.warnings, *self._store.anew(plan)]
         lines = [f"warning: {line}" for line in (*warnings, *exceeded_lines(plan), *beside_lines(plan))]
         lines += plain_breach_lines(plan.view()) if plan.is_planned and plan.weeks else []
         lines += [*([] if lines else ["No mistake found."]), "", *ward_lines(plan)]
@@ -73,7 +73,8 @@ class Verbs:
 
     def page(self) -> List[str]:
         """Writes all pages and calendars. From now on the plan hangs on the wall."""
-        plan = replace(self._store.fitting(), published=True)
+        plan = self._store.fitting()
+        plan = plan.with_state(replace(plan.state, published=True))
         return [*exceeded_lines(plan), *self._store.save("page", plan)]
 
     def undo(self) -> List[str]:

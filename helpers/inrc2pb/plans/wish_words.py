@@ -1,22 +1,19 @@
 """The wishes that a plan does not grant, in words."""
 
+from dataclasses import replace
 from typing import List, Optional
 
 from ..judging.absences import readable, wishes_of
 from ..week.records import Request
 from .plan_days import WEEK_DAYS, PlanDays
-from .ward_plan import WardPlan
+from .ward import WardPlan
 
 
 def refused_wishes(plan: WardPlan) -> List[Request]:
     """The wishes of the weeks that are not over that the plan does not grant, with days of the whole plan."""
-    works = {(cell.nurse, cell.day, shift) for cell in plan.cells() for shift in (cell.shift, None)}
-    asked = [one for number in plan.weeks for one in _of_week(plan, number)]
+    works = {(cell.nurse, cell.day, shift) for cell in plan.cells for shift in (cell.shift, None)}
+    asked = [replace(one, day=WEEK_DAYS * number + one.day) for number in plan.weeks for one in wishes_of(plan.data[number])]
     return [one for one in dict.fromkeys(asked) if (one.nurse, one.day, one.shift) in works]
-
-
-def _of_week(plan: WardPlan, number: int) -> List[Request]:
-    return [Request(one.nurse, one.shift, WEEK_DAYS * number + one.day) for one in wishes_of(plan.data[number])]
 
 
 def wish_lines(old: Optional[WardPlan], new: WardPlan) -> List[str]:

@@ -10,15 +10,15 @@ from ward import run
 from inrc2pb.commands.plan import read_sheet
 from inrc2pb.plans import search_verbs
 from inrc2pb.plans.plan_search import Found
-from inrc2pb.plans.ward_plan import continued, read_stored
-from inrc2pb.plans.written_absences import WrittenAbsence, with_days, without_last, words_of
+from inrc2pb.plans.state import DayWord, read_state, with_days, without_last, words_of
+from inrc2pb.plans.ward import continued
 from inrc2pb.week.files import read_history, read_scenario
 from inrc2pb.week.records import Cell
 
 
 def _without_a_search(_, old, asked):
     """The old plan without the shifts of days away, as if a search had found it."""
-    return Found(old.with_cells(cell for cell in old.cells() if (cell.nurse, cell.day) not in old.away), "", False)
+    return Found(old.with_cells(cell for cell in old.cells if (cell.nurse, cell.day) not in old.away), "", False)
 
 
 class BackTest(FolderTest):
@@ -45,8 +45,8 @@ class BackTest(FolderTest):
 
     def away(self):
         """The days on which the plan that holds has Chen away, and why."""
-        stored = read_stored(self.last())
-        plan = continued(stored, read_sheet(self.ward, None, stored.written))
+        state = read_state(self.last())
+        plan = continued(read_sheet(self.ward, None, state.absences), state)
         return {day: word for (nurse, day), word in sorted(plan.away.items()) if nurse == "Chen" and word != "off"}
 
 
@@ -160,7 +160,7 @@ class Reasons(BackTest):
         self.lines("plan", "--free")
 
         def works(_, old, asked):
-            return Found(old.with_cells([*old.cells(), Cell("Chen", 5, "Late", "Nurse")]), "", False)
+            return Found(old.with_cells([*old.cells, Cell("Chen", 5, "Late", "Nurse")]), "", False)
 
         with mock.patch.object(search_verbs, "_found", works):
             lines = self.lines("back", "Chen", "Sat")
@@ -207,7 +207,7 @@ class Over(BackTest):
         self.assertIn("week 0 is over: the plan goes on from Mon 7 Dec", lines)
         del before["Bruno", 0]
         self.assertEqual(self.cells(), {**before, ("Chen", 1): ("Late", "Nurse")})
-        self.assertEqual(read_stored(self.last()).written, (WrittenAbsence("Bruno", 0, "ill"),))
+        self.assertEqual(read_state(self.last()).absences, (DayWord("Bruno", 0, "ill"),))
         self.assertEqual(self.worked("Bruno"), ["ill", "Day Nurse", *["Day Charge"] * 3, "", ""])
         self.assertEqual(self.worked("Chen")[:3], ["", "Late Nurse", "Late Nurse"])
         # The shift hung on the wall.
@@ -270,22 +270,22 @@ class Over(BackTest):
     def test_the_last_correction_of_a_day_counts(self):
         for words, written, shift in (
             ("Bruno Mon ill, Bruno Mon Late", (), ("Late", "Nurse")),
-            ("Bruno Mon Late, Bruno Tue off, Bruno Mon ill", (WrittenAbsence("Bruno", 0, "ill"),), None),
-            ("Bruno Mon leave, Bruno Mon training", (WrittenAbsence("Bruno", 0, "training"),), None),
+            ("Bruno Mon Late, Bruno Tue off, Bruno Mon ill", (DayWord("Bruno", 0, "ill"),), None),
+            ("Bruno Mon leave, Bruno Mon training", (DayWord("Bruno", 0, "training"),), None),
         ):
             with self.subTest(words):
                 self.begin_with()
                 self.lines("over", *words.split())
-                self.assertEqual((read_stored(self.last()).written, self.own_cells("Bruno").get(0)), (written, shift))
+                self.assertEqual((read_state(self.last()).absences, self.own_cells("Bruno").get(0)), (written, shift))
 
     def test_undo_takes_the_absence_back_with_the_week(self):
         self.begin_with()
         self.lines("ill", "Chen", "Fri")
-        before, written = self.cells(), read_stored(self.last()).written
+        before, written = self.cells(), read_state(self.last()).absences
         self.lines("over", "Bruno", "Mon", "ill")
-        self.assertEqual(read_stored(self.last()).written, (*written, WrittenAbsence("Bruno", 0, "ill")))
+        self.assertEqual(read_state(self.last()).absences, (*written, DayWord("Bruno", 0, "ill")))
         self.assertEqual(self.lines("undo")[0][:14], "undone: over 0")
-        self.assertEqual((self.cells(), read_stored(self.last()).written, self.away()), (before, written, {4: "ill"}))
+        self.assertEqual((self.cells(), read_state(self.last()).absences, self.away()), (before, written, {4: "ill"}))
         self.assertFalse((self.ward / "worked-2026-11-30.html").exists())
 
     def test_the_last_week_of_a_period(self):
@@ -297,9 +297,9 @@ class Over(BackTest):
         text = (self.ward / "worked-2026-11-30.html").read_text()
         self.assertEqual(text.count('>ill<'), 2)
         # The next period begins without the absences of this one.
-        self.assertEqual(read_stored(self.last()).written, ())
+        self.assertEqual(read_state(self.last()).absences, ())
         self.assertEqual(self.lines("undo")[0][:17], "undone: over peri")
-        self.assertEqual(read_stored(self.last()).written, (WrittenAbsence("Bruno", 0, "ill"),))
+        self.assertEqual(read_state(self.last()).absences, (DayWord("Bruno", 0, "ill"),))
 
     def test_an_absence_after_the_week_that_ends(self):
         self.begin_with()
@@ -309,11 +309,11 @@ class Over(BackTest):
 
 class Written(FolderTest):
     def test_what_verbs_wrote_below_an_illness_stays(self):
-        leave, ill = with_days((), "Chen", [1, 2], "leave"), WrittenAbsence("Chen", 2, "ill")
+        leave, ill = with_days((), "Chen", [1, 2], "leave"), DayWord("Chen", 2, "ill")
         both = with_days(with_days(leave, "Chen", [2], "ill"), "Chen", [2], "ill")
         self.assertEqual((both, words_of(both, "Chen"), words_of(both, "Grace")), ((*leave, ill), {1: "leave", 2: "ill"}, {}))
         self.assertEqual(set(without_last(both, "Chen", [2])), set(leave))
-        self.assertEqual(without_last([ill], "Chen", [2]), (WrittenAbsence("Chen", 2, "sheet"),))
+        self.assertEqual(without_last([ill], "Chen", [2]), (DayWord("Chen", 2, "sheet"),))
         self.assertEqual(without_last([ill], "Grace", []), (ill,))
 
 

@@ -2,14 +2,16 @@
 
 import unittest
 from dataclasses import replace
+from functools import cached_property
 
 from test_kept_plans import KeptTest
 from ward import HAS_CBC, run
 
 from inrc2pb.commands.plan import read_sheet
 from inrc2pb.plans.not_kept import days_away_lines, exceeded_lines, not_kept_lines
+from inrc2pb.plans.state import read_state
 from inrc2pb.plans.swaps import Swap, Swaps
-from inrc2pb.plans.ward_plan import continued, read_stored
+from inrc2pb.plans.ward import continued, limits_of, plan_of
 
 # In the stored plan each nurse with a full contract has ten shifts in 14 days, and Grace hers from Monday to Friday.
 HOLDS = "in the period, and this limit holds"
@@ -37,10 +39,6 @@ class ExceededTest(KeptTest):
         self.rows["plan"][7][1:] = [*words, *[""] * (14 - len(words))]
         self.write()
 
-    def read(self, cells=None):
-        """The stored plan, or one with these cells, with what the spreadsheet says now."""
-        return replace(self.plan if cells is None else self.plan.with_cells(cells), sheet=read_sheet(self.ward, None, ()))
-
 
 class Lines(ExceededTest):
     def test_days_away_that_exceed_a_limit(self):
@@ -65,12 +63,13 @@ class Lines(ExceededTest):
         # Grace worked five shifts in week 0, and has none in week 1. Two days count as 4 * 2 / 14 shifts, rounded up to 1.
         self.limits("4", "5!")
         self.days(*[""] * 5, "ill", "ill")
-        cells = [cell for cell in self.plan.cells() if cell.nurse != "Grace" or cell.day < 7]
+        cells = [cell for cell in self.plan.cells if cell.nurse != "Grace" or cell.day < 7]
         says = f"Grace has 6 shifts, 1 of them for days away, of at most 5 {HOLDS}"
         over = "no plan takes so many away, since the others were worked or are held: allow her more"
         earlier = f"plan from Fri 4 Dec on, or from an earlier day, takes 1 away {NEEDS}"
         for first, cure in ((0, earlier), (1, over)):
-            plan = replace(self.read(cells), open_week=first)
+            plan = self.read(cells)
+            plan = plan.with_state(replace(plan.state, open_week=first))
             self.assertEqual(list(days_away_lines(plan)), [f"{says}: {cure}"], first)
         # The spreadsheet holds her shifts.
         own = [cell for cell in cells if cell.nurse == "Grace"]
@@ -81,7 +80,7 @@ class Lines(ExceededTest):
         # She is present on 7 of 14 days, so her ten shifts at most become five; her training counts as 7 * 2 / 14 shifts, or as one.
         self.limits("7", "10!")
         self.days(*[""] * 5, "training", "training", *["away"] * 7)
-        cells = [cell for cell in self.plan.cells() if cell.nurse != "Grace" or cell.day < 7]
+        cells = [cell for cell in self.plan.cells if cell.nurse != "Grace" or cell.day < 7]
         says = f"Grace has 6 shifts, 1 of them for days away, of at most 5 {HOLDS}"
         cure = f"plan from Fri 4 Dec on, or from an earlier day, takes 1 away {NEEDS}"
         self.assertEqual(list(days_away_lines(self.read(cells))), [f"{says}: {cure}"])
@@ -104,12 +103,29 @@ class Lines(ExceededTest):
         run_of = "week {} exceeds a limit that holds: Grace has 5 days of work in a row, {}, of at most 4: plan again, or allow her more"
         self.assertEqual(says, [run_of.format(*row) for row in rows])
 
+    def test_limits_do_not_depend_on_who_looked_first(self):
+        # Grace has two days of illness, and in the changed plan the shifts of three nurses.
+        self.days(*[""] * 5, "ill", "ill")
+        cells = {(one.nurse, one.day): one for one in self.plan.cells}
+        moved = [one._replace(nurse="Grace") if one.nurse in ("Amara", "Bruno") and ("Grace", one.day) not in cells else one
+                 for one in self.plan.cells]  # fmt: skip
+        plain, looked = self.read(), self.read()
+        for name in (*vars(type(plain)), "data"):
+            if isinstance(vars(type(plain)).get(name), (property, cached_property)):
+                getattr(looked, name)
+        for other in (lambda plan: plan, lambda plan: plan.with_cells(moved), lambda plan: plan_of(plan.ward, plan.state.with_open(moved))):
+            one, two = other(plain), other(looked)
+            self.assertEqual((one.limits, one.data), (two.limits, two.data))
+        # A changed plan is judged by the limits of the plan that it was made from.
+        self.assertEqual(looked.with_cells(moved).limits, plain.limits)
+
     def test_what_a_search_keeps(self):
         # A plan from a day on takes her shifts from this day on away: two of five, and none if eight are before it.
         self.days(*[""] * 5, "ill", "ill")
         for first, kept in ((0, 0), (7, 0), (10, 0), (11, 1), (12, 2)):
-            kept_plan = self.read().keeping_limits(first)
-            limits = {fact.nurse: fact.most for fact, _ in kept_plan.claims if getattr(fact, "kind", "") == "SHIFTS"}
+            plan = self.read()
+            kept_plan = replace(plan, limits=limits_of(plan.ward, plan.state, first))
+            limits = {fact.nurse: fact.most for fact, _ in kept_plan.limits if getattr(fact, "kind", "") == "SHIFTS"}
             self.assertEqual(limits["Grace"], kept, first)
             named = any("Grace has 12 shifts of at most 10" in line for line in not_kept_lines(kept_plan))
             self.assertEqual((named, bool(list(days_away_lines(kept_plan)))), (kept < 2, kept == 2), first)
@@ -198,7 +214,8 @@ class Verbs(ExceededTest):
         line, = self.named("training", "Bruno", day, "--time", "5")
         self.assertTrue(line.startswith(says), line)
         self.assertTrue(self.page_has(line))
-        plan = continued(read_stored(self.last()), read_sheet(self.ward, None, read_stored(self.last()).written))
+        state = read_state(self.last())
+        plan = continued(read_sheet(self.ward, None, state.absences), state)
         offers = [one.swap for day in range(7) if plan.works.get(("Finn", day)) for one in Swaps(plan).offers("Finn", day)]
         one, other, days = next(swap for swap in offers if swap.other not in ("Bruno", "Finn") and len(swap.days) == 1)
         self.assertEqual(self.named("swap", one, plan.days.head(days[0]), other, "--do"), [line])

@@ -12,7 +12,7 @@ from unittest import mock
 from xml.etree import ElementTree
 
 from test_kept_plans import KeptTest
-from test_plans import MONDAY
+from test_plans import MONDAY, TWO_WEEKS
 from ward import ROSTER, files
 
 from inrc2pb.commands.plan import read_sheet
@@ -92,7 +92,7 @@ class FolderPages(KeptTest):
         state = self.state
         taken = chooses.choice(sorted(state.planned))
         old = self.store.current()
-        cells = [cell for cell in old.cells() if (cell.nurse, state.monday + cell.day * DAY) != taken[:2]]
+        cells = [cell for cell in old.cells if (cell.nurse, state.monday + cell.day * DAY) != taken[:2]]
         self.store.save("plan", old.with_cells(cells), old)
         shifts = state.shifts - {taken}
         self.states.append(replace(state, shifts=shifts, calendars=shifts if state.is_published else state.calendars))
@@ -112,8 +112,7 @@ class FolderPages(KeptTest):
     def plan_again(self):
         """Plans a period that has just begun: both weeks are the stored roster."""
         self.days(self.state.monday)
-        plan = replace(self.store.current(), rosters={0: STORED, 1: STORED})
-        self.store.save("plan", plan)
+        self.store.save("plan", self.store.current().with_cells(TWO_WEEKS))
         self.states.append(replace(self.state, shifts=shifts_from(self.state.monday)))
 
     def undo(self, with_days=True):

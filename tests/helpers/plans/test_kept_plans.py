@@ -1,5 +1,6 @@
 """Tests of what verbs keep and say: agreed swaps, lost wishes, nurses to call, and a week that was not worked as planned."""
 
+import datetime
 import errno
 import unittest
 from dataclasses import replace
@@ -13,24 +14,21 @@ from inrc2pb.judging.limits import limits_way_out
 from inrc2pb.judging.rules import Charge
 from inrc2pb.commands.plan import read_sheet
 from inrc2pb.plans import pages, ward_folder
-from inrc2pb.plans.agreed_days import AgreedDay, agreed_text, read_agreed
 from inrc2pb.plans.bound_words import UNKNOWN, bound_words
+from inrc2pb.plans.changes import days_off_beside_absences, shift_changes, with_few_changes, without_needless_changes
 from inrc2pb.plans.days_beside import beside_lines
-from inrc2pb.plans.days_beside_absences import days_off_beside_absences
-from inrc2pb.plans.few_changes import with_few_changes
 from inrc2pb.plans.leave_words import leave_lines
-from inrc2pb.plans.needless_changes import without_needless_changes
 from inrc2pb.plans.not_kept import not_kept_lines
 from inrc2pb.plans.plan_days import PlanDays
 from inrc2pb.plans.search_verbs import part_lines
-from inrc2pb.plans.shift_changes import call_lines, change_lines, shift_changes
-from inrc2pb.plans.ward_plan import read_stored
+from inrc2pb.plans.shift_changes import call_lines, change_lines
+from inrc2pb.plans.state import DayWord, NurseDay, Record, read_record, read_state, record_text
+from inrc2pb.plans.ward import limits_for_leavers, plan_of
 from inrc2pb.plans.wish_words import wish_lines
-from inrc2pb.plans.written_absences import WrittenAbsence
 from inrc2pb.search.bounds import PLAIN, PROVER, Bound
 from inrc2pb.shown.page import page_text
 from inrc2pb.week.facts import Charged
-from inrc2pb.week.faults import FileFault
+from inrc2pb.week.files import week_text
 from inrc2pb.week.records import Absence, Cell, Request
 
 BARE = PlanDays(None, 2)
@@ -44,9 +42,19 @@ class KeptTest(FolderTest):
         super().setUp()
         self.plan = self.write_plan()
 
+    def read(self, cells=None):
+        """The stored plan, or one with these cells, with what the spreadsheet says now."""
+        plan = self.plan if cells is None else self.plan.with_cells(cells)
+        return plan_of(read_sheet(self.ward, None, ()), plan.state)
+
+    def with_wishes(self, plan, *weeks):
+        """The plan with these wishes in its weeks."""
+        texts = {f"week-{number}.txt": week_text(replace(plan.ward.weeks[number], requests=wishes)) for number, wishes in enumerate(weeks)}
+        return replace(plan, ward=replace(plan.ward, texts={**plan.ward.texts, **texts}))
+
     def agreed(self):
         """The nurses and days on which the plan that holds has a swap."""
-        return set(read_stored(self.last()).agreed)
+        return set(read_state(self.last()).agreed)
 
 
 class Words(KeptTest):
@@ -63,15 +71,13 @@ class Words(KeptTest):
         self.assertEqual((change_lines(changes, BARE, away), call_lines(changes, away)), (says, ["1 nurse to call: Bruno"]))
 
     def test_lost_wishes(self):
-        self.plan.data[0] = replace(self.plan.data[0], requests=(Request("Grace", None, 4), Request("Chen", "Night", 4), Request("Ewa", None, 0)))
-        self.plan.data[1] = replace(self.plan.data[1], requests=())
+        plan = self.with_wishes(self.plan, (Request("Grace", None, 4), Request("Chen", "Night", 4), Request("Ewa", None, 0)), ())
         refused = ["wish not granted: Grace, off on Fri 4 Dec", "wish not granted: Chen, no Night on Fri 4 Dec"]
-        self.assertEqual(wish_lines(None, self.plan), refused)
+        self.assertEqual(wish_lines(None, plan), refused)
         # Grace is off, so her wish is granted; Ewa works on Monday.
-        cells = [cell for cell in self.plan.cells() if (cell.nurse, cell.day) != ("Grace", 4)]
-        new = self.plan.with_cells([*cells, Cell("Ewa", 0, "Day", "Nurse")])
-        new.data[:] = self.plan.data
-        self.assertEqual(wish_lines(self.plan, new), ["wish lost: Ewa, off on Mon 30 Nov"])
+        cells = [cell for cell in plan.cells if (cell.nurse, cell.day) != ("Grace", 4)]
+        new = plan.with_cells([*cells, Cell("Ewa", 0, "Day", "Nurse")])
+        self.assertEqual(wish_lines(plan, new), ["wish lost: Ewa, off on Mon 30 Nov"])
 
     def test_why_nobody_can_take_a_shift(self):
         self.rows["plan"][7][1] = "Day"
@@ -91,7 +97,7 @@ class Words(KeptTest):
         # nothing of the shifts.
         self.rows["contracts"][1][1:3] = ["8", "10!"]
         self.write()
-        begun = replace(self.plan, sheet=read_sheet(self.ward, None, ()))
+        begun = self.read()
         for word, says in (
             ("unpaid", ["Grace is away or unpaid on 5 of 14 days: contract Full counts in proportion, 5 to 7 shifts in place of 8 to 10.",
                         "Off or away for longer than the contract's most days off in a row, so without such a maximum: Grace."]),
@@ -99,7 +105,7 @@ class Words(KeptTest):
         ):  # fmt: skip
             self.rows["plan"][7][3:8] = [word] * 5
             self.write()
-            away = replace(self.plan, sheet=read_sheet(self.ward, None, ()))
+            away = self.read()
             self.assertEqual(part_lines(begun, away, "Grace"), says)
             self.assertEqual(part_lines(away, begun, "Grace"), ["Grace: contract Full counts as a whole again."] * bool(says))
             self.assertEqual(part_lines(begun, away, "Chen"), [])
@@ -117,35 +123,35 @@ class Words(KeptTest):
     def test_changes_that_save_nothing_are_taken_back(self):
         # The roster has nobody too many but Grace on Monday to Friday: without her shifts Day Nurse has fewer than best, or none.
         old = self.plan
-        taken = [cell for cell in old.cells() if cell.nurse not in ("Grace",) or cell.day > 6]
+        taken = [cell for cell in old.cells if cell.nurse not in ("Grace",) or cell.day > 6]
         needless = old.with_cells([*taken, *(Cell("Grace", day, "Day", "Nurse") for day in (0, 1))])
-        self.assertEqual(without_needless_changes(old, needless).rosters, old.rosters)
+        self.assertEqual(without_needless_changes(old, needless).works, old.works)
         # She is away on Friday: that change is needed, and it stays.
         self.rows["plan"][7][5] = "ill"
         self.write()
-        needless = replace(old, sheet=read_sheet(self.ward, None, ())).with_cells(taken)
+        needless = self.read().with_cells(taken)
         found = without_needless_changes(old, needless)
-        self.assertEqual([one[:2] for one in shift_changes(old.cells(), found.cells())], [("Grace", 4)])
+        self.assertEqual([one[:2] for one in shift_changes(old.cells, found.cells)], [("Grace", 4)])
 
     def test_changes_cost_as_much_as_in_a_search(self):
         # Finn works late on Saturday, and Grace is off: her new shift costs 20 points, and 40 to call both, but his day off costs nothing.
-        cells = [cell for cell in self.plan.cells() if (cell.nurse, cell.day) != ("Finn", 5)]
-        data = self.plan.data[0] = replace(self.plan.data[0], requests=())
-        new = self.plan.with_cells([*cells, Cell("Grace", 5, "Late", "Nurse")])
-        more = new.view().penalty - self.plan.view().penalty
+        cells = [cell for cell in self.plan.cells if (cell.nurse, cell.day) != ("Finn", 5)] + [Cell("Grace", 5, "Late", "Nurse")]
+        plan = self.with_wishes(self.plan, ())
+        more = plan.with_cells(cells).view().penalty - plan.view().penalty
         for saved, is_taken_back in ((55, True), (65, False)):
-            self.plan.data[0] = replace(data, requests=(Request("Finn", None, 5),) * ((more + saved) // 10))
-            self.assertEqual(self.plan.view().penalty - new.view().penalty, saved)
-            self.assertEqual(("Finn", 5) in without_needless_changes(self.plan, new).works, is_taken_back, saved)
+            old = self.with_wishes(plan, (Request("Finn", None, 5),) * ((more + saved) // 10))
+            new = old.with_cells(cells)
+            self.assertEqual(old.view().penalty - new.view().penalty, saved)
+            self.assertEqual(("Finn", 5) in without_needless_changes(old, new).works, is_taken_back, saved)
 
     def test_one_nurse_is_called_in_place_of_two(self):
         # Finn works late on the weekend, Ewa and Grace are off, and Ewa is off on Monday, too.
         self.rows["plan"][6][6:8] = ["ill", "ill"]
         self.write()
-        old = replace(self.plan, sheet=read_sheet(self.ward, None, ()))
-        cells = [cell for cell in old.cells() if (cell.nurse, cell.day) not in (("Finn", 5), ("Finn", 6))]
+        old = self.read()
+        cells = [cell for cell in old.cells if (cell.nurse, cell.day) not in (("Finn", 5), ("Finn", 6))]
         new = old.with_cells([*cells, Cell("Grace", 5, "Late", "Nurse"), Cell("Ewa", 6, "Late", "Nurse")])
-        changes = shift_changes(old.cells(), without_needless_changes(old, new).cells())
+        changes = shift_changes(old.cells, without_needless_changes(old, new).cells)
         self.assertEqual([(one.nurse, one.day) for one in changes], [("Ewa", 5), ("Finn", 5), ("Ewa", 6), ("Finn", 6)])
         self.assertEqual(call_lines(changes, old.away), ["1 nurse to call: Ewa"])
 
@@ -153,7 +159,7 @@ class Words(KeptTest):
         # Grace works from Monday to Friday, and may work five days in a row.
         self.rows["plan"][7][6] = "training"
         self.write()
-        plan = replace(self.plan, sheet=read_sheet(self.ward, None, ()))
+        plan = self.read()
         says = "Grace has 6 days in a row with work or training, Mon 30 Nov to Sat 5 Dec, and her contract at most 5 with work"
         self.assertEqual(list(beside_lines(plan)), [says])
         self.assertEqual(list(beside_lines(self.plan)), [])
@@ -162,7 +168,7 @@ class Words(KeptTest):
         # Dilek has worked Night on Sunday, and does so on Monday and Tuesday.
         self.rows["plan"][4][1] = self.rows["plan"][4][4] = "leave"
         self.write()
-        nurse, night = next((cell.nurse, cell.day) for cell in self.plan.cells() if cell.shift == "Night" and cell.day < 13)
+        nurse, night = next((cell.nurse, cell.day) for cell in self.plan.cells if cell.shift == "Night" and cell.day < 13)
         row = next(row for row in self.rows["plan"] if row[0] == nurse)
         row[night + 2] = "training"
         self.write()
@@ -170,7 +176,7 @@ class Words(KeptTest):
         printed = run("plan", self.ward, "check")[1]
         self.assertIn(f"warning: {says}\n", printed)
         self.assertIn("warning: Dilek works Night on the Sunday before, and has leave on Mon 30 Nov\n", printed)
-        plan = replace(self.plan, sheet=read_sheet(self.ward, None, ()))
+        plan = self.read()
         # The page has the line, but not the one for the wall.
         self.assertIn(f"<p>{says}</p>", page_text(pages.roster_content(plan)))
         self.assertNotIn(says, page_text(replace(pages.roster_content(plan), only_table=True)))
@@ -180,8 +186,8 @@ class Words(KeptTest):
         self.rows["contracts"][1][6] = "4"
         self.rows["plan"][7][8:11] = ["leave"] * 3
         self.write()
-        plan = replace(self.plan, sheet=read_sheet(self.ward, None, ()))
-        plan = plan.with_cells(cell for cell in plan.cells() if cell.nurse != "Grace" or cell.day not in (7, 8, 9))
+        plan = self.read()
+        plan = plan.with_cells(cell for cell in plan.cells if cell.nurse != "Grace" or cell.day not in (7, 8, 9))
         says = "Mon 7 Dec to Wed 9 Dec: 5 days off in a row (2 before Mon 7 Dec), at most 4: her days away (leave) count as days off"
         self.assertEqual(list(leave_lines(plan)), [f"30 points: Grace, {says}"])
         self.assertEqual(list(leave_lines(self.plan)), [])
@@ -192,16 +198,17 @@ class Words(KeptTest):
         for first, most in ((8, 4), (6, 3), (3, 2)):
             self.rows["plan"][7][1:] = [""] * (first - 1) + ["away"] * (15 - first)
             self.write()
-            plan = replace(self.plan, sheet=read_sheet(self.ward, None, ()))
-            gone = plan.with_cells(cell for cell in plan.cells() if cell.nurse != "Grace" or cell.day < first - 1)
+            plan = self.read()
+            gone = plan.with_cells(cell for cell in plan.cells if cell.nurse != "Grace" or cell.day < first - 1)
             shifts = min(first - 1, 5)
             for day, above in ((0, 0), (3, max(0, 3 - most)), (first - 1, shifts - most)):
-                claims = gone.allowing(day).claims
-                limit = next(fact.most for fact, _ in claims if isinstance(fact, Charged) and fact.nurse == "Grace")
+                limits = limits_for_leavers(gone.ward, gone.state, gone.limits, day)
+                limit = next(fact.most for fact, _ in limits if isinstance(fact, Charged) and fact.nurse == "Grace")
                 self.assertEqual(limit, min(above, max(0, shifts - most)), (first, day))
             says = [line for line in not_kept_lines(gone) if f"Grace has {shifts} shifts of at most {most}" in line]
             self.assertEqual(bool(says), shifts > most, first)
-            self.assertFalse([line for line in not_kept_lines(gone.allowing(first - 1)) if "Grace has" in line])
+            allowed = replace(gone, limits=limits_for_leavers(gone.ward, gone.state, gone.limits, first - 1))
+            self.assertFalse([line for line in not_kept_lines(allowed) if "Grace has" in line])
 
     @unittest.skipUnless(HAS_CBC, "cbc is not installed")
     def test_who_leaves_with_too_many_shifts_is_named_and_an_earlier_day_takes_one(self):
@@ -225,11 +232,11 @@ class Words(KeptTest):
         self.rows["contracts"][1][1:3] = ["8", "10!"]
         self.rows["plan"][7][6:8] = ["ill", "ill"]
         self.write()
-        cells, more = self.plan.cells(), Cell("Grace", 12, "Day", "Nurse")
+        cells, more = self.plan.cells, Cell("Grace", 12, "Day", "Nurse")
         fewer = [one for one in cells if (one.nurse, one.day) != ("Grace", 0)]
         for rosters, most in ((cells, 2), (fewer, 1), ([*cells, more], 2), ([], 0)):
-            plan = replace(self.plan.with_cells(rosters), sheet=read_sheet(self.ward, None, ()))
-            limit = next(fact.most for fact, _ in plan.claims if isinstance(fact, Charged) and fact.nurse == "Grace")
+            plan = self.read(rosters)
+            limit = next(fact.most for fact, _ in plan.limits if isinstance(fact, Charged) and fact.nurse == "Grace")
             self.assertEqual(limit, most)
             # Only an eleventh shift is above the limit.
             self.assertEqual(bool([line for line in not_kept_lines(plan) if "Grace has" in line]), more in rosters)
@@ -238,16 +245,16 @@ class Words(KeptTest):
         # Grace is off on both weekends, and ill on Friday: her weekend costs more, and days on which she is always off do not count.
         self.rows["plan"][7][5], self.rows["nurses"][7][4] = "ill", "Sun"
         self.write()
-        plan = replace(self.plan, sheet=read_sheet(self.ward, None, ()))
+        plan = self.read()
         self.assertEqual(days_off_beside_absences(plan), {("Grace", 5)})
         asked = with_few_changes(plan.scenario, replace(plan.data[0], requests=()), [], [5], beside=[("Grace", 5), ("Grace", 6)])
         self.assertEqual({nurse: asked.requests.count(Request(nurse, None, 5)) for nurse in ("Ewa", "Grace")}, {"Ewa": 2, "Grace": 8})
         # A nurse who is back earlier can be called.
-        back = replace(plan, written=(WrittenAbsence("Grace", 5, "back"),))
+        back = plan.with_state(replace(plan.state, absences=(DayWord("Grace", 5, "back"),)))
         self.assertEqual(days_off_beside_absences(back), set())
 
     def test_a_swap_is_marked_but_not_on_the_wall(self):
-        plan = replace(self.plan, agreed=(AgreedDay("Grace", 7), AgreedDay("Chen", 7)))
+        plan = self.plan.with_state(replace(self.plan.state, agreed=(NurseDay("Grace", 7), NurseDay("Chen", 7))))
         content = pages.roster_content(plan)
         table = ElementTree.fromstring(page_text(content).partition("\n")[2])
         marked = {row[0].text: [cell for cell, part in enumerate(row) if "a swap that was written" in "".join(part.itertext())]
@@ -263,18 +270,12 @@ class Words(KeptTest):
         wanted = {Request("Chen", "Day", 4): 25, Request("Chen", "Night", 4): 25, Request("Grace", None, 4): 25}
         self.assertEqual(counts, wanted)
 
-    def test_the_file_of_agreed_days(self):
-        days = PlanDays(None, 2)
-        agreed = (AgreedDay("Chen", 4), AgreedDay("Ida_B", 11))
-        text = agreed_text(agreed, days)
-        self.assertEqual(text, "nurse,day\nChen,Fri 0\nIda_B,Fri 1\n")
-        (self.folder / "agreed.csv").write_text(text)
-        self.assertEqual(read_agreed(self.folder, days), agreed)
-        # A plan of an older release has no such file, and one of fewer weeks has not all of the days.
-        self.assertEqual((read_agreed(self.ward, days), read_agreed(self.folder, PlanDays(None, 1))), ((), agreed[:1]))
-        (self.folder / "agreed.csv").write_text("nurse,day\nChen\n")
-        with self.assertRaisesRegex(FileFault, "this row was changed: write a nurse and a day"):
-            read_agreed(self.folder, days)
+    def test_the_file_of_a_plan(self):
+        days = (DayWord("Chen", 4, "ill"), DayWord("Zoë_B", 13, "back")), (NurseDay("Chen", 4), NurseDay("Ida_B", 11))
+        time = datetime.datetime(2026, 11, 28, 12, 0)
+        for record in (Record("swap Chen Zoë_B 4", time, BARE, 1, True, *days), Record("over period", time, PlanDays(MONDAY, 0))):
+            (self.folder / "plan.json").write_text(record_text(record))
+            self.assertEqual(read_record(self.folder), record)
 
 
 class Weeks(KeptTest):
@@ -387,7 +388,7 @@ class Disks(KeptTest):
             status, printed, _ = run("plan", self.ward, "over")
         self.assertEqual(status, 3)
         self.assertIn("the plan holds, but its pages are not written: ", printed)
-        self.assertTrue((self.last() / "plan.txt").exists())
+        self.assertTrue((self.last() / "plan.json").exists())
 
     def test_a_folder_that_may_not_be_written(self):
         before = self.texts()
@@ -418,7 +419,7 @@ class Training(KeptTest):
         # Grace works from Monday to Friday in both weeks, and comes to training from work.
         self.rows["plan"][7][6:9] = ["training", "training", "training"]
         self.write()
-        before = replace(self.plan, sheet=read_sheet(self.ward, None, ()))
+        before = self.read()
         self.assertEqual(len(list(beside_lines(before))), 1)
         printed = self.does("plan")
         self.assertNotIn("with work or training", printed)

@@ -3,19 +3,18 @@
 import datetime
 import sys
 import unittest
-from dataclasses import replace
 
 from test_kept_plans import KeptTest
-from test_plans import MONDAY
-from ward import ROSTER, files, run
+from test_plans import MONDAY, TWO_WEEKS
+from ward import run
 
 from inrc2pb.commands.plan import read_sheet
 from inrc2pb.plans.pages import worked_pages
-from inrc2pb.plans.plan_store import Means
-from inrc2pb.plans.record import Record
+from inrc2pb.plans.plan_store import Means, plan_texts
+from inrc2pb.plans.state import read_state
 from inrc2pb.plans.verbs import Verbs
+from inrc2pb.plans.ward import continued
 from inrc2pb.plans.ward_folder import WardFolder
-from inrc2pb.plans.ward_plan import continued, read_stored
 from inrc2pb.programs.progress import Progress
 
 
@@ -29,10 +28,9 @@ class NextPeriod(KeptTest):
 
     def plan_next(self):
         """Writes a plan of the period, which has the stored roster in both weeks."""
-        rows = files.read_solution(ROSTER).cells
-        plan = replace(continued(read_stored(self.last()), read_sheet(self.ward, None, ())), rosters={0: rows, 1: rows})
+        plan = continued(read_sheet(self.ward, None, ()), read_state(self.last())).with_cells(TWO_WEEKS)
         now = datetime.datetime(2026, 12, 13, 12, 0)
-        WardFolder(self.ward).add("plan", plan.texts(Record("plan", now, plan.days, 0, False)), now)
+        WardFolder(self.ward).add("plan", plan_texts(plan, plan.state.record("plan", now)), now)
 
     def end_period(self):
         """Ends both weeks. Returns what the last verb has printed."""

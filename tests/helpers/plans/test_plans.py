@@ -18,21 +18,23 @@ from unittest import mock
 from ward import HAS_CBC, HELPERS, ROSTER, HelperTest, files, program, run
 
 from inrc2pb.commands.plan import read_sheet
-from inrc2pb.plans.few_changes import with_few_changes
+from inrc2pb.plans.changes import with_few_changes, with_old_skills
 from inrc2pb.plans.local_server import LocalServer
 from inrc2pb.plans.plan_days import OtherPlan, PlanDays
-from inrc2pb.plans.record import Record
-from inrc2pb.plans.skill_labels import with_old_skills
+from inrc2pb.plans.plan_store import plan_texts
 from inrc2pb.plans.swaps import Swap, Swaps
+from inrc2pb.plans.ward import first_plan
 from inrc2pb.plans.ward_folder import WardFolder
-from inrc2pb.plans.ward_plan import first_plan
 from inrc2pb.plans.wording import Wording
 from inrc2pb.sheets.ward_template import EXAMPLE
+from inrc2pb.week.facts import Charged, Claim
 from inrc2pb.week.faults import Misuse
-from inrc2pb.week.records import Cell, KeptLimit, Request, WeekData
+from inrc2pb.week.records import Cell, Request, WeekData
 
 MONDAY = datetime.date(2026, 11, 30)
 DATES = [str(MONDAY + datetime.timedelta(days=day)) for day in range(14)]
+# The stored roster in both weeks.
+TWO_WEEKS = [cell._replace(day=7 * week + cell.day) for week in range(2) for cell in files.read_solution(ROSTER).cells]
 # The files of the plan with which tests begin.
 FIRST_PLAN = {}
 DATED, BARE = PlanDays(MONDAY, 2), PlanDays(None, 2)
@@ -170,11 +172,10 @@ class FolderTest(HelperTest):
 
     def write_plan(self):
         """Begins with a plan that has the stored roster in both weeks."""
-        rows = files.read_solution(ROSTER).cells
-        plan = replace(first_plan(read_sheet(self.ward, None, ())), rosters={0: rows, 1: rows})
+        plan = first_plan(read_sheet(self.ward, None, ())).with_cells(TWO_WEEKS)
         (self.ward / "plans").mkdir(exist_ok=True)
         now = datetime.datetime(2026, 11, 28, 12, 0)
-        WardFolder(self.ward).add("plan", plan.texts(Record("plan", now, plan.days, 0, False)), now)
+        WardFolder(self.ward).add("plan", plan_texts(plan, plan.state.record("plan", now)), now)
         return plan
 
     def last(self):
@@ -338,12 +339,11 @@ class Verbs(FolderTest):
         self.begin()
         sheet = read_sheet(self.ward, None, ())
         rows = [Cell("Chen", day, "Day", "Nurse") for day in range(5)] + [Cell("Grace", 5, "Day", "Nurse")]
-        plan = replace(first_plan(sheet), rosters={0: tuple(rows), 1: ()})
+        plan = first_plan(sheet).with_cells(rows)
         swap = Swap("Chen", "Grace", (5,))
-        for limits, faults in ((frozenset(), 0), (frozenset([KeptLimit("Chen", "WORK_DAYS", 0)]), 1)):
-            plan.data[0] = replace(plan.data[0], limits=limits)
+        for limits, faults in (((), 0), ((Claim(Charged("WORK_DAYS", "Chen", 0)),), 1)):
             # Chen's contract has at most five days of work in a row.
-            self.assertEqual(len(Swaps(plan).faults(swap)), faults)
+            self.assertEqual(len(Swaps(replace(plan, limits=limits)).faults(swap)), faults)
 
     def test_plans_that_were_edited_by_hand(self):
         self.begin()
@@ -406,7 +406,7 @@ class Verbs(FolderTest):
             names = [path.name for path in (self.ward / "plans").glob("*") if path.name != "lock"] if (self.ward / "plans").exists() else []
             self.assertFalse([name for name in names if not name[0] == "0"])
             for path in (self.ward / "plans").glob("0*"):
-                self.assertTrue((path / "roster-1.txt").exists() and (path / "plan.txt").exists())
+                self.assertTrue((path / "roster-1.txt").exists() and (path / "plan.json").exists())
 
 
 class Refused(FolderTest):
@@ -522,19 +522,43 @@ class Refused(FolderTest):
                 self.assertIn(f"to nobody else: {begin}", printed)
 
     def test_a_file_of_the_plan_that_another_program_has_saved(self):
-        # A spreadsheet program has saved `Müller` in a code page of Windows.
-        for name in ("absences.csv", "agreed.csv", "plan.txt"):
-            with self.subTest(name):
-                self.write_plan()
-                self.write_plan()
-                before, path = self.last(), self.last() / name
-                line = path.read_bytes().count(b"\n") + 1
-                path.write_bytes(path.read_bytes() + b"M\xfcller\n")
-                says = "this line has a byte that is no UTF-8, as another program has saved it: save the file as UTF-8, or type undo"
-                for verb in ("check", "plan", "page"):
-                    self.assert_refused(f"{name} line {line}: {says}", self.ward, verb)
-                self.assertIn("holds again", self.does("undo"))
-                self.assertNotEqual(self.last(), before)
+        # An editor has saved `Müller` in a code page of Windows.
+        self.write_plan()
+        before = self.last()
+        self.write_plan()
+        path = self.last() / "plan.json"
+        text = path.read_text().replace('"verb": "plan"', '"verb": "ill Müller"')
+        path.write_bytes(text.encode("cp1252"))
+        says = "plan.json line 2: this line has a byte that is no UTF-8, as another program has saved it: correct it, or type undo to go back"
+        for verb in ("check", "plan", "page"):
+            self.assert_refused(says, self.ward, verb)
+        self.assertIn("the plan of plan, 2026-11-28 12:00 holds again", self.does("undo"))
+        self.assertEqual(self.last(), before)
+
+    def test_a_file_of_the_plan_that_was_changed(self):
+        self.write_plan()
+        path = self.last() / "plan.json"
+        text = path.read_text()
+        for old, new, says in (
+            ('"published": false', '"published": no', " line 7: this line was changed, and is no JSON any more: correct it, or type undo"),
+            ('"published": false', '"published": 0', ": this file was changed: 'published' has a value that no plan has: correct it, or"),
+            ('"weeks": 2', '"weeks": 1e9', "'weeks' has a value that no plan has"),
+            ('"weeks": 2', '"weeks": 53', "'weeks' has a value that no plan has"),
+            ('"weeks over": 0', '"weeks over": 3', "'weeks over' has a value that no plan has"),
+            ('"2026-11-30"', '"30 Nov"', "'monday' has a value that no plan has"),
+            ('"2026-11-28 12:00"', "7", "'time' has a value that no plan has"),
+            ('"days away": []', '"days away": [["Chen", 3, "ill"], ["Chen", 14, "ill"]]', "row 2 of 'days away' is none of a plan"),
+            ('"agreed days": []', '"agreed days": [["Chen"]]', "row 1 of 'agreed days' is none of a plan"),
+            ('"agreed days": []', '"agreed days": ' + "[" * 100_000, ": this file was changed: it is no plan"),
+            ('"verb"', '"verbs"', "this file was changed: it has not the names verb, time, monday, weeks, weeks over, "),
+            ("{", "[", "is no JSON any more"),
+            ("{", "{" + " " * 1_000_000, "the file has more than 1000000 bytes"),
+        ):
+            with self.subTest(new[:40]):
+                path.write_text(text.replace(old, new, 1))
+                self.assert_refused(says, self.ward, "page")
+        path.unlink()
+        self.assert_refused("this folder is no plan: move it away, or type undo to go back to the plan before it", self.ward, "page")
 
     def test_the_plan_after_number_9999(self):
         self.write_plan()

@@ -1,14 +1,18 @@
-"""The rows of the sheet needs that have a week, such as those of bank holidays: in the next period their weeks count anew."""
+"""The spreadsheet of a ward's folder: with the days away that verbs have written, and its rows of needs that have a week.
 
-from typing import Dict, Iterable, Iterator, List, Mapping, NamedTuple
+In the next period the weeks of such rows, as those of bank holidays, count anew.
+"""
 
-from ..judging.absences import joined
-from ..sheets.plan_sheets import needed
+from typing import Dict, Iterable, Iterator, List, Mapping, NamedTuple, Sequence
+
+from ..judging.absences import joined, readable
+from ..sheets.plan_sheets import AWAY, Days, needed
 from ..sheets.sheet_files import Book
-from ..sheets.sheet_rows import SheetCell, SheetRow
+from ..sheets.sheet_rows import SheetCell, SheetRow, tidy
 from ..sheets.ward_sheets import table_of
 from ..week.records import DAYS, Place, Requirement
 from .plan_days import WEEK_DAYS, PlanDays
+from .state import BACK, SHEET, DayWord
 
 Needs = Mapping[Place, Requirement]
 
@@ -33,10 +37,6 @@ def _needs_of(row: SheetRow) -> Needs:
     return {Place(day, shift, skill): needed(cell) for day, cell in enumerate(cells) if cell.text}
 
 
-def _name(cell: SheetCell) -> str:
-    return cell.text.replace(" ", "_").casefold()
-
-
 def unchanged_rows(rows: Iterable[WeekRow], older: Mapping[int, Needs]) -> List[WeekRow]:
     """The rows that have the numbers of the same week of an older period, so nobody has made them those of this one yet."""
     found = []
@@ -57,3 +57,35 @@ def anew_lines(rows: Iterable[WeekRow], days: PlanDays) -> Iterator[str]:
         named = f"row{'s' * (len(numbers) > 1)} {joined(numbers)}"
         span = f", now {days.span([WEEK_DAYS * week, WEEK_DAYS * week + WEEK_DAYS - 1])}" if days.monday else ""
         yield f"sheet needs, {named}: weeks count anew, and this is week {week}{span}: correct it, or delete what the last period needed"
+
+
+def with_written(book: Book, days: Days, written: Sequence[DayWord]) -> Book:
+    """The spreadsheet with these absences in its plan. A nurse without a row there gets one, unless she has none in the sheet nurses."""
+    rows = [list(row) for row in book.sheets["plan"]]
+    head = days.plan.columns["nurse"]
+    places = {_name(row.of("nurse")): row.of("nurse").row - 1 for row in days.plan.rows}
+    known = {_name(row.of("nurse")) for row in table_of(book, "nurses").rows}
+    for one in written:
+        nurse = one.nurse.casefold()
+        if one.day >= len(days.columns) or nurse not in known:
+            continue
+        if nurse not in places:
+            places[nurse] = len(rows)
+            rows.append([""] * head + [readable(one.nurse)])
+        row, column = rows[places[nurse]], days.columns[one.day].column
+        row.extend([""] * (column + 1 - len(row)))
+        row[column] = _cell(row[column], one.word)
+    return book._replace(sheets={**book.sheets, "plan": rows})
+
+
+def _name(cell: SheetCell) -> str:
+    return cell.text.replace(" ", "_").casefold()
+
+
+def _cell(text: str, word: str) -> str:
+    """What the word makes of the text of a cell: who is back was away."""
+    if word == SHEET:
+        return text
+    if word != BACK:
+        return word
+    return "" if tidy(text).casefold() in AWAY else text

@@ -1,0 +1,330 @@
+"""What the spreadsheet of a ward says now, and a plan of it: the ward and what verbs have made of it."""
+
+from dataclasses import dataclass, replace
+from functools import cached_property
+from typing import Dict, FrozenSet, Iterable, List, Mapping, Optional, Sequence, Tuple
+
+from ..judging.absences import absences_of, readable
+from ..judging.days_away import DaysAway
+from ..judging.given import read_given, with_given
+from ..judging.leave import credited
+from ..judging.next_history import next_history
+from ..sheets.plan_sheets import NOT_EMPLOYED
+from ..sheets.ward_sheets import NIGHT
+from ..shown.roster_view import RosterView, WeekView
+from ..week.dates import Times
+from ..week.facts import SHIFTS, Charged, Claim
+from ..week.faults import Misuse
+from ..week.files import read_history, read_scenario, read_solution, read_week
+from ..week.hints import plural
+from ..week.reasons import read_reasons
+from ..week.records import Absence, Cell, History, Place, Requirement, Scenario, Week, WeekData
+from .plan_days import PERIOD_IS_OVER, WEEK_DAYS, PeriodOver, PlanDays
+from .state import NurseDay, State, in_week
+from .ward_sheet import WeekRow
+
+FACTS, REASONS = "facts.txt", "reasons.txt"
+ALWAYS_OFF = "off"
+# The reasons to be away that are work in a row, and those before which nobody should have a night shift.
+_TRAINING, _FREE = ("training",), ("training", "leave", "unpaid")
+
+
+@dataclass(frozen=True)
+class Ward:
+    """What the spreadsheet says now, with the days away that verbs have written: the texts of the ward's files by their names, warnings,
+    the days of its plan, the shifts as which days away count, the times of shift types, the days whose needs have numbers of their own, as
+    those of bank holidays, and the rows of the needs that have a week."""
+
+    texts: Mapping[str, str]
+    warnings: Sequence[str]
+    days: PlanDays
+    credit: Mapping[str, int]
+    times: Mapping[str, Times]
+    holidays: FrozenSet[int] = frozenset()
+    week_rows: Sequence[WeekRow] = ()
+
+    @cached_property
+    def scenario(self) -> Scenario:
+        """The contracts, nurses and shift types, with the parts of contracts that count."""
+        return read_scenario("ward.txt", self.texts["ward.txt"])
+
+    @cached_property
+    def past(self) -> History:
+        """The history of the sheet nurses, without days away."""
+        history = read_history("history-0.txt", self.scenario, self.texts["history-0.txt"])
+        return credited(history, {nurse: -shifts for nurse, shifts in self.credit.items()})
+
+    @cached_property
+    def claims(self) -> Tuple[Claim, ...]:
+        """The absences and the limits that hold, as facts."""
+        return read_given(FACTS, self.scenario, self.texts[FACTS])
+
+    @cached_property
+    def weeks(self) -> Tuple[WeekData, ...]:
+        """The needs and wishes of each week, without its absences and limits."""
+        names = [f"week-{number}.txt" for number in range(self.days.weeks)]
+        return tuple(read_week(name, self.scenario, self.texts[name]) for name in names)
+
+    @cached_property
+    def held(self) -> Tuple[Cell, ...]:
+        """The shifts that the sheet plan fixes."""
+        names = [f"fix-{number}.txt" for number in range(self.days.weeks)]
+        rows = (read_solution(name, self.scenario, self.texts[name]).cells for name in names)
+        return tuple(cell._replace(day=WEEK_DAYS * number + cell.day) for number, cells in enumerate(rows) for cell in cells)
+
+    @cached_property
+    def reasons(self) -> Dict[NurseDay, str]:
+        """Why nurses are away, by words of the sheet plan."""
+        found = read_reasons(REASONS, self.scenario, self.texts[REASONS])
+        return {NurseDay(away.nurse, WEEK_DAYS * (away.week - 1) + away.day): word for away, word in found.items()}
+
+    @cached_property
+    def leaving(self) -> Dict[str, int]:
+        """The day from which each nurse is gone to the end of the plan, if there is one."""
+        gone, total = {one for one, word in self.reasons.items() if word in NOT_EMPLOYED}, self.days.total
+        found: Dict[str, int] = {}
+        for nurse in dict.fromkeys(nurse for nurse, _ in sorted(gone)):
+            first = total
+            while NurseDay(nurse, first - 1) in gone:
+                first -= 1
+            if 0 < first < total:
+                found[nurse] = first
+        return found
+
+    def knows(self, cell: Cell) -> bool:
+        """Whether the ward has the names of a shift."""
+        scenario = self.scenario
+        return cell.nurse in scenario.nurses and cell.shift in scenario.shift_types and cell.skill in scenario.skills
+
+
+# ---- limits: what plans of a ward keep, as functions of the ward, of what verbs have made, and of a first day
+
+
+def limits_of(ward: Ward, state: State, first: Optional[int] = None) -> Tuple[Claim, ...]:
+    """The absences and limits that a plan of this state is judged by. A maximum of a nurse's shifts allows the shifts that she has before the
+    day `first`, or all of them, as far as they are too many only since days away count as shifts: no limit takes shifts of other days from a
+    nurse who is ill."""
+    return _with_more(ward.claims, ward, state, _planned(ward, state, ward.days.total if first is None else first), ward.credit)
+
+
+def limits_for_leavers(ward: Ward, state: State, limits: Sequence[Claim], first: int) -> Tuple[Claim, ...]:
+    """These limits for a search from the day `first` on: a nurse who leaves the ward keeps her shifts before it, also if the part of her
+    contract that counts has fewer."""
+    planned = _planned(ward, state, first)
+    return _with_more(limits, ward, state, planned, dict.fromkeys(ward.leaving, len(planned)))
+
+
+def _planned(ward: Ward, state: State, end: int) -> List[str]:
+    """The nurse of each shift before the day `end`, but for shifts on days on which she is away."""
+    return [cell.nurse for cell in state.cells if cell.day < end and NurseDay(cell.nurse, cell.day) not in ward.reasons]
+
+
+def _with_more(
+    limits: Sequence[Claim], ward: Ward, state: State, planned: Sequence[str], more: Mapping[str, int]
+) -> Tuple[Claim, ...]:
+    """The limits, with maxima that allow nurses these planned shifts, but by no more than `more` says for each."""
+    before = credited(state.start, dict(ward.credit)).nurses
+
+    def allowing(claim: Claim) -> Claim:
+        fact = claim.fact
+        if not isinstance(fact, Charged) or fact.kind != SHIFTS or fact.nurse is None:
+            return claim
+        shifts = before[fact.nurse].assignments + planned.count(fact.nurse)
+        above = shifts - ward.scenario.contract_of(fact.nurse).assignments.maximum
+        return claim._replace(fact=fact._replace(most=max(fact.most, min(above, more.get(fact.nurse, 0)))))
+
+    return tuple(map(allowing, limits))
+
+
+# ---- a plan
+
+
+@dataclass(frozen=True)
+class WardPlan:
+    """A ward, what verbs have made of it, and the limits that it is judged by. A plan that is made from it is judged by the same limits.
+    `unknown` are the planned shifts that were left out, since the spreadsheet does not have their names."""
+
+    ward: Ward
+    state: State
+    limits: Tuple[Claim, ...]
+    unknown: Tuple[Cell, ...] = ()
+
+    @property
+    def days(self) -> PlanDays:
+        """The days of all weeks."""
+        return self.ward.days
+
+    @property
+    def scenario(self) -> Scenario:
+        """The ward's contracts, nurses and shift types."""
+        return self.ward.scenario
+
+    @property
+    def first(self) -> int:
+        """The first day that is not over."""
+        return self.state.first
+
+    @property
+    def weeks(self) -> range:
+        """The weeks that are not over."""
+        return range(self.state.open_week, self.days.weeks)
+
+    @property
+    def is_planned(self) -> bool:
+        """Whether each week that is not over has a roster."""
+        return self.state.planned >= self.days.weeks
+
+    @cached_property
+    def data(self) -> Tuple[WeekData, ...]:
+        """The needs, wishes, absences and limits of each week, with the days of the week, as judges of a week take them."""
+        return tuple(with_given(self.scenario, week, self.limits, number) for number, week in enumerate(self.ward.weeks))
+
+    @cached_property
+    def needs(self) -> Dict[Place, Requirement]:
+        """How many nurses the places of the weeks that are not over need."""
+        weeks = ((WEEK_DAYS * number, self.data[number].requirements) for number in self.weeks)
+        return {place._replace(day=first + place.day): needed for first, of_week in weeks for place, needed in of_week.items()}
+
+    @cached_property
+    def absences(self) -> FrozenSet[Absence]:
+        """The shifts that nurses may not have in the weeks that are not over."""
+        weeks = ((WEEK_DAYS * number, absences_of(self.data[number])) for number in self.weeks)
+        return frozenset(one._replace(day=first + one.day) for first, of_week in weeks for one in of_week)
+
+    @cached_property
+    def away(self) -> Dict[NurseDay, str]:
+        """The days of the weeks that are not over on which nurses are away, and why: a word of the sheet plan, or `off` for days on which
+        they are always off."""
+        always = {NurseDay(one.nurse, one.day): ALWAYS_OFF for one in self.absences if one.shift is None}
+        return {**always, **{one: word for one, word in self.ward.reasons.items() if one.day >= self.first}}
+
+    @cached_property
+    def days_away(self) -> DaysAway:
+        """The days away that concern the days beside them, in the weeks that are not over. Night shifts are known by their times, or else
+        by their names. Here and in `shifts` days count from the first one that is not over."""
+        training, free = (
+            frozenset((one.nurse, one.day - self.first) for one, word in self.away.items() if word in words) for words in (_TRAINING, _FREE)
+        )
+        times = self.ward.times
+        nights = (name for name in self.scenario.shift_types if (times[name].is_night if name in times else NIGHT.search(name)))
+        return DaysAway(training, free, frozenset(nights))
+
+    @cached_property
+    def cells(self) -> Tuple[Cell, ...]:
+        """The shifts of the weeks that are not over."""
+        return tuple(cell for cell in self.state.cells if cell.day >= self.first)
+
+    @cached_property
+    def works(self) -> Dict[NurseDay, Cell]:
+        """The shift of each nurse's day in the weeks that are not over."""
+        return {NurseDay(cell.nurse, cell.day): cell for cell in self.cells}
+
+    @cached_property
+    def held(self) -> Dict[NurseDay, Cell]:
+        """The shifts of the weeks that are not over that the sheet plan fixes."""
+        return {NurseDay(cell.nurse, cell.day): cell for cell in self.ward.held if cell.day >= self.first}
+
+    @cached_property
+    def shifts(self) -> Dict[Tuple[str, int], str]:
+        """The shift types of the nurses' days in the weeks that are not over."""
+        return {(nurse, day - self.first): cell.shift for (nurse, day), cell in self.works.items()}
+
+    @cached_property
+    def histories(self) -> List[History]:
+        """The history of each week, as far as rosters are known."""
+        found = [credited(self.state.start, dict(self.ward.credit))]
+        for number in range(min(self.state.planned, self.days.weeks - 1)):
+            found.append(next_history(self.scenario, found[-1], self.state.roster(number)))
+        return found
+
+    @property
+    def past(self) -> History:
+        """The history of the first week that is not over."""
+        return self.histories[self.state.open_week]
+
+    def week(self, number: int) -> Week:
+        """A week's ward, history and file."""
+        return Week(self.scenario, self.histories[number], self.data[number])
+
+    def day_names(self, number: int) -> List[str]:
+        """The days of a week in sentences."""
+        return [self.days.text(WEEK_DAYS * number + day) for day in range(WEEK_DAYS)]
+
+    def shifts_of(self, nurse: str) -> int:
+        """The shifts of a nurse in the period, with those as which days away count, but none of these days."""
+        return self.past.nurses[nurse].assignments + sum(one.nurse == nurse and one not in self.away for one in self.works)
+
+    def with_cells(self, cells: Iterable[Cell]) -> "WardPlan":
+        """The same with these shifts in the weeks that are not over."""
+        return self.with_state(self.state.with_open(cells))
+
+    def with_state(self, state: State) -> "WardPlan":
+        """The same ward and limits with what verbs have made now."""
+        return replace(self, state=state)
+
+    def view(self, shown: Optional[range] = None) -> RosterView:
+        """Some weeks, or those that are not over, to be shown."""
+        weeks = []
+        for number in self.weeks if shown is None else shown:
+            week, reasons, held = self.week(number), self.reasons(number), in_week(self.ward.held, number)
+            weeks.append(WeekView(number, self.state.roster(number), week.data, week, held, reasons=reasons))
+        names = (list(self.scenario.nurses), list(self.scenario.shift_types), list(self.scenario.skills))
+        return RosterView(self.scenario.name, *names, weeks, credit=dict(self.ward.credit))
+
+    def reasons(self, number: int) -> Dict[Tuple[str, int], str]:
+        """Why nurses are away on the days of a week, also of one that is over, with the days of the week."""
+        always = {(one.nurse, one.day): ALWAYS_OFF for one in absences_of(self.data[number]) if one.shift is None}
+        own = {(nurse, day % WEEK_DAYS): word for (nurse, day), word in self.ward.reasons.items() if day // WEEK_DAYS == number}
+        return {**always, **own}
+
+
+def plan_of(ward: Ward, state: State, unknown: Tuple[Cell, ...] = ()) -> WardPlan:
+    """The plan of a ward and of what verbs have made of it, judged by the limits of this state."""
+    return WardPlan(ward, state, limits_of(ward, state), unknown)
+
+
+def first_plan(ward: Ward, past: Optional[History] = None) -> WardPlan:
+    """The plan of a spreadsheet before anything is planned, after this history, if there is one."""
+    return plan_of(ward, State(ward.days, _start(ward, past)))
+
+
+def _start(ward: Ward, past: Optional[History]) -> History:
+    """The history before the first week. Nurses whom an older one does not have begin as the sheet says."""
+    known = past.nurses if past else {}
+    return replace(ward.past, nurses={nurse: known.get(nurse, row) for nurse, row in ward.past.nurses.items()})
+
+
+def continued(ward: Ward, state: State) -> WardPlan:
+    """The plan of a folder, with what its spreadsheet says now. Raises Misuse if that is another period, or lacks a name of a week that is
+    over; planned shifts whose names it lacks are left out."""
+    _check_days(ward.days, state.days)
+    _check_names(ward, [cell for cell in state.cells if cell.day < state.first])
+    unknown = tuple(cell for cell in state.cells if not ward.knows(cell))
+    agreed = (one for one in state.agreed if one.nurse in ward.scenario.nurses and state.first <= one.day < ward.days.total)
+    cells = tuple(cell for cell in state.cells if cell not in unknown)
+    now = replace(state, days=ward.days, start=_start(ward, state.start), cells=cells, agreed=tuple(agreed))
+    return plan_of(ward, now, unknown)
+
+
+def _check_days(now: PlanDays, before: PlanDays) -> None:
+    """The spreadsheet has the days of the plan. At the beginning of a period its number of weeks is free."""
+    if now.monday == before.monday and before.weeks in (0, now.weeks):
+        return
+    begin = "" if before.monday is None else f" from {before.monday} on"
+    if not before.weeks:
+        raise PeriodOver(f"a {PERIOD_IS_OVER}: write the days of the next one{begin} into the sheet plan, with its wishes and absences")
+    raise Misuse(
+        f"the plan has {plural(before.weeks, 'week')}{begin}, and the sheet plan has other days: write these, or plan in another folder"
+    )
+
+
+def _check_names(ward: Ward, worked: Sequence[Cell]) -> None:
+    """Who worked in a week that is over is in the ward."""
+    for cell in worked:
+        week = cell.day // WEEK_DAYS
+        if cell.nurse not in ward.scenario.nurses:
+            cure = "write it again, with away in the plan from her last day on"
+            raise Misuse(f"{readable(cell.nurse)} worked in week {week}, and has no row in the sheet nurses: {cure}")
+        if not ward.knows(cell):
+            row = cell._replace(day=cell.day % WEEK_DAYS).row()
+            raise Misuse(f"'{row}' was worked in week {week}, and the spreadsheet has no such shift type or skill: keep its old name")
