@@ -31,7 +31,8 @@ def lifted_absence(plan: WardPlan, nurse: str, first: int) -> Lifted:
         return plan.away.get(NurseDay(nurse, day)) == word and (by_verbs.get(day) == word) == of_verb
 
     days = list(itertools.takewhile(is_same, range(first, plan.days.total)))
-    return Lifted(days, word, without_last(plan.state.absences, nurse, days) if of_verb else with_days(plan.state.absences, nurse, days, BACK))
+    left = without_last(plan.state.absences, nurse, days) if of_verb else with_days(plan.state.absences, nurse, days, BACK)
+    return Lifted(days, word, left)
 
 
 def stays_away_lines(plan: WardPlan, nurse: str, first: int) -> Iterator[str]:

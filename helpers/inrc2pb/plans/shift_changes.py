@@ -17,9 +17,8 @@ def change_lines(changes: List[ShiftChange], days: PlanDays, away: Away = {}, be
     """A line for each change. `away` has words for the nurses' days on which they are away, and `before` those of the older plan."""
 
     def line(one: ShiftChange) -> str:
-        now, older = (
-            cell_text(cell) if cell else words.get(NurseDay(one.nurse, one.day), OFF) for cell, words in ((one.now, away), (one.before, before))
-        )
+        place = NurseDay(one.nurse, one.day)
+        now, older = (cell_text(cell) if cell else words.get(place, OFF) for cell, words in ((one.now, away), (one.before, before)))
         return f"{readable(one.nurse)}, {days.text(one.day)}: {now} instead of {older}"
 
     return [line(one) for one in changes]

@@ -163,7 +163,8 @@ def read_record(folder: Path) -> Record:
     except json.JSONDecodeError as fault:
         raise FileFault(path, fault.lineno, f"this line was changed, and is no JSON any more: {_CURE}") from fault
     except (ValueError, RecursionError) as fault:
-        raise FileFault(path, 0, f"this file was changed: {fault.args[0] if isinstance(fault, _Changed) else 'it is no plan'}: {_CURE}") from fault
+        what = fault.args[0] if isinstance(fault, _Changed) else "it is no plan"
+        raise FileFault(path, 0, f"this file was changed: {what}: {_CURE}") from fault
 
 
 class _Changed(ValueError):

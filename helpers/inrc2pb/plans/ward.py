@@ -101,9 +101,9 @@ class Ward:
 
 
 def limits_of(ward: Ward, state: State, first: Optional[int] = None) -> Tuple[Claim, ...]:
-    """The absences and limits that a plan of this state is judged by. A maximum of a nurse's shifts allows the shifts that she has before the
-    day `first`, or all of them, as far as they are too many only since days away count as shifts: no limit takes shifts of other days from a
-    nurse who is ill."""
+    """The absences and limits that a plan of this state is judged by. A maximum of a nurse's shifts allows the shifts that she has before
+    the day `first`, or all of them, as far as they are too many only since days away count as shifts: no limit takes shifts of other days
+    from a nurse who is ill."""
     return _with_more(ward.claims, ward, state, _planned(ward, state, ward.days.total if first is None else first), ward.credit)
 
 
