@@ -80,7 +80,8 @@ bounds_the_base() {
         --sce no_two.txt --his history.txt --week week.txt --fix two_days --minimums
 }
 
-# A shift on Monday costs Ann 15, and 30 are charged if nobody works there: 30 if she is off there, and 15 if she works.
+# A shift on Monday costs Ann 15, and 30 are charged if nobody works there: 30 if she is off there, and 15 if she works. In an odd case the
+# penalty is no multiple of 10, so that it is at least 5.
 bounds_by_cases() {
     local closed=(--sce closed.txt --his history.txt --week wanted.txt) lists=('PRICES = 2' 'ROWS = 1' 'Day Nurse 30000 0 0 0 0 0 0' 'ROWS = 0') choice
     changed week.txt wanted.txt 3 'REQUIREMENTS\nDay Nurse (0,1) (0,0) (0,0) (0,0) (0,0) (0,0) (0,0)'
@@ -92,6 +93,8 @@ bounds_by_cases() {
     certificate priced_place 1 "${lists[@]}" 'LEAVES = 2' 'SPLIT PLACE 1 Mon Day Nurse 0' 'LEAF 1 SURCHARGES = 0' 'LEAF 0 SURCHARGES = 0'
     certificate even 1 "${lists[@]}" 'LEAVES = 2' 'SPLIT EVEN' 'LEAF 0 SURCHARGES = 0' 'LEAF 0 SURCHARGES = 0'
     certificate runs 1 "${lists[@]}" 'LEAVES = 2' 'SPLIT CHARGES SHIFT_RUNS ALL 0' 'LEAF 0 SURCHARGES = 0' 'LEAF 1 SURCHARGES = 1 15000'
+    certificate odd 1 "${lists[@]}" 'LEAVES = 2' 'SPLIT EVEN' 'LEAF 0 SURCHARGES = 0' 'LEAF 1 SURCHARGES = 1 15000'
+    certificate odd_free 1 "${lists[@]}" 'LEAVES = 2' 'SPLIT EVEN' 'LEAF 0 SURCHARGES = 1 15000' 'LEAF 1 SURCHARGES = 0'
     certificate dear 1 "${lists[@]}" 'LEAVES = 2' 'SPLIT CHARGES SHIFT_RUNS NURSE Ann 0' 'LEAF 0 SURCHARGES = 0' 'LEAF 1 SURCHARGES = 1 15001'
     certificate siblings 1 "${lists[@]}" 'LEAVES = 4' 'SPLIT EVEN' 'SPLIT CHOICE 1 Ann Mon None' 'LEAF 0 SURCHARGES = 0' \
         'LEAF 0 SURCHARGES = 0' 'SPLIT CHOICE 1 Ann Mon None' 'LEAF 0 SURCHARGES = 0' 'LEAF 0 SURCHARGES = 0'
@@ -105,6 +108,8 @@ bounds_by_cases() {
     says 'a place with nobody, or with more, and a price' 'lower bound 15\n' "${closed[@]}" --proof priced_place
     says 'an even number of charges, or an odd one' 'lower bound 15\n' "${closed[@]}" --proof even
     says 'no charge, or more with a surcharge' 'lower bound 15\n' "${closed[@]}" --proof runs
+    says 'an odd number of charges, with a surcharge' 'lower bound 15\n' "${closed[@]}" --proof odd
+    says 'an even number of charges, with a surcharge, or an odd one' 'lower bound 5\n' "${closed[@]}" --proof odd_free
     says 'a surcharge above the weight' 'lower bound 0\n' "${closed[@]}" --proof dear
     says 'a fact in both cases of another' 'lower bound 15\n' "${closed[@]}" --proof siblings
     says 'a fact that is given, too' 'lower bound 30\n' "${closed[@]}" --given monday_off --proof monday_None
@@ -197,6 +202,17 @@ bounds_in_time() {
     says_within 60 'a year of five nurses' 'lower bound 540\npenalty 940\n' --sce year.txt --his year_history.txt --week "${nodes[@]}" \
         --proof year_prices --roster "${names[@]}"
     says_within 60 'a year without prices' 'lower bound 0\n' --sce year.txt --his year_history.txt --week "${nodes[@]}"
+    solution second_works 'N2 Mon Day Nurse'
+    facts last_off 'HOLDS CHOICE 52 N1 Mon None'
+    facts last_on 'NOT CHOICE 52 N1 Mon None'
+    says 'a year whose last Monday is held and free' 'no roster exists\n' --sce year.txt --his year_history.txt --week "${nodes[@]}" \
+        --fix 52=first_works --given last_off --minimums
+    says 'a year whose last Monday is held' 'lower bound 540\npenalty 940\n' --sce year.txt --his year_history.txt --week "${nodes[@]}" \
+        --fix 52=first_works --given last_on --proof year_prices --roster "${names[@]}"
+    refuses 'a year without its last held cell' 6 'week 52: roster breaks H5' --sce year.txt --his year_history.txt --week "${nodes[@]}" \
+        --fix 52=first_works --given last_off --roster "${names[@]:1}" second_works
+    refuses 'a year without its last day off' 6 'facts line 5: not met' --sce year.txt --his year_history.txt --week "${nodes[@]}" \
+        --given last_off --roster "${names[@]}"
     misused 'a week more than a scenario may have' 'there are more weeks than a scenario may have' "${week[@]}" --week "${nodes[@]}"
     mapfile -t names < <(awk '/^NURSES/ { inside = 1; next } inside && NF { print $1 }' "$examples/thirty/ward.txt")
     nodes=()
@@ -227,6 +243,9 @@ refuses_files() {
         'LEAF 0 SURCHARGES = 0' 'LEAF 0 SURCHARGES = 0' 'LEAF 0 SURCHARGES = 0' 'LEAF 0 SURCHARGES = 0'
     certificate below_its_opposite 1 'PRICES = 1' 'ROWS = 0' 'LEAVES = 3' 'SPLIT EVEN' 'LEAF 0 SURCHARGES = 0' 'SPLIT EVEN' \
         'LEAF 0 SURCHARGES = 0' 'LEAF 0 SURCHARGES = 0'
+    certificate split_too_many 1 'PRICES = 1' 'ROWS = 0' 'LEAVES = 2' 'SPLIT EVEN' 'LEAF 0 SURCHARGES = 0' 'SPLIT CHOICE 1 Ann Mon None' \
+        'LEAF 0 SURCHARGES = 0' 'LEAF 0 SURCHARGES = 0'
+    certificate leaf_too_early 1 'PRICES = 1' 'ROWS = 0' 'LEAVES = 3' 'SPLIT EVEN' 'LEAF 0 SURCHARGES = 0' 'LEAF 0 SURCHARGES = 0'
     { cat "$room/none"; echo more; } > "$room/more"
     { cat "$room/none"; head -c 4194304 /dev/zero | tr '\0' ' '; } > "$room/long"
     refuses 'a row twice' 1 'certificate line 8: repeated' "${week[@]}" --proof twice
@@ -234,6 +253,8 @@ refuses_files() {
     refuses 'an unknown skill' 1 'certificate line 7: unknown name' "${week[@]}" --proof unknown
     refuses 'a certificate for two weeks' 1 'certificate line 4: out of limits' "${week[@]}" --proof other_weeks
     refuses 'a split without its second half' 1 'certificate line 9: end of file' "${week[@]}" --proof no_leaf
+    refuses 'a leaf too many' 1 'certificate line 10: another word expected' "${week[@]}" --proof split_too_many
+    refuses 'a leaf too few' 1 'certificate line 10: another word expected' "${week[@]}" --proof leaf_too_early
     refuses 'an unknown fact' 1 'certificate line 8: another word expected' "${week[@]}" --proof other_fact
     refuses 'a fact in a case where it holds' 1 'certificate: repeated' "${week[@]}" --proof below_itself
     refuses 'a fact in a case where it does not hold' 1 'certificate: repeated' "${week[@]}" --proof below_its_opposite
@@ -289,11 +310,29 @@ checks_in_order() {
     refuses 'then the second roster' 1 'week 2: solution line 1: another word expected' "${files[@]}"
 }
 
+# manual SECTION: a section of the manual page in one line, where a command's lines are joined.
+manual() { sed -n "/^\.Sh $1\$/,/^\.Sh/p" man/inrc2pb-bound.1 | sed 's/ *\\e$//' | tr -s ' \n' ' '; }
+
+# The help begins and ends as the manual page does: what the program is for, its examples, and its exit statuses.
+shows_help() {
+    local example statuses
+    run 'help' 0 text nothing --help
+    head -n 1 "$room/out" | grep -qxF "Proves $(sed -n 's/^\.Nd //p' man/inrc2pb-bound.1)" || complain 'another sentence'
+    grep -q '^Usage: inrc2pb-bound ' "$room/out" || complain 'another usage'
+    [ "$(grep ':$' "$room/out")" = $'Options:\nExamples:' ] || complain 'other headings'
+    [ "$(grep -c '^  inrc2pb-bound ' "$room/out")" = 2 ] || complain 'not two examples'
+    while read -r example; do
+        manual EXAMPLES | grep -qF -- "$example " || complain "not in the manual page: $example"
+    done < <(grep '^  inrc2pb-bound ' "$room/out")
+    statuses=$(tr '\n' ' ' < "$room/out" | sed -n 's/.* Exit status: \(0 .* 6 if a roster breaks a hard rule\) or a given fact\. .*/\1/p')
+    [ "$statuses" != '' ] || complain 'no statuses'
+    manual 'EXIT STATUS' | grep -qF -- " $statuses or the rosters do not meet a given fact" || complain "other statuses: $statuses"
+    tail -n 1 "$room/out" | grep -q ' The files: inrc2pb-bound(1)\.$' || complain 'not said where the files are'
+}
+
 checks_words() {
     line version "inrc2pb-bound $(sed -n 's/^## //p' CHANGELOG.md | head -n 1)"
     run 'the version' 0 version nothing --version
-    run 'help' 0 text nothing --help
-    grep -q '^Usage: inrc2pb-bound ' "$room/out" || complain 'another usage'
     run 'no words' 2 nothing text
     misused 'no week' "$lacking" --sce scenario.txt --his history.txt
     misused 'an unknown option' "unexpected argument '--sol' found" "${week[@]}" --sol x
@@ -328,5 +367,6 @@ bounds_in_time
 proves_by_cases
 refuses_files
 checks_in_order
+shows_help
 checks_words
 finish
