@@ -73,8 +73,8 @@ deb: all
 BIN = $(DESTDIR)$(PREFIX)/bin
 PAGES = $(SHARE)/doc/inrc2pb
 ZSH = $(SHARE)/zsh/site-functions
-HELPERS = $(wildcard helpers/inrc2pb-*)
-MODULES = $(wildcard helpers/inrc2pb/*.py helpers/inrc2pb/*/*.py) helpers/inrc2pb/py.typed helpers/pyproject.toml
+HELPERS = $(wildcard python/inrc2pb-*)
+MODULES = $(wildcard python/inrc2pb/*.py python/inrc2pb/*/*.py) python/inrc2pb/py.typed python/pyproject.toml
 TOP_PAGES = README.md CHANGELOG.md CONTRIBUTING.md
 COMPLETED = inrc2pb inrc2pb-bound
 COMPLETIONS = "$(SHARE)/bash-completion/completions" "$(ZSH)" "$(SHARE)/fish/vendor_completions.d"
@@ -87,8 +87,8 @@ install:
 	install -m 755 "$(PROGRAM)" "$(BIN)/inrc2pb"
 	test ! -x "$(BOUND)" || install -m 755 "$(BOUND)" "$(BIN)/inrc2pb-bound"
 	test ! -x "$(FITS)" || install -m 755 "$(FITS)" "$(BIN)/inrc2pb-fits"
-	for helper in $(notdir $(HELPERS)); do install -m 755 helpers/launcher.py "$(BIN)/$$helper" || exit; done
-	for module in $(MODULES:helpers/%=%); do install -D -m 644 "helpers/$$module" "$(SHARE)/inrc2pb/$$module" || exit; done
+	for helper in $(notdir $(HELPERS)); do install -m 755 python/launcher.py "$(BIN)/$$helper" || exit; done
+	for module in $(MODULES:python/%=%); do install -D -m 644 "python/$$module" "$(SHARE)/inrc2pb/$$module" || exit; done
 	install -m 644 man/*.1 "$(SHARE)/man/man1"
 	for helper in $(notdir $(HELPERS)); do echo '.so man1/inrc2pb-helpers.1' > "$(SHARE)/man/man1/$$helper.1"; done
 	for name in $(COMPLETED); do \
@@ -116,10 +116,10 @@ uninstall:
 	    $(foreach name,$(COMPLETED) $(notdir $(HELPERS)),"$(SHARE)/bash-completion/completions/$(name)" \
 	    "$(SHARE)/fish/vendor_completions.d/$(name).fish") \
 	    $(foreach name,$(COMPLETED) inrc2pb-helpers,"$(ZSH)/_$(name)")
-	rm -f $(patsubst helpers/%,"$(BIN)/%",$(HELPERS)) $(patsubst helpers/%,"$(SHARE)/man/man1/%.1",$(HELPERS))
+	rm -f $(patsubst python/%,"$(BIN)/%",$(HELPERS)) $(patsubst python/%,"$(SHARE)/man/man1/%.1",$(HELPERS))
 	for page in $(TOP_PAGES) docs/*.md bench/README.md bench/*.svg; do rm -f "$(PAGES)/$$page"; done
 	find examples -type f ! -name '*.sh' -exec rm -f "$(PAGES)/{}" \;
-	rm -f $(patsubst helpers/%,"$(SHARE)/inrc2pb/%",$(MODULES))
+	rm -f $(patsubst python/%,"$(SHARE)/inrc2pb/%",$(MODULES))
 	test ! -d "$(SHARE)/inrc2pb" || find "$(SHARE)/inrc2pb" -name __pycache__ -prune -exec rm -r {} +
 	for folder in "$(PAGES)" "$(SHARE)/inrc2pb"; do test ! -d "$$folder" || find "$$folder" -type d -empty -delete; done
 

@@ -18,7 +18,7 @@ from dataclasses import replace
 from pathlib import Path
 from typing import Callable, Dict, Iterator, List, Sequence, TypeVar
 
-sys.path.insert(0, str(Path(__file__).resolve().parents[1] / "helpers"))
+sys.path.insert(0, str(Path(__file__).resolve().parents[1] / "python"))
 
 from inrc2pb.week.records import ANY, DAYS, Contract, History, Limits, Nurse, NurseHistory, Place, Request, Requirement  # noqa: E402
 from inrc2pb.week.records import Scenario, ShiftType, WeekData  # noqa: E402

@@ -74,7 +74,7 @@ def _last(pattern: "re.Pattern[str]", text: str) -> Optional[int]:
 def run_line(line: str) -> Result:
     """Runs the command of a line."""
     began = time.monotonic()
-    environment = {**os.environ, "PATH": f"{ROOT / 'helpers'}:{os.environ.get('PATH', '')}"}
+    environment = {**os.environ, "PATH": f"{ROOT / 'python'}:{os.environ.get('PATH', '')}"}
     with tempfile.TemporaryDirectory() as folder:
         command = line.replace("{}", shlex.quote(folder))
         ran = subprocess.run(

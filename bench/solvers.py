@@ -19,7 +19,7 @@ from pathlib import Path
 from typing import Dict, List, NamedTuple, Sequence, Tuple
 
 ROOT = Path(__file__).resolve().parents[1]
-sys.path[:0] = [str(ROOT / "helpers"), str(ROOT / "bench")]
+sys.path[:0] = [str(ROOT / "python"), str(ROOT / "bench")]
 
 import make_weeks  # noqa: E402
 from inrc2pb.programs.program import WeekFiles, penalty_of, run_program  # noqa: E402
@@ -128,7 +128,7 @@ def run(work: Work, folder: Path, seed: int = 1) -> Run:
         old.unlink(missing_ok=True)
     began = time.monotonic()
     with open(folder / "said.txt", "w+") as said:
-        words = [sys.executable, str(ROOT / f"helpers/inrc2pb-{helper}"), *work.options(), *target, *limits]
+        words = [sys.executable, str(ROOT / f"python/inrc2pb-{helper}"), *work.options(), *target, *limits]
         running = subprocess.Popen(words, stdout=said, stderr=subprocess.STDOUT)
         _, _, used = os.wait4(running.pid, 0)
         took = time.monotonic() - began

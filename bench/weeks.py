@@ -18,7 +18,7 @@ from pathlib import Path
 from typing import List, NamedTuple
 
 ROOT = Path(__file__).resolve().parent.parent
-sys.path.append(str(ROOT / "helpers"))
+sys.path.append(str(ROOT / "python"))
 
 from inrc2pb.week.records import DAYS, Contract, History, Limits, Nurse, NurseHistory, Place, Request, Requirement, Scenario  # noqa: E402
 from inrc2pb.week.records import ShiftType, Week, WeekData  # noqa: E402

@@ -265,7 +265,7 @@ def main() -> None:
     (folder / "inrc2pb.bash").write_text(bash())
     (folder / "_inrc2pb").write_text(zsh())
     (folder / "inrc2pb.fish").write_text("\n".join(fish()) + "\n")
-    names = " ".join(sorted(path.name for path in (here.parent / "helpers").glob("inrc2pb-*")))
+    names = " ".join(sorted(path.name for path in (here.parent / "python").glob("inrc2pb-*")))
     for name, text in (("inrc2pb-helpers.bash", HELPERS_BASH), ("_inrc2pb-helpers", HELPERS_ZSH), ("inrc2pb-helpers.fish", HELPERS_FISH)):
         (folder / name).write_text(text % {"names": names})
     for program in PLAIN:

@@ -46,7 +46,7 @@ script() {
 
 # The scripts, those of tests/kit left out. The slowest come first, so that others run at the same time.
 scripts() {
-    printf '%s\n' tests/helpers/helpers.sh tests/helpers/improve.sh tests/program/longest_model.sh tests/{helpers,pages,program,random}/*.sh |
+    printf '%s\n' python/tests/helpers.sh python/tests/improve.sh tests/program/longest_model.sh {python/tests,tests/{pages,program,random}}/*.sh |
         awk '!seen[$0]++'
 }
 
@@ -57,7 +57,7 @@ all_scripts() {
     [ $# -gt 0 ] || set -- llvm
     for word; do
         for file in $(scripts); do
-            [ "$word" != rattle ] || [[ $file != tests/@(helpers|pages)/* ]] || continue
+            [ "$word" != rattle ] || [[ $file != @(python/tests|tests/pages)/* ]] || continue
             number=$((number + 1))
             while [ "$(jobs -rp | wc -l)" -ge "$lanes" ]; do wait -n; done
             script "$parts/$number" "$file" "$word" &

@@ -34,6 +34,6 @@ stand_in_for_cbc() {
     local name
     command -v cbc clp glpsol > /dev/null && return
     for name in inrc2pb-improve inrc2pb-period; do
-        printf '#!/bin/sh\nexec "%s/helpers/%s" "$@" --solver clasp\n' "$PWD" $name | stand_in $name
+        printf '#!/bin/sh\nexec "%s/python/%s" "$@" --solver clasp\n' "$PWD" $name | stand_in $name
     done
 }

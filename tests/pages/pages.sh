@@ -62,7 +62,7 @@ runs_blocks() {
     checked=$((checked + $(grep -c '^exec > ' "$room/script")))
     rm -rf "$room/work"
     cp -r "$room/copy" "$room/work"
-    (cd "$room/work" && HOME=$room/home PATH=$room/bin:$room/work/helpers:$PATH LIMIT=20 timeout 600 bash -eu "$room/script" < /dev/null) ||
+    (cd "$room/work" && HOME=$room/home PATH=$room/bin:$room/work/python:$PATH LIMIT=20 timeout 600 bash -eu "$room/script" < /dev/null) ||
         complain "a block ends with $?: $(tail -n 3 "$room/$(basename "$page")".*.out)"
     for text in "$room/$(basename "$page")".*.text; do
         [ -e "$text" ] || continue
@@ -88,7 +88,7 @@ shows_roster() {
     (cd examples/n005w4 && "$program" decode "${five[@]}" --answer answers/clasp-optimum.txt --sol "$room/roster.txt" > "$room/report")
     while read -r line; do
         grep -qF -- "$line" README.md || complain "not shown: $line"
-    done < <(helpers/inrc2pb-table "$room/roster.txt" | sed -n '3,8p')
+    done < <(python/inrc2pb-table "$room/roster.txt" | sed -n '3,8p')
     while read -r name cost; do
         case $name in
             S?) grep -q "^| $name |.* $cost |$" README.md || complain "another cost of $name than $cost" ;;

@@ -10,10 +10,10 @@
 
 version_is_in_preparation() {
     local version
-    begins_case 'the version in CHANGELOG.md and helpers/pyproject.toml'
+    begins_case 'the version in CHANGELOG.md and python/pyproject.toml'
     version=$("$program" --version)
     grep -m 1 '^## ' CHANGELOG.md | grep -qx "## ${version#inrc2pb }" || complain "it does not begin with ${version#inrc2pb }"
-    grep -qx "version = \"${version#inrc2pb }\"" helpers/pyproject.toml || complain "helpers/pyproject.toml has another one"
+    grep -qx "version = \"${version#inrc2pb }\"" python/pyproject.toml || complain "python/pyproject.toml has another one"
 }
 
 weeks_are_made() {
@@ -37,7 +37,7 @@ weeks_are_made() {
 helpers_are_launchers() {
     local file
     begins_case 'the commands of the helpers'
-    for file in helpers/inrc2pb-*; do cmp -s helpers/inrc2pb-check "$file" || complain "$file is not as helpers/inrc2pb-check"; done
+    for file in python/inrc2pb-*; do cmp -s python/inrc2pb-check "$file" || complain "$file is not as python/inrc2pb-check"; done
 }
 
 # The kit at hand is the one that README.md names or a later one, with the logic that README.md and docs/trusted.md name.
@@ -109,14 +109,14 @@ promises_are_guarded() {
 scripts_are_clean() {
     has shellcheck || return
     begins_case 'the scripts'
-    shellcheck .ci/run examples/*.sh package/*.sh tests/*/*.sh > "$room/checked" || complain "$(head -n 20 "$room/checked")"
+    shellcheck .ci/run examples/*.sh package/*.sh {tests/*,python/tests}/*.sh > "$room/checked" || complain "$(head -n 20 "$room/checked")"
 }
 
 # A file with an interpreter in its first line can be run, and no other.
 scripts_are_executable() {
     local file
     begins_case 'the files that can be run'
-    for file in .ci/run ./*.py bench/*.* completions/*.py examples/*.sh helpers/launcher.py helpers/inrc2pb-* package/*.* tests/*/*.*; do
+    for file in .ci/run ./*.py bench/*.* completions/*.py examples/*.sh python/launcher.py python/inrc2pb-* package/*.* {tests/*,python/tests}/*.*; do
         if [ "$(head -c 2 "$file")" = '#!' ]; then
             [ -x "$file" ] || complain "$file cannot be run"
         else

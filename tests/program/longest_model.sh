@@ -1,7 +1,7 @@
 #!/usr/bin/env bash
 # Runs the program on the week with the longest model that we know of (`greatest` of bench/weeks.py), and on a week of the
 # same size that has a roster. Each run has 32 MB of memory, the model has 2.1 GB. The numbers of variables and constraints
-# are computed by hand from docs/model.md, and the roster's costs by helpers/inrc2pb/judging/rules.py. The time until the first write
+# are computed by hand from docs/model.md, and the roster's costs by python/inrc2pb/judging/rules.py. The time until the first write
 # shows that the program computes the numbers, and does not walk over the model.
 #
 #   tests/program/longest_model.sh [llvm | rattle | PROGRAM]
@@ -76,7 +76,7 @@ in_little_memory extend "${staffed[@]}" --from roster 2> "$err" |
     in_little_memory decode "${staffed[@]}" --sol solution > "$out" 2>> "$err"
 [ ! -s "$err" ] || complain "$(cat "$err")"
 holds solution roster
-(cd "$room" && PYTHONPATH=$OLDPWD/helpers python3 -m inrc2pb.commands.rules_command "${staffed[@]}" roster) > "$room/costs"
+(cd "$room" && PYTHONPATH=$OLDPWD/python python3 -m inrc2pb.commands.rules_command "${staffed[@]}" roster) > "$room/costs"
 penalty=$(sed -n 's/^penalty //p' "$room/costs")
 {
     printf 'status SATISFIABLE\nobjective %s\n' "$penalty"

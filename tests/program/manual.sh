@@ -104,10 +104,10 @@ helper_words() {
 }
 
 completes_helpers() {
-    is 'options of a helper' "$(helper_words helpers/inrc2pb-next --)" '--help --new-period --out --version '
-    is 'options of a command' "$(helper_words helpers/inrc2pb-lp model --l)" '--lp '
-    is 'commands of a helper' "$(helper_words helpers/inrc2pb-lp '')" 'answer model '
-    is 'a file of a helper, which bash completes' "$(helper_words helpers/inrc2pb-next ward.txt '')" ' '
+    is 'options of a helper' "$(helper_words python/inrc2pb-next --)" '--help --new-period --out --version '
+    is 'options of a command' "$(helper_words python/inrc2pb-lp model --l)" '--lp '
+    is 'commands of a helper' "$(helper_words python/inrc2pb-lp '')" 'answer model '
+    is 'a file of a helper, which bash completes' "$(helper_words python/inrc2pb-next ward.txt '')" ' '
 }
 
 # The completions are as completions/write.py writes them, and their shells read them.

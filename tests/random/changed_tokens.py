@@ -1,5 +1,5 @@
 #!/usr/bin/env python3
-"""Finds the ends of the texts of crates/run_tests/src/changed_tokens.rt with the readers of helpers/inrc2pb.
+"""Finds the ends of the texts of crates/run_tests/src/changed_tokens.rt with the readers of python/inrc2pb.
 
 usage: changed_tokens.py [--fix]
 

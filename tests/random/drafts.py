@@ -1,7 +1,7 @@
 """Drafts of weeks, which tests make at random and change, and the library's values and rules of them.
 
 A draft has the names of its scenario, history and week as dictionaries that may change; a cell is a tuple (nurse, day,
-shift type, skill). The library is helpers/inrc2pb.
+shift type, skill). The library is python/inrc2pb.
 """
 
 import os
@@ -9,7 +9,7 @@ import sys
 from types import SimpleNamespace
 
 ROOT = os.path.abspath(f"{os.path.dirname(__file__)}/../..")
-sys.path.insert(0, f"{ROOT}/helpers")
+sys.path.insert(0, f"{ROOT}/python")
 
 from inrc2pb.judging import rules  # noqa: E402
 from inrc2pb.week import faults, files, records  # noqa: E402

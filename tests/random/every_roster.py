@@ -1,5 +1,5 @@
 #!/usr/bin/env python3
-"""Compares the models of `encode` for small weeks, and answers to them, with helpers/inrc2pb/judging/rules.py, for every roster.
+"""Compares the models of `encode` for small weeks, and answers to them, with python/inrc2pb/judging/rules.py, for every roster.
 
 usage: every_roster.py PROGRAM [--weeks N] [--seed N]
 

@@ -12,8 +12,8 @@ exchanged, lines moved. What is checked of each run then:
 - where it is not 0, standard error is one line of the stated form, standard output is empty, and no file is made;
 - the counts of a model's first line are those of its lines;
 - an answer in pieces ends as the whole answer does;
-- a roster of files that are read is judged as helpers/inrc2pb/judging/rules.py does;
-- a fault of a file is the one that the library `helpers/inrc2pb` reports, in the same file and line.
+- a roster of files that are read is judged as python/inrc2pb/judging/rules.py does;
+- a fault of a file is the one that the library `python/inrc2pb` reports, in the same file and line.
 
 A case that fails is made smaller as long as it fails in the same way, and kept in a folder of its own under
 fuzz-failures/, with the command that shows it.

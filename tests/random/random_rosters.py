@@ -1,5 +1,5 @@
 #!/usr/bin/env python3
-"""Weeks, rosters and held cells made at random: the program beside helpers/inrc2pb/judging/rules.py, which is written from docs/rules.md.
+"""Weeks, rosters and held cells made at random: the program beside python/inrc2pb/judging/rules.py, which is written from docs/rules.md.
 
 usage: random_rosters.py PROGRAM [--weeks N] [--seed N]
 

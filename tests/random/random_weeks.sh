@@ -1,5 +1,5 @@
 #!/usr/bin/env bash
-# Compares the program with helpers/inrc2pb/judging/rules.py, which was written from docs/rules.md alone: on random weeks, rosters and held
+# Compares the program with python/inrc2pb/judging/rules.py, which was written from docs/rules.md alone: on random weeks, rosters and held
 # cells, and on every roster of small weeks. Then runs the first cases of `make fuzz`.
 #
 #   tests/random/random_weeks.sh [llvm | rattle | PROGRAM]

@@ -11,7 +11,7 @@ from inrc2pb.week.records import DAYS
 from inrc2pb.sheets.sheet_files import Book
 from inrc2pb.sheets.ward_template import EXAMPLE
 
-DATA = ROOT / "tests" / "helpers" / "data"
+DATA = ROOT / "python" / "tests" / "data"
 _EMPTY = [""] * 7
 _ROWS = {
     "shifts": EXAMPLE["shifts"],

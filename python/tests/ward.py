@@ -11,7 +11,7 @@ from dataclasses import replace
 from pathlib import Path
 
 ROOT = Path(__file__).resolve().parents[2]
-HELPERS = ROOT / "helpers"
+HELPERS = ROOT / "python"
 sys.path.insert(0, str(HELPERS))
 
 from inrc2pb.programs import program  # noqa: E402

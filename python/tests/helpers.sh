@@ -1,18 +1,18 @@
 #!/usr/bin/env bash
-# Runs the tests of the helpers, tests/helpers, on the program. Checks the types of their library, and of the programs that use
+# Runs the tests of the helpers, python/tests, on the program. Checks the types of their library, and of the programs that use
 # it, by mypy. Compares the options in their manual page with their help, but for --help and --version, and the fault texts of
 # docs/answers.md with those that docs/your_ward.md explains.
 #
-#   tests/helpers/helpers.sh [llvm | rattle | PROGRAM]
+#   python/tests/helpers.sh [llvm | rattle | PROGRAM]
 #
 # Needs Python 3.8. The script says which tests it skipped.
-. "$(dirname "$0")/../kit/kit.sh"
+. "$(dirname "$0")/../../tests/kit/kit.sh"
 
 # One case for each test of Python.
 run_tests() {
     local good bad left
-    what='tests/helpers'
-    INRC2PB=$program timeout 1500 python3 -B -W error::SyntaxWarning tests/helpers/run.py > "$out" 2> "$err" ||
+    what='python/tests'
+    INRC2PB=$program timeout 1500 python3 -B -W error::SyntaxWarning python/tests/run.py > "$out" 2> "$err" ||
         complain "$(grep -A 25 -m 3 -E '^(FAIL|ERROR): ' "$err" | head -n 60)"
     grep '^skipped: ' "$out"
     read -r good bad left < <(tail -n 1 "$out" | tr -cd '0-9 \n') || complain "no test ran: $(tail -n 3 "$err")"
@@ -22,14 +22,14 @@ run_tests() {
 
 # types_hold FILE..: mypy finds no mistake, and no function without types.
 types_hold() {
-    MYPYPATH=helpers mypy --cache-dir "$room/types" --strict "$@" > "$out" 2>&1
+    MYPYPATH=python mypy --cache-dir "$room/types" --strict "$@" > "$out" 2>&1
 }
 
 checks_types() {
     has mypy || return
     begins_case 'the types of the helpers'
     {
-        types_hold helpers/inrc2pb && types_hold bench/*.py build.py
+        types_hold python/inrc2pb && types_hold bench/*.py build.py
     } || complain "$(head -n 20 "$out")"
 }
 
@@ -44,7 +44,7 @@ listed() {
 
 manual_has_each_option() {
     local helper name shown
-    for helper in helpers/inrc2pb-*; do
+    for helper in python/inrc2pb-*; do
         name=$(basename "$helper")
         begins_case "the options of $name in the manual page"
         shown=$({ "$helper" --help; for_each_command "$helper"; } | grep -E '^ +-' | options | grep -vxE -e '--(help|version)')
@@ -78,18 +78,18 @@ explains_each_fault() {
 
 imports_go_one_way() {
     begins_case 'the imports of the helpers'
-    tests/helpers/packages.py > "$out" || complain "$(head -n 20 "$out")"
+    python/tests/packages.py > "$out" || complain "$(head -n 20 "$out")"
 }
 
 lines_are_short() {
     begins_case 'lines of Python of at most 140 columns'
-    find build.py bench completions helpers -name '*.py' -exec awk 'length($0) > 140 { print FILENAME ":" FNR }' {} + > "$out"
+    find build.py bench completions python -path python/tests -prune -o -name '*.py' -exec awk 'length($0) > 140 { print FILENAME ":" FNR }' {} + > "$out"
     [ ! -s "$out" ] || complain "$(head -n 20 "$out")"
 }
 
 variables_have_names() {
     begins_case 'the names of variables in Python'
-    tests/helpers/names.py > "$out" || complain "$(head -n 20 "$out")"
+    python/tests/names.py > "$out" || complain "$(head -n 20 "$out")"
 }
 
 run_tests

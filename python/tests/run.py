@@ -1,7 +1,7 @@
 #!/usr/bin/env python3
 """Runs the tests of the helpers, which are in the folders beside this file, on the program that INRC2PB names.
 
-  tests/helpers/run.py [NAME]..
+  python/tests/run.py [NAME]..
 
 Without a name, all of them; a name is such as test_files, test_files.Writing or test_files.Writing.test_a_folder. The last line is
 `N passed, M failed, K skipped`, and the lines above it say what the skipped tests need.

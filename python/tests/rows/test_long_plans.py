@@ -25,7 +25,7 @@ from inrc2pb.judging.rules import costs, first_broken, nurse_costs
 from inrc2pb.rows.skills import staffed
 
 MONTH = ROOT / "examples" / "month"
-TESTS = ROOT / "tests" / "helpers"
+TESTS = ROOT / "python" / "tests"
 SCENARIO = files.read_scenario(MONTH / "ward.txt")
 HISTORY = files.read_history(MONTH / "history-0.txt", SCENARIO)
 WEEKS = [files.read_week(MONTH / f"week-{number}.txt", SCENARIO) for number in range(4)]

@@ -1,12 +1,12 @@
 #!/usr/bin/env bash
-# Runs helpers/inrc2pb-table on the roster of examples/n005w4: held cells, requests that were not granted, the costs of the
+# Runs python/inrc2pb-table on the roster of examples/n005w4: held cells, requests that were not granted, the costs of the
 # nurses and the report of `decode`, the spreadsheet, and colors in a terminal only.
 #
-#   tests/helpers/roster_table.sh [llvm | rattle | PROGRAM]
+#   python/tests/roster_table.sh [llvm | rattle | PROGRAM]
 #
 # Needs Python 3.8; for colors `script`, of the usual tools of Linux.
-. "$(dirname "$0")/../kit/kit.sh"
-table=$PWD/helpers/inrc2pb-table
+. "$(dirname "$0")/../../tests/kit/kit.sh"
+table=$PWD/python/inrc2pb-table
 cp examples/n005w4/*.txt "$room"
 cd "$room" || exit 2
 week=(--sce ward.txt --his history-0.txt --week week-0.txt)

@@ -1,4 +1,4 @@
-"""Tests of the next history, beside the random ones of tests/helpers/next_history.py."""
+"""Tests of the next history, beside the random ones of python/tests/next_history.py."""
 
 import unittest
 from dataclasses import replace

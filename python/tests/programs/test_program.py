@@ -116,12 +116,12 @@ class Finding(HelperTest):
 
     def test_a_clone_uses_its_own_program(self):
         clone, other = self.folder / "clone", self.folder / "other"
-        shutil.copytree(HELPERS, clone / "helpers", symlinks=True, ignore=shutil.ignore_patterns("tests", "__pycache__"))
+        shutil.copytree(HELPERS, clone / "python", symlinks=True, ignore=shutil.ignore_patterns("tests", "__pycache__"))
         for folder, version in ((clone / "out", "inrc2pb 2"), (other, "inrc2pb 1")):
             folder.mkdir()
             self.script("inrc2pb", f"echo {version}").rename(folder / "inrc2pb")
         environment = {**os.environ, "PATH": f"{other}:{os.environ['PATH']}", "INRC2PB": ""}
-        words = [str(clone / "helpers" / "inrc2pb-check"), "--version"]
+        words = [str(clone / "python" / "inrc2pb-check"), "--version"]
         self.assertEqual(subprocess.run(words, env=environment, stdout=subprocess.PIPE).stdout, b"inrc2pb 2\n")
 
     def test_a_full_disk_behind_standard_error(self):

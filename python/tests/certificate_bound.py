@@ -14,7 +14,7 @@ from dataclasses import replace
 from pathlib import Path
 from typing import Dict, List, NamedTuple, Optional, Tuple
 
-sys.path.insert(0, str(Path(__file__).resolve().parents[2] / "helpers"))
+sys.path.insert(0, str(Path(__file__).resolve().parents[2] / "python"))
 
 from inrc2pb.judging.next_history import next_history  # noqa: E402
 from inrc2pb.judging.rules import broken, charges  # noqa: E402

@@ -2,7 +2,7 @@
 """Checks the imports between the modules of the helpers: one package may import only what allowed.txt lists for it, no modules
 import one another in a circle, and no module imports a private name of another.
 
-  tests/helpers/packages.py [FOLDER [ALLOWED]]
+  python/tests/packages.py [FOLDER [ALLOWED]]
 
 A line of ALLOWED is `package: package ..`. Prints each fault; status 1 if there is one.
 """
@@ -63,7 +63,7 @@ def faults(folder: Path, allowed: Dict[str, Set[str]]) -> Iterator[str]:
 def main() -> int:
     """Reads the doors that are allowed, and prints the faults; the exit status."""
     here = Path(__file__).resolve().parent
-    folder, allowed = [*map(Path, sys.argv[1:]), *(here.parents[1] / "helpers" / "inrc2pb", here / "allowed.txt")[len(sys.argv) - 1 :]]
+    folder, allowed = [*map(Path, sys.argv[1:]), *(here.parents[1] / "python" / "inrc2pb", here / "allowed.txt")[len(sys.argv) - 1 :]]
     lines = (line.split(":") for line in allowed.read_text().splitlines())
     found = list(faults(folder, {package: set(others.split()) for package, others in lines}))
     for fault in found:

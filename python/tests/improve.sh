@@ -2,10 +2,10 @@
 # Stops `inrc2pb-improve` at twenty random moments, by Ctrl-C or TERM. Each roster that it has written is one that `extend`
 # accepts, at the penalty that was reported; and no solver runs on.
 #
-#   tests/helpers/improve.sh [llvm | rattle | PROGRAM]
+#   python/tests/improve.sh [llvm | rattle | PROGRAM]
 #
 # SEED gives the moments.
-. "$(dirname "$0")/../kit/kit.sh"
+. "$(dirname "$0")/../../tests/kit/kit.sh"
 
 export INRC2PB=$program
 RANDOM=${SEED:-1}
@@ -23,7 +23,7 @@ stopped() {
     rm -f "$roster"
     # In the background bash lets a child ignore Ctrl-C: Python is asked to heed it.
     TMPDIR=$room python3 -c 'import os, signal, sys; signal.signal(signal.SIGINT, signal.SIG_DFL); os.execv(sys.argv[1], sys.argv[1:])' \
-        helpers/inrc2pb-improve "${week[@]}" --sol "$roster" --time 12 > "$out" 2> "$err" &
+        python/inrc2pb-improve "${week[@]}" --sol "$roster" --time 12 > "$out" 2> "$err" &
     search=$!
     sleep "$(($2 / 10)).$(($2 % 10))"
     kill -"$1" $search 2> /dev/null
