@@ -136,9 +136,9 @@ impl<W: Write> Target for ToWrite<W> {
         ensures passed_on { Keeps (W.contents (inner_writer self.old)) (W.contents (inner_writer self.new)) }
         ensures unasked { is_failed_writer self.old ≡ true → self.new ≡ self.old }
     {
-        if self.failed {
-            return Err(PortFault);
+        if !self.failed {
+            return hand_on(&mut self.failed, self.writer.flush());
         }
-        hand_on(&mut self.failed, self.writer.flush())
+        Err(PortFault)
     }
 }
