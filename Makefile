@@ -11,8 +11,8 @@ SHARE = $(DESTDIR)$(PREFIX)/share
 
 .PHONY: all build try example tour solvers test programs bench fuzz dist deb install uninstall clean
 
-# The programs that `install` installs, each with its crate.
-CRATES = inrc2pb=inrc2pb inrc2pb-bound=inrc2pb_bound inrc2pb-fits=who_fits
+# The programs that `make` builds, each with its crate.
+CRATES = inrc2pb=inrc2pb inrc2pb-bound=inrc2pb_bound
 
 all: build
 
@@ -48,6 +48,7 @@ programs: all
 	cd crates/inrc2pb_bound && rt run --backend rattle -- --version && mv out/inrc2pb_bound out/inrc2pb_bound.by-rattle
 	cp out/inrc2pb-bound crates/inrc2pb_bound/out/inrc2pb_bound
 	cd crates/call_report && rt run -- data/scenario.txt data/history.txt data/week.txt > /dev/null
+	./build.py inrc2pb-fits=who_fits
 	cd crates/run_tests && rt test
 	cd crates/call_tests && rt test
 

@@ -1,9 +1,10 @@
 #!/usr/bin/env python3
 """Proves the crates below some programs, each as soon as those that it uses are proved, and leaves the programs in the folder `out`.
 
-usage: build.py PROGRAM=CRATE ..
+usage: build.py [PROGRAM=CRATE | CRATE] ..
 
   PROGRAM=CRATE  the program of this crate becomes out/PROGRAM
+  CRATE          this library is proved, and kept below crates/CRATE/out
 
 The order comes from crates.txt. Of the crates that can be proved, the one with the longest chain of crates above it comes first; a crate
 counts by the bytes of its code. Each has a job for half of the processors, and one that is alone for all: the functions of a crate wait
@@ -24,8 +25,9 @@ import signal
 import subprocess
 import sys
 import time
+from concurrent.futures import ThreadPoolExecutor
 from pathlib import Path
-from typing import Dict, Iterator, List, NamedTuple, Set
+from typing import Dict, Iterable, Iterator, List, NamedTuple, Set
 
 ROOT = Path(__file__).resolve().parent
 OUT = ROOT / "out"
@@ -33,6 +35,10 @@ ROOMS = OUT / "rooms"
 PAUSE = 0.1
 # The niceness of the lowest priority.
 LEAST_PRIORITY = 19
+NO_KIT = (
+    "there is no command rt: the kit of Rattle has it, which README.md names under 'Get it'. Once it is unpacked, "
+    "add its folder bin to PATH."
+)
 
 
 class Failed(Exception):
@@ -74,8 +80,8 @@ class Crate(NamedTuple):
 # ---- the crates
 
 
-def crates_below(programs: List[str]) -> Dict[str, Crate]:
-    """The crates of these programs and those that they use, each after those that it uses."""
+def crates_below(names: Iterable[str]) -> Dict[str, Crate]:
+    """The crates of these names and those that they use, each after those that it uses."""
     lines = {}
     for line in (ROOT / "crates.txt").read_text().splitlines():
         head, _, used = line.partition("#")[0].partition(":")
@@ -85,10 +91,10 @@ def crates_below(programs: List[str]) -> Dict[str, Crate]:
     crates: Dict[str, Crate] = {}
     for name in graphlib.TopologicalSorter(graph).static_order():
         crates[name] = Crate(name, lines[name][0], set(graph[name]).union(*(crates[one].below for one in graph[name])))
-    for name in programs:
-        if name not in crates or not crates[name].is_program:
-            raise Failed(f"crates.txt has no program {name}")
-    wanted = set(programs).union(*(crates[name].below for name in programs))
+    for name in names:
+        if name not in crates:
+            raise Failed(f"crates.txt has no crate {name}")
+    wanted = set(names).union(*(crates[name].below for name in names))
     return {name: crate for name, crate in crates.items() if name in wanted}
 
 
@@ -103,7 +109,10 @@ def chains(crates: Dict[str, Crate]) -> Dict[str, int]:
 
 def sums_of_sources(crates: Dict[str, Crate]) -> Dict[str, str]:
     """For each crate a checksum of all that its proofs depend on."""
-    kit = subprocess.run(["rt", "version"], stdout=subprocess.PIPE, check=True).stdout
+    try:
+        kit = subprocess.run(["rt", "version"], stdout=subprocess.PIPE, check=True).stdout
+    except FileNotFoundError:
+        raise Failed(NO_KIT) from None
     sums: Dict[str, str] = {}
     for name, crate in crates.items():
         whole = hashlib.sha256(kit + (ROOT / "HANDLES").read_bytes() + crate.line.encode())
@@ -140,33 +149,38 @@ def link(source: Path, target: Path, *without: str) -> None:
         shutil.copytree(source, target, copy_function=os.link, ignore=shutil.ignore_patterns(*without), dirs_exist_ok=True)
 
 
-def make_room(crate: Crate, crates: Dict[str, Crate]) -> Path:
-    """A folder in which the crate is proved: a repository of it and of those below it. Returns the crate's folder there."""
-    room = ROOMS / crate.name
+def furnish(room: Path, crate: Crate, crates: Dict[str, Crate]) -> Path:
+    """Makes this folder a repository of the crate and of those below it, with their libraries. Returns the crate's folder there."""
     folder = room / "crates" / crate.name
     for name in sorted(crate.below):
         link(crates[name].home, room / "crates" / name, "out", "must-fail")
         link(crates[name].home / "out" / "rlib", room / "crates" / name / "out" / "rlib")
     link(crate.home, folder, "out", "must-fail")
-    # A program runs once, on the data of its test.
-    link(crate.home / "data", folder)
     (room / "crates.txt").write_text("".join(f"{one.line}\n" for one in crates.values() if one == crate or one.name in crate.below))
     shutil.copy(ROOT / "HANDLES", room)
+    return folder
+
+
+def make_room(crate: Crate, crates: Dict[str, Crate]) -> Path:
+    """A folder in which the crate is proved, with what was kept of its proofs. Returns the crate's folder there."""
+    folder = furnish(ROOMS / crate.name, crate, crates)
+    # A program runs once, on the data of its test.
+    link(crate.home / "data", folder)
     if (crate.home / "out").exists():
         (crate.home / "out").rename(folder / "out")
     return folder
 
 
-def leave_room(name: str) -> None:
-    """Moves the crate's proofs home, and removes the room."""
+def leave_room(name: str) -> Path:
+    """Moves the crate's proofs home. Returns the room, to be removed: it has thousands of links, which takes seconds."""
     made, home = ROOMS / name / "crates" / name / "out", ROOT / "crates" / name / "out"
     if made.exists() and not home.exists():
         made.rename(home)
-    shutil.rmtree(ROOMS / name)
+    return ROOMS / name
 
 
 def leave_rooms() -> None:
-    """Leaves all rooms, also those of a build that was killed."""
+    """Leaves and removes all rooms, also those of a build that was killed."""
     for room in ROOMS.iterdir() if ROOMS.exists() else ():
         leave_room(room.name)
     shutil.rmtree(ROOMS, ignore_errors=True)
@@ -198,6 +212,8 @@ class Build:
         self.order = sorted(crates, key=lambda name: -lengths[name])
         self.proved = 0
         self.tasks: List[Task] = []
+        # Rooms are removed while the next crates are proved.
+        self.remover = ThreadPoolExecutor(1)
 
     def run(self) -> None:
         """Proves all crates."""
@@ -250,7 +266,7 @@ class Build:
         if task.process.returncode != 0:
             sys.stderr.write(task.log.read_text(errors="replace"))
             raise Failed(f"{crate.name} is not proved: what rt said is above (its status is {task.process.returncode})")
-        leave_room(crate.name)
+        self.remover.submit(shutil.rmtree, leave_room(crate.name), True)
         if not crate.made.exists():
             raise Failed(f"rt made no {'program' if crate.is_program else 'library'} of {crate.name}")
         (crate.home / "out" / "proved").write_text(mark(crate, self.sums[crate.name]))
@@ -264,11 +280,12 @@ class Build:
         print(f"{minutes:3}:{seconds:02}  {self.proved:2} of {len(self.crates)} crates: {what}{doing}", flush=True)
 
     def stop(self) -> None:
-        """Ends what runs; `rt` ends its own commands."""
+        """Ends what runs; `rt` ends its own commands. Waits until the rooms that were left are removed."""
         for task in self.tasks:
             task.process.terminate()
         for task in self.tasks:
             task.process.wait()
+        self.remover.shutdown()
 
 
 def install(programs: Dict[str, str], crates: Dict[str, Crate]) -> None:
@@ -279,9 +296,12 @@ def install(programs: Dict[str, str], crates: Dict[str, Crate]) -> None:
         new.replace(OUT / program)
 
 
-def build(programs: Dict[str, str]) -> None:
-    """Builds the programs; each is given with the name of its crate."""
-    crates = crates_below(list(programs.values()))
+def build(programs: Dict[str, str], libraries: List[str]) -> None:
+    """Builds the programs, each given with the name of its crate, and the libraries."""
+    crates = crates_below([*programs.values(), *libraries])
+    for name in programs.values():
+        if not crates[name].is_program:
+            raise Failed(f"the crate {name} is no program")
     OUT.mkdir(exist_ok=True)
     lock = os.open(OUT, os.O_RDONLY)
     try:
@@ -303,20 +323,22 @@ def build(programs: Dict[str, str]) -> None:
 def main(words: List[str]) -> int:
     """Reads the command line; the exit status."""
     programs = dict(word.split("=", 1) for word in words if "=" in word)
-    if not words or len(programs) < len(words):
+    libraries = [word for word in words if "=" not in word]
+    if not words or any(word.startswith("-") for word in words):
         print(__doc__, file=sys.stderr)
         return 2
     for one in (signal.SIGTERM, signal.SIGHUP):
         signal.signal(one, signal.default_int_handler)
     try:
-        build(programs)
+        build(programs, libraries)
     except KeyboardInterrupt:
         print("build.py: stopped; what was proved is kept", file=sys.stderr)
         return 130
     except Failed as fault:
         print(f"build.py: {fault}", file=sys.stderr)
         return 1
-    print(f"built: {' '.join(f'out/{program}' for program in programs)}")
+    if programs:
+        print(f"built: {' '.join(f'out/{program}' for program in programs)}")
     return 0
 
 

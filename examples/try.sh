@@ -6,39 +6,40 @@
 # Needs Rattle's command `rt`. Takes about a minute, and keeps no program.
 set -u
 cd "$(dirname "$0")/../crates/inrc2pb" || exit 2
+command -v rt > /dev/null || {
+    echo "There is no command rt: the kit of Rattle has it, which README.md names under 'Get it'. Once it is unpacked, add its folder bin to PATH."
+    exit 2
+}
 
 week=../../examples/n005w4
 files=(
     --data "ward.txt=$week/ward.txt" --data "history-0.txt=$week/history-0.txt"
     --data "week-0.txt=$week/week-0.txt" --data "clasp.txt=$week/answers/clasp-optimum.txt"
 )
-words="--sce ward.txt --his history-0.txt --week week-0.txt"
+files_of_week=(--sce ward.txt --his history-0.txt --week week-0.txt)
 room=$(mktemp -d) || exit 2
 trap 'rm -rf "$room"' EXIT
+mkdir "$room/cases"
 
-# start NAME WORDS..: runs the program on these words, in the background.
-start() {
-    local name=$1
-    shift
-    echo "$*" > "$room/$name.words"
-    rt try "${files[@]}" -- "$@" > "$room/$name.all" 2>&1 &
+# runs NAME WORD..: `rt try` runs the program on these words; the file of the case's name is its standard input.
+runs() {
+    : > "$room/cases/$1"
+    printf '%s\n' "${@:2}" > "$room/cases/$1.args"
 }
 
-# show NAME LINES: the first lines of its output. `rt try` prints the last two.
+# show NAME LINES: the words of this run, and the first lines that the program printed.
 show() {
-    tail -n 1 "$room/$1.all" | grep -q 'run=ended status=0' || { cat "$room/$1.all"; exit 1; }
-    printf '\n$ inrc2pb %s\n' "$(cat "$room/$1.words")"
-    head -n -2 "$room/$1.all" > "$room/$1.out"
-    head -n "$2" "$room/$1.out" | cut -c 1-100
-    printf '(%s lines in all)\n' "$(wc -l < "$room/$1.out")"
+    awk -v name="$1" '$0 == "== " name { inside = 1; next } /^case=/ { inside = 0 } inside' "$room/all" > "$room/out"
+    printf '\n$ inrc2pb %s\n' "$(paste -s -d ' ' "$room/cases/$1.args")"
+    head -n "$2" "$room/out" | cut -c 1-100
+    printf '(%s lines in all)\n' "$(wc -l < "$room/out")"
 }
 
 echo 'Compiling, without a proof: about a minute ..'
-# shellcheck disable=SC2086
-start encode encode $words
-# shellcheck disable=SC2086
-start decode decode $words --answer clasp.txt --sol roster.txt
-wait
+runs encode encode "${files_of_week[@]}"
+runs decode decode "${files_of_week[@]}" --answer clasp.txt --sol roster.txt
+rt try "${files[@]}" --cases "$room/cases" > "$room/all" 2>&1
+[ "$(grep -c '^case=.* run=ended status=0 ' "$room/all")" = 2 ] || { cat "$room/all"; exit 1; }
 show encode 4
 show decode 12
 printf '\nNothing was proved: this was the program as it compiles. "make" proves it and leaves it at out/inrc2pb.\n'

@@ -110,6 +110,11 @@ later_builds() {
     echo other > "$ward/crates/other/out/other"
     builds 'another program in the folder of its crate' 0
     proves other
+    begins_case 'a library'
+    echo changed >> "$ward/crates/upper/src/lib.rt"
+    CALLS=$room PATH=$room/bin:$PATH "$ward/build.py" upper > "$room/out" 2> "$room/err" || complain "$(cat "$room/err")"
+    builds 'the programs above it' 0
+    proves top
     rm -r "$ward/crates/side/out"
     builds 'a crate without its proofs' 0
     proves side
@@ -133,7 +138,14 @@ failed_builds() {
     ! grep -q 'begins base' "$room/calls" || complain 'what was proved is not kept'
     begins_case 'a program that does not exist'
     "$ward/build.py" program=upper > "$room/out" 2> "$room/err" && complain 'status 0'
-    tells 'build.py: crates.txt has no program upper' err
+    tells 'build.py: the crate upper is no program' err
+    begins_case 'a crate that does not exist'
+    "$ward/build.py" lower > "$room/out" 2> "$room/err" && complain 'status 0'
+    tells 'build.py: crates.txt has no crate lower' err
+    begins_case 'no kit'
+    PATH=$room/none "$(python3 -c 'import sys; print(sys.executable)')" "$ward/build.py" program=top > "$room/out" 2> "$room/err" &&
+        complain 'status 0'
+    tells "build.py: there is no command rt: the kit of Rattle has it" err
     begins_case 'no programs'
     "$ward/build.py" > "$room/out" 2> "$room/err"
     [ $? = 2 ] || complain 'another status'

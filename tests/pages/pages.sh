@@ -23,7 +23,7 @@ cp "$program" "$room/bin/inrc2pb"
 cp crates/who_fits/out/who_fits "$room/bin/inrc2pb-fits"
 cp "$bound" "$room/bin/inrc2pb-bound"
 
-# `rt run` has nothing to do in the copy; `rt try` runs the program in a folder with the files that it is given.
+# `rt run` has nothing to do in the copy; `rt try` runs each case of a folder, in a folder with the files that it is given.
 stand_in rt << 'END'
 #!/usr/bin/env bash
 [ "$1" = try ] || exit 0
@@ -33,9 +33,13 @@ while [ "$1" = --data ]; do
     cp "${2#*=}" "$folder/${2%%=*}"
     shift 2
 done
-shift
-cd "$folder" && inrc2pb "$@"
-printf 'checked: ended status=%s\nrun=ended status=%s runners=1 proved=no\n' $? 0
+for words in "$2"/*.args; do
+    name=$(basename "$words" .args)
+    echo "== $name"
+    mapfile -t words < "$words"
+    (cd "$folder" && inrc2pb "${words[@]}")
+    echo "case=$name run=ended status=$? runners=1 proved=no"
+done
 END
 for name in man apt-get; do
     printf '#!/bin/sh\n' | stand_in $name
