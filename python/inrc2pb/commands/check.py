@@ -22,7 +22,7 @@ from ..judging.rules import first_broken
 from ..week.targets import check_no_pipes
 from ..shown.ward_sentences import history_sentences, limit_sentences, scenario_sentences, supply_text, ward_sentence
 from ..shown.week_sentences import DescribedWeek, held_sentences, weeks_sentences
-from ..search.why_none import why_none
+from ..search.why_none import shortage_lines, why_none
 
 Contents = TypeVar("Contents")
 
@@ -219,7 +219,7 @@ def main() -> Optional[int]:
     if not check.mistakes and week and given.constraint is not None:
         _explain(given.constraint, week, held, given)
     elif not check.mistakes and week and given.why_none:
-        print("\n".join(why_none(week_files(given), week)), flush=True)
+        print("\n".join(shortage_lines(why_none(week_files(given), week))), flush=True)
         return 0
     elif not check.mistakes and week:
         check.model(week, held)

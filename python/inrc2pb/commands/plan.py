@@ -5,12 +5,14 @@ import re
 import shlex
 import sys
 from pathlib import Path
-from typing import Callable, Dict, List, Optional, Sequence
+from typing import List, Optional, Sequence
 
 from ..plans.local_jobs import Jobs
 from ..plans.local_server import LOCAL, LocalServer
 from ..plans.plan_days import PlanDays
+from ..plans.outcome import Event, Outcome
 from ..plans.plan_store import Means
+from ..plans.render import lines
 from ..plans.state import DayWord
 from ..plans.verbs import Verbs
 from ..plans.ward_folder import WardFolder
@@ -141,21 +143,6 @@ def _say(text: str) -> None:
     print(text, file=sys.stderr, flush=True)
 
 
-def _done(verbs: Verbs, given: argparse.Namespace) -> List[str]:
-    """Does what the verb says; the lines to print."""
-    done: Dict[str, Callable[[], List[str]]] = {
-        "check": verbs.check,
-        "plan": lambda: verbs.plan(given.words, given.time, given.free),
-        "back": lambda: verbs.back(given.words, given.time),
-        "swap": lambda: verbs.swap(given.words, given.do),
-        "over": lambda: verbs.over(given.words),
-        "page": verbs.page,
-        "undo": verbs.undo,
-        **{word: lambda: verbs.away(given.verb, given.words, given.time) for word in AWAY},
-    }
-    return done[given.verb]()
-
-
 def _serve(folder: WardFolder, given: argparse.Namespace) -> None:
     """Serves the local page until Ctrl-C."""
     with interrupts() as signals:
@@ -181,10 +168,9 @@ def main() -> Optional[int]:
     given = _options().parse_args(_options_first(sys.argv[1:]))
     _check(given)
     folder = WardFolder(given.folder)
+    event = Event(given.verb, tuple(given.words), given.time, given.free, given.do)
     if given.verb == "check":
-        reading = _verbs(folder)
-        print("\n".join(reading.check()))
-        return reading.status
+        return _told(_verbs(folder).done(event))
     folder.spreadsheet()
     find_program()
     if given.verb == "serve":
@@ -196,10 +182,15 @@ def main() -> Optional[int]:
         with folder.locked(_say, "; Ctrl-C ends it"):
             # The time of a search begins here.
             verbs, last = _verbs(folder), folder.last()
-            lines = _done(verbs, given)
+            outcome = verbs.done(event)
     except KeyboardInterrupt:
         if verbs is None or folder.last() == last:
             _say("nothing was written")
         raise
-    print("\n".join(lines))
-    return verbs.status
+    return _told(outcome)
+
+
+def _told(outcome: Outcome) -> int:
+    """Prints the lines of an outcome; the exit status."""
+    print("\n".join(lines(outcome, "type it again with --do")))
+    return outcome.status.value

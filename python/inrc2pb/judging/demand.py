@@ -1,8 +1,9 @@
 """What can be counted before planning: nurses who are needed at once, and shifts that a week asks for and contracts supply."""
 
+import enum
 import math
 from fractions import Fraction
-from typing import Collection, Dict, Iterator, List, Mapping, NamedTuple, Optional, Sequence, Tuple
+from typing import Collection, Dict, Iterable, Iterator, List, Mapping, NamedTuple, Optional, Sequence, Tuple
 
 from .absences import absences_of, joined
 from .leave import share_of_day
@@ -13,6 +14,25 @@ from ..week.records import DAYS, Absence, Cell, History, Place, Scenario, WeekDa
 
 # What warnings say of weeks whose rosters break an absence, or exceed a limit that holds.
 UNKEPT, ABOVE_LIMITS = "no roster that keeps every absence can meet it", "too many to keep the limits that hold"
+
+
+class Reach(enum.Enum):
+    """What plans can reach: all that is asked for, not each absence and limit, or not even the minimum numbers."""
+
+    ALL = enum.auto()
+    NOT_ALL = enum.auto()
+    NONE = enum.auto()
+
+
+def reach_of(warnings: Iterable[str]) -> Reach:
+    """What plans can reach by the warnings of this module, and of the odd values of a week."""
+    found = Reach.ALL
+    for line in warnings:
+        if IMPOSSIBLE in line:
+            return Reach.NONE
+        if UNKEPT in line or ABOVE_LIMITS in line:
+            found = Reach.NOT_ALL
+    return found
 # For each week, from the week of a history on, the number of each nurse's days away that count as work. The history has their shifts.
 Paid = Sequence[Mapping[str, int]]
 

@@ -41,12 +41,22 @@ class ShiftChange(NamedTuple):
     before: Optional[Cell]
     now: Optional[Cell]
 
+    @property
+    def place(self) -> NurseDay:
+        """The nurse's day."""
+        return NurseDay(self.nurse, self.day)
+
 
 def shift_changes(old: Iterable[Cell], new: Iterable[Cell]) -> List[ShiftChange]:
     """The nurses' days with another shift type or skill, in the order of days."""
     before, now = ({(cell.day, cell.nurse): cell for cell in cells} for cells in (old, new))
     found = [ShiftChange(nurse, day, before.get((day, nurse)), now.get((day, nurse))) for day, nurse in sorted({*before, *now})]
     return [one for one in found if one.before != one.now]
+
+
+def called(changes: Iterable[ShiftChange], away: Mapping[NurseDay, str]) -> List[str]:
+    """The nurses to call: those with a change on a day on which they are not away."""
+    return list(dict.fromkeys(one.nurse for one in changes if one.place not in away))
 
 
 def is_other_shift(before: Optional[Cell], now: Optional[Cell]) -> bool:
@@ -182,7 +192,7 @@ class _Judge:
     def _not_kept(self, nurse: str, cells: Mapping[int, Cell]) -> int:
         """How much they do not keep of absences, of limits that hold, and beside days away."""
         working = sum(is_broken_by(self._plan.absences, cell) for cell in cells.values())
-        return working + self._alone.above(nurse, cells)[0] + self._alone.beside(nurse, cells)[0]
+        return working + self._alone.excess(nurse, cells) + self._alone.excess_beside(nurse, cells)
 
     def _points(self, nurse: str, cells: Mapping[int, Cell]) -> int:
         """What the nurse is charged, with the points of her changes, as a search counts them; a nurse without shifts in the old plan may
@@ -243,9 +253,9 @@ def _taken_back(works: Works, group: Sequence[ShiftChange]) -> Dict[NurseDay, Ce
     """The assignments without these changes."""
     found = dict(works)
     for one in group:
-        found.pop(NurseDay(one.nurse, one.day), None)
+        found.pop(one.place, None)
         if one.before:
-            found[NurseDay(one.nurse, one.day)] = one.before
+            found[one.place] = one.before
     return found
 
 

@@ -1,18 +1,18 @@
 """The forms of a local page, and the verbs that their fields are."""
 
-from typing import Callable, Dict, List, Mapping, NamedTuple, Optional, Sequence, Tuple
+from typing import List, Mapping, NamedTuple, Optional, Sequence, Tuple
 
 from ..judging.absences import readable
 from ..shown.markup import Markup, element, joined
 from ..sheets.plan_sheets import AWAY
 from ..week.faults import Misuse
 from ..week.hints import quoted
+from .local_jobs import Fields
+from .outcome import Event
 from .plan_days import WEEK_DAYS
-from .search_verbs import CHANGE_SECONDS, WEEK_SECONDS
-from .verbs import Verbs
+from .verbs import CHANGE_SECONDS, WEEK_SECONDS
 from .ward import WardPlan
 
-Fields = Mapping[str, str]
 _MOST_SECONDS = 3600.0
 _NEW_PLAN = "a new plan, and its pages"
 _AWAY_TEXT = "on one day, or to the last day; who leaves the ward is away to the end of the plan; plans from the first day on"
@@ -67,23 +67,17 @@ def not_written(fields: Fields) -> List[str]:
     return [_BY_VERB[fields["verb"]].refused.format(nurse=nurse, other=other)] if writes(fields) else []
 
 
-def verb_of(fields: Fields, seconds: Optional[float] = None) -> Callable[[Verbs], List[str]]:
-    """The verb that a form asks for; a search has so many seconds, if the form does not say how many."""
+def event_of(fields: Fields, seconds: Optional[float] = None) -> Event:
+    """What a form asks for; a search has so many seconds, if the form does not say how many. Raises Misuse if no form of the page is so."""
     verb = fields.get("verb", "")
     if verb not in _BY_VERB:
         raise Misuse(f"'{verb}' is no button of this page: it has {quoted(form.button for form in FORMS)}")
     words = [fields[name] for name in ("nurse", "first", "other", "other day", "last", "from") if fields.get(name)]
-    found: Dict[str, Callable[[Verbs], List[str]]] = {
-        "check": lambda verbs: verbs.check(),
-        "plan": lambda verbs: verbs.plan(words, _seconds(fields) or seconds, "free" in fields),
-        "away": lambda verbs: verbs.away(_reason(fields), words, _seconds(fields) or seconds),
-        "back": lambda verbs: verbs.back(words, _seconds(fields) or seconds),
-        "swap": lambda verbs: verbs.swap(words, "write it" in fields),
-        "over": lambda verbs: verbs.over(fields.get("corrections", "").split()),
-        "page": lambda verbs: verbs.page(),
-        "undo": lambda verbs: verbs.undo(),
-    }
-    return found[verb]
+    if verb == "over":
+        words = fields.get("corrections", "").split()
+    if verb == "away":
+        verb = _reason(fields)
+    return Event(verb, tuple(words), _seconds(fields) or seconds, "free" in fields, "write it" in fields)
 
 
 def _seconds(fields: Fields) -> Optional[float]:

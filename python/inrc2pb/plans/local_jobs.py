@@ -1,31 +1,67 @@
-"""The verbs of a local page: one runs at a time, in a thread of its own, and what it says is kept."""
+"""The events of a local page: one is done at a time, in a thread of its own, and what comes of it is kept."""
 
 import io
 import threading
-from typing import Callable, List, NamedTuple, Optional
+from typing import List, Mapping, NamedTuple, Optional, Union
 
 from ..programs.interrupts import Interrupts
 from ..programs.progress import Progress
 from ..week.faults import FileFault, FileFaults, Misuse, ProgramFault, fault_line
+from . import render
+from .outcome import Event, Outcome, Status, Undoing, Undone, WeekOver
+from .plan_days import PeriodOver
 from .plan_store import Means, Reader
 from .verbs import Verbs
 from .ward_folder import WardFolder
 
-# The answers to a form that was shown for an older plan, and to one that was sent while a verb ran.
-CHANGED = "this form was shown for an older plan, so nothing was written by it: look at the plan below, and press the button again"
-RUNS = "another verb was running, so this button did nothing: wait for its end, or stop it, and press the button again"
+Fields = Mapping[str, str]
+# How a user of the page writes a swap that was only looked at.
+_WRITE = "the button below writes it"
+
+
+class Changed(Misuse):
+    """A form that was shown for an older plan."""
+
+    def __init__(self) -> None:
+        now = "look at the plan below, and press the button again"
+        super().__init__(f"this form was shown for an older plan, so nothing was written by it: {now}")
+
+
+class Busy(Misuse):
+    """A form that was sent while a verb ran."""
+
+    def __init__(self) -> None:
+        now = "wait for its end, or stop it, and press the button again"
+        super().__init__(f"another verb was running, so this button did nothing: {now}")
 
 
 class Said(NamedTuple):
-    """What a verb has said: its lines, whether they are a fault, and whether it still runs."""
+    """What there is to say of the last event: its lines, its form, its outcome or fault if it has ended, and whether it still runs."""
 
     lines: List[str]
-    is_fault: bool = False
+    fields: Fields = {}
+    outcome: Union[Outcome, Undoing, None] = None
+    fault: Optional[Exception] = None
     runs: bool = False
+
+    @property
+    def is_refused(self) -> bool:
+        """Whether nothing came of it: it had a fault, or cannot be."""
+        return self.fault is not None
+
+    @property
+    def ends_period(self) -> bool:
+        """Whether it says that a period is over."""
+        return isinstance(self.fault, PeriodOver) or (isinstance(self.outcome, WeekOver) and self.outcome.next is None)
+
+    @property
+    def is_undo(self) -> bool:
+        """Whether a plan was undone."""
+        return isinstance(self.outcome, Undone)
 
 
 class Jobs:
-    """The verbs of a folder. `stop` ends the one that runs, which keeps its best plan."""
+    """The events of a folder. `stop` ends the one that runs, which keeps its best plan."""
 
     def __init__(self, folder: WardFolder, read: Reader, signals: Interrupts, seconds: Optional[float] = None) -> None:
         # The seconds of a search, if they are not the usual ones.
@@ -35,38 +71,34 @@ class Jobs:
         self._spoken = io.StringIO()
         self._said = Said([])
 
-    def verbs(self, spoken: Optional[io.StringIO] = None, only_reads: bool = False) -> Verbs:
+    def verbs(self, spoken: Optional[io.StringIO] = None) -> Verbs:
         """The verbs of the folder, which say to this text how far they are."""
         text = spoken or io.StringIO()
-        means = Means(self._read, Progress(text), lambda line: print(line, file=text), "", "the button below writes it")
-        return Verbs(self.folder, means, only_reads)
+        return Verbs(self.folder, Means(self._read, Progress(text), lambda line: print(line, file=text), ""))
 
-    def tried(self, verb: Callable[[Verbs], List[str]]) -> Said:
-        """What a verb says before it writes; it is a fault if the verb would write nothing."""
-        verbs = self.verbs(only_reads=True)
+    def asked(self, event: Event) -> Said:
+        """What an event comes to before it is done, as a question says it; it is a fault if nothing would be written."""
         try:
-            lines = verb(verbs)
+            outcome = self.verbs().asked(event)
         except Exception as fault:
-            return Said(fault_lines(fault), True)
-        return Said(lines, bool(verbs.status))
+            return Said(fault_lines(fault), fault=fault)
+        lines = render.question_lines(outcome)
+        cannot_be = outcome is not None and not isinstance(outcome, Undoing) and outcome.status is not Status.DONE
+        return Said(lines, outcome=outcome, fault=Misuse("this cannot be") if cannot_be else None)
 
     def forget(self) -> None:
-        """What the last verb has said is said no more."""
-        self._said = Said([])
+        """What the last event has said is said no more."""
+        self._said = self._said._replace(lines=[], outcome=None, fault=None)
 
     def check_stamp(self, stamp: str) -> None:
-        """That the plan that holds has another stamp is a Misuse."""
+        """Raises Changed if the plan that holds has another stamp."""
         if self.folder.stamp != stamp:
-            raise Misuse(CHANGED)
+            raise Changed
 
-    def stamped(self, verb: Callable[[Verbs], List[str]], stamp: str) -> Callable[[Verbs], List[str]]:
-        """The verb, which checks the stamp again when no other run writes."""
-
-        def checked(verbs: Verbs) -> List[str]:
-            self.check_stamp(stamp)
-            return verb(verbs)
-
-        return checked
+    def check_free(self) -> None:
+        """Raises Busy if a verb runs."""
+        if self.runs:
+            raise Busy
 
     @property
     def runs(self) -> bool:
@@ -74,38 +106,38 @@ class Jobs:
         return self._thread is not None and self._thread.is_alive()
 
     def said(self) -> Said:
-        """What the last verb has said until now."""
-        return Said(self._spoken.getvalue().splitlines(), runs=True) if self.runs else self._said
+        """What the last event has said until now."""
+        return Said(self._spoken.getvalue().splitlines(), self._said.fields, runs=True) if self.runs else self._said
 
-    def check_free(self) -> None:
-        """That a verb runs is a Misuse."""
-        if self.runs:
-            raise Misuse(RUNS)
-
-    def begin(self, verb: Callable[[Verbs], List[str]]) -> None:
-        """Begins a verb. That another one runs is a Misuse."""
+    def begin(self, event: Event, fields: Fields, stamp: Optional[str]) -> None:
+        """Begins to do what a form asks for, if the plan that holds has this stamp, or with any plan. Raises Busy if another one runs."""
         with self._lock:
             self.check_free()
             self._spoken = io.StringIO()
-            self._thread = threading.Thread(target=self._run, args=(verb, self._spoken))
+            self._said = Said(["this failed: the terminal of inrc2pb-plan says why"], fields, fault=Misuse("this failed"))
+            self._thread = threading.Thread(target=self._run, args=(event, stamp, self._spoken))
             self._thread.start()
 
-    def _run(self, verb: Callable[[Verbs], List[str]], spoken: io.StringIO) -> None:
-        self._said = Said(["this failed: the terminal of inrc2pb-plan says why"], True)
+    def _run(self, event: Event, stamp: Optional[str], spoken: io.StringIO) -> None:
+        fields = self._said.fields
         try:
             with self.folder.locked(lambda line: print(line, file=spoken)):
-                self._said = Said(verb(self.verbs(spoken)))
+                # No other run writes now.
+                if stamp is not None:
+                    self.check_stamp(stamp)
+                outcome = self.verbs(spoken).done(event)
+                self._said = Said(render.lines(outcome, _WRITE), fields, outcome)
         except KeyboardInterrupt:
-            self._said = Said(["stopped while it waited: nothing was written"])
+            self._said = Said(["stopped while it waited: nothing was written"], fields)
         except Exception as fault:
-            self._said = Said(fault_lines(fault), True)
+            self._said = Said(fault_lines(fault), fields, fault=fault)
 
     def stop(self) -> None:
         """Ends the search that runs, if one does."""
         self._signals.ask()
 
     def wait(self) -> None:
-        """Waits for the end of the verb that runs."""
+        """Waits for the end of the event that is done."""
         if self._thread:
             self._thread.join()
 

@@ -11,14 +11,15 @@ from ..shown.markup import Markup, element, joined
 from ..shown.page import page_style
 from ..shown.page_tables import Content, RosterTable
 from ..week.dates import day_names
-from .local_forms import FORMS, STAMP, Fields, form_markup, sure_markup, swap_markup
-from .local_jobs import Said
+from .local_forms import FORMS, STAMP, form_markup, sure_markup, swap_markup
+from .local_jobs import Fields, Said
+from .outcome import Swapped
 from .pages import CALENDARS, roster_content
 from .plan_days import WEEK_DAYS
+from .render import MOST_OFFERS, nobody_text, offer_text
 from .state import NurseDay
-from .swap_verb import NOT_WRITTEN
-from .swap_words import MOST_OFFERS, offer_text, why_nobody
 from .swaps import Swaps
+from .verbs import offers_of
 from .ward import WardPlan
 
 REFRESH_SECONDS = 2
@@ -73,7 +74,7 @@ def page_markup(plan: Optional[WardPlan], shown: Shown, address: str) -> str:
     """The page. While a verb runs it loads itself again and again, and has no plan, which would take the time of the search."""
     name, said = shown.name, shown.said
     # A cell that was clicked, a question, and a form that was refused take the place of an older verb's answer.
-    is_old = bool(shown.asks) or (not said.runs and (bool(plan and shown.refused) or (shown.place is not None and not said.is_fault)))
+    is_old = bool(shown.asks) or (not said.runs and (bool(plan and shown.refused) or (shown.place is not None and not said.is_refused)))
     parts: List[Markup] = [element("h1", name), *_lines(shown.refused, True), *([] if is_old else _said(said, shown.kept, address))]
     if shown.asks:
         parts.append(sure_markup(shown.asks, plan, address, shown.lines))
@@ -98,7 +99,7 @@ def page_markup(plan: Optional[WardPlan], shown: Shown, address: str) -> str:
 def _without_plan(shown: Shown, address: str) -> List[Markup]:
     """What there is if the spreadsheet has a fault, or not yet the days of the next period."""
     again = element("a", "load this page again", href=address)
-    begin = "Correct that in" if shown.said.is_fault else "Write the days of the next period into the sheet plan of"
+    begin = "Correct that in" if shown.said.is_refused else "Write the days of the next period into the sheet plan of"
     return [
         element("p", f"{begin} {shown.spreadsheet}, save it, and ", again, "."),
         *(form_markup(form, None, address, shown.stamp) for form in FORMS if not (form.needs_plan or form.fields)),
@@ -126,10 +127,11 @@ def _lines(lines: Sequence[str], is_fault: bool) -> List[Markup]:
 def _said(said: Said, kept: Fields, address: str) -> List[Markup]:
     """The lines of the last verb, and a button that stops it, or that writes the swap of which it tells."""
     stop = element("form", element("button", "Stop, and keep the best plan", name="verb", value="stop"), method="post", action=address)
-    is_look = not said.runs and kept.get("verb") == "swap" and any(line.startswith(f"{NOT_WRITTEN}: ") for line in said.lines)
+    found = said.outcome
+    is_look = isinstance(found, Swapped) and found.pages is None and not found.faults
     words = {name: value for name, value in kept.items() if value and name != "verb"}
     write = [swap_markup(words, "Write this swap", address)] if is_look else []
-    return [*_lines(said.lines, said.is_fault), *[stop] * said.runs, *write]
+    return [*_lines(said.lines, said.is_refused), *([stop] if said.runs else []), *write]
 
 
 def _content(plan: WardPlan, address: str) -> Content:
@@ -189,10 +191,10 @@ def _cell(plan: WardPlan, place: Place, address: str, stamp: str) -> Markup:
         element("ul", *(items or [element("li", nothing)])),
     ]
     if cell:
-        offers = swaps.offers(nurse, day)[:MOST_OFFERS]
-        nobody = "" if offers else f"Nobody can take it: {why_nobody(swaps, nurse, day)}."
+        found = offers_of(swaps, nurse, day)
+        nobody = "" if found.offers else f"Nobody can take it: {nobody_text(found)}."
         parts.append(element("p", nobody or "Who could take it, and what it adds to the points:"))
-        for offer in offers:
+        for offer in found.offers[:MOST_OFFERS]:
             others = [plan.days.head(other) for other in offer.swap.days if other != day]
             words = {
                 "nurse": nurse,
@@ -201,5 +203,5 @@ def _cell(plan: WardPlan, place: Place, address: str, stamp: str) -> Markup:
                 **({"other day": others[0]} if others else {}),
                 STAMP: stamp,
             }
-            parts.append(swap_markup(words, offer_text(plan.days, swaps, offer), address))
+            parts.append(swap_markup(words, offer_text(swaps, offer), address))
     return element("section", *parts)

@@ -1,7 +1,6 @@
 """A server for the local page of one ward: one address with a secret, and no other origin."""
 
 import hmac
-import itertools
 import secrets
 import sys
 import threading
@@ -15,20 +14,17 @@ from ..programs.interrupts import Interrupts
 from ..shown.calendars import file_names
 from ..shown.page import page_text
 from ..week.faults import Misuse
-from .local_forms import STAMP, SURE, Fields, not_written, verb_of, writes
-from .local_jobs import CHANGED, RUNS, Jobs, Said, fault_lines
+from .local_forms import STAMP, SURE, event_of, not_written, writes
+from .local_jobs import Busy, Changed, Fields, Jobs, Said, fault_lines
 from .local_page import Place, Shown, calendars_markup, page_markup
 from .pages import CALENDARS, own_calendars, roster_content
-from .plan_days import PERIOD_IS_OVER, PeriodOver
+from .plan_days import PeriodOver
 from .ward import WardPlan
 
-# The most bytes of a form and of its address, its most fields, the seconds that a browser has for a request, and the most forms that
-# are kept.
-_MOST_BYTES, _MOST_FIELDS, _SECONDS, _MOST_SENT = 10_000, 20, 20, 100
-# The part of an address that names a form, so that only the tab that has sent it shows its question, or why it was refused.
-_SENT = "sent"
-# The verbs that say something before they write, which goes with their questions.
-_TOLD = ("swap", "away", "back", "undo")
+# The most bytes of a form and of its address, its most fields, and the seconds that a browser has for a request.
+_MOST_BYTES, _MOST_FIELDS, _SECONDS = 10_000, 20, 20
+# The part of an address that says why its form was refused: a verb ran, or there was another plan.
+LATE = "late"
 _PAUSE = 0.2
 # The host that only programs of this machine reach.
 LOCAL = "127.0.0.1"
@@ -41,9 +37,8 @@ _HEADERS = {
 
 
 class Sent(NamedTuple):
-    """A form whose verb has not begun: its number, its fields, and lines that say why it was refused, or that go with a question."""
+    """A form that is not done: its fields, and lines that say why it was refused, or that go with a question."""
 
-    number: int
     fields: Dict[str, str]
     lines: List[str]
     is_refused: bool
@@ -59,11 +54,8 @@ class Site:
         self.base = f"/{secrets.token_urlsafe(16)}/"
         # The ward, as far as it is known.
         self.name = "Ward"
-        # The fields of the last form whose verb has begun, and whether the spreadsheet had a fault when it was last read.
-        self.kept: Dict[str, str] = {}
+        # Whether the spreadsheet had a fault when it was last read.
         self._had_fault = False
-        self._sent: List[Sent] = []
-        self._numbers = itertools.count()
 
     @property
     def spreadsheet(self) -> str:
@@ -81,63 +73,61 @@ class Site:
             self.name = readable(plan.scenario.name)
         except PeriodOver as fault:
             # A period that has just ended is no fault.
-            says_so = said.runs or any(PERIOD_IS_OVER in line for line in said.lines)
-            return None, said if says_so else Said([str(fault)])
+            return None, said if said.runs or said.ends_period else Said([str(fault)], said.fields)
         except Exception as fault:
             # The page says what undo has done, even if the spreadsheet has a fault.
-            done = said.lines if self.kept.get("verb") == "undo" and not said.is_fault else []
+            done = said.lines if said.is_undo else []
             self._had_fault = True
-            return None, said if said.runs else Said([*fault_lines(fault), *done], True)
-        if self._had_fault and said.is_fault:
+            return None, said if said.runs else Said([*fault_lines(fault), *done], said.fields, fault=fault)
+        if self._had_fault and said.is_refused:
             # The lines of a verb about the fault no longer hold.
             self.jobs.forget()
-            said = Said([])
+            said = self.jobs.said()
         self._had_fault = False
         return plan, said
 
     def post(self, fields: Dict[str, str]) -> str:
-        """Does what a form asks for, or asks the user first, since the verb writes. Returns the query of the page that follows."""
+        """Does what a form asks for, unless it writes and the user was not asked yet. Returns the query of the page that follows: it has
+        the form if that is not done, so that this page asks the user, or says why it was refused."""
         if fields.get("verb") == "stop":
             self.jobs.stop()
             return ""
+        form = {name: value for name, value in fields.items() if name not in (SURE, LATE)}
+        stamp = fields.get(STAMP, "") if writes(fields) else None
         try:
-            verb, stamp = verb_of(fields, self.jobs.seconds), fields.get(STAMP, "")
-            if writes(fields):
+            event = event_of(fields, self.jobs.seconds)
+            if stamp is not None:
                 self.jobs.check_stamp(stamp)
                 self.jobs.check_free()
-                verb = self.jobs.stamped(verb, stamp)
-            if writes(fields) and SURE not in fields:
-                tried = self.jobs.tried(verb)
-                has_lines = tried.is_fault or fields["verb"] in _TOLD
-                return self._kept(fields, tried.lines if has_lines else [], tried.is_fault)
-            self.jobs.begin(verb)
-        except Misuse as fault:
-            # A form that was sent twice is written by the first of the two.
-            is_missing = str(fault) in (CHANGED, RUNS) and _asked(fields) != _asked(self.kept)
-            return self._kept(fields, [str(fault), *not_written(fields) * is_missing], True)
-        self.kept = fields if writes(fields) else {**fields, STAMP: self.jobs.folder.stamp}
-        return ""
-
-    def _kept(self, fields: Dict[str, str], lines: List[str], is_refused: bool) -> str:
-        """Keeps a form. Returns the query of its page."""
-        number = next(self._numbers)
-        self._sent = [*self._sent, Sent(number, fields, lines, is_refused)][-_MOST_SENT:]
-        return f"?{urlencode({_SENT: number})}"
+            if stamp is None or SURE in fields:
+                now = form if stamp is not None else {**form, STAMP: self.jobs.folder.stamp}
+                self.jobs.begin(event, now, stamp)
+                return ""
+        except (Busy, Changed) as fault:
+            form[LATE] = "busy" if isinstance(fault, Busy) else "changed"
+        except Misuse:
+            # The page that follows finds it again.
+            form.setdefault("verb", "")
+        return f"?{urlencode(form)}"
 
     def sent(self, query: Dict[str, str]) -> Optional[Sent]:
-        """The form that an address names. If there is another plan since, its question is asked no more, and if a verb ran when it was
-        refused, that one has written it."""
-        found = next((one for one in self._sent if str(one.number) == query.get(_SENT)), None)
-        if not found or not writes(found.fields) or found.fields.get(STAMP) == self.jobs.folder.stamp:
-            return found
-        return found._replace(lines=[CHANGED if line == RUNS else line for line in found.lines]) if found.is_refused else None
-
-    def fields(self, said: Said, sent: Optional[Sent]) -> Dict[str, str]:
-        """The values that stay in the form that was sent last: those of one that was refused, of a look for a swap, or of a verb that
-        failed."""
-        if sent:
-            return sent.fields
-        return self.kept if said.is_fault or self.kept.get("verb") == "swap" else {}
+        """The form that an address has, if it has one: a question, or why it was refused. A question for an older plan is asked no more."""
+        form = {name: value for name, value in query.items() if name != LATE}
+        if "verb" not in form:
+            return None
+        is_old = bool(writes(form)) and form.get(STAMP) != self.jobs.folder.stamp
+        if LATE in query:
+            # A verb that ran when a form was refused may have written what the form asks for, or another plan since.
+            fault = Changed() if is_old or query[LATE] != "busy" else Busy()
+            missing = not_written(form) if _asked(form) != _asked(self.jobs.said().fields) else []
+            return Sent(form, [str(fault), *missing], True)
+        if is_old or (self.jobs.runs and writes(form)):
+            return None
+        try:
+            found = self.jobs.asked(event_of(form, self.jobs.seconds))
+        except Misuse as fault:
+            return Sent(form, fault_lines(fault), True)
+        return Sent(form, found.lines, found.is_refused) if found.is_refused or writes(form) else None
 
 
 def _asked(fields: Fields) -> Dict[str, str]:
@@ -172,7 +162,8 @@ class _Handler(BaseHTTPRequestHandler):
         elif path:
             self._refuse(404, "there is no such page")
         else:
-            kept, asks = self.site.fields(said, sent), sent if sent and not sent.is_refused else None
+            asks = sent if sent and not sent.is_refused else None
+            kept = _kept(said, sent)
             place = _place(plan, query) or (None if sent else _looked(plan, kept, said))
             shown = Shown(said, place, asks.fields if asks else {}, kept, self.site.spreadsheet, worked, self.site.name)
             shown = shown._replace(seconds=self.site.jobs.seconds, stamp=stamp, lines=asks.lines if asks else [], refused=why)
@@ -244,6 +235,13 @@ class _Handler(BaseHTTPRequestHandler):
         """Nothing is logged: addresses have the secret."""
 
 
+def _kept(said: Said, sent: Optional[Sent]) -> Fields:
+    """The values that stay in the form that was sent last: of one that was refused, of a look for a swap, or of a verb that failed."""
+    if sent:
+        return sent.fields
+    return said.fields if said.is_refused or said.fields.get("verb") == "swap" else {}
+
+
 def _place(plan: Optional[WardPlan], query: Dict[str, str]) -> Optional[Place]:
     """The cell that an address names, if the plan has it."""
     nurse, day = query.get("nurse", ""), query.get("day", "")
@@ -253,7 +251,7 @@ def _place(plan: Optional[WardPlan], query: Dict[str, str]) -> Optional[Place]:
 
 def _looked(plan: Optional[WardPlan], kept: Fields, said: Said) -> Optional[Place]:
     """The nurse and the day of a look for all swaps, whose offers the page shows as buttons."""
-    if plan is None or kept.get("verb") != "swap" or kept.get("other") or said.is_fault or said.runs:
+    if plan is None or kept.get("verb") != "swap" or kept.get("other") or said.is_refused or said.runs:
         return None
     days = {plan.days.head(day): day for day in range(plan.first, plan.days.total)}
     nurse, day = kept.get("nurse", ""), days.get(kept.get("first", ""))

@@ -4,37 +4,23 @@ import datetime
 import re
 from dataclasses import replace
 from pathlib import Path
-from typing import Collection, Dict, Iterator, List, Mapping, NamedTuple, Optional, Sequence, Set
+from typing import Collection, Dict, List, Mapping, Optional, Sequence, Set, Tuple
 
 from ..shown.calendars import file_names, issue_now, write_calendars
 from ..shown.page import page_text
 from ..shown.page_tables import Content
 from ..week.dates import DAY, date_text
 from ..week.writing import write_text
-from .days_beside import beside_lines
-from .not_kept import days_away_lines, not_kept_lines
+from .facts import unkept
+from .outcome import Pages
 from .plan_days import WEEK_DAYS, PlanDays
+from .render import beside_lines, days_away_lines, unkept_lines
 from .ward import WardPlan
 
 ROSTER, WALL, CALENDARS = "roster.html", "wall.html", "calendars"
 # The name of the plan that a page shows, in its head.
 _PLAN = re.compile('<meta name="plan" content="([^"]*)"/>')
 _WORKED = re.compile(r"worked(?:-([0-9]+(?:-[0-9]+-[0-9]+)?))?\.html")
-
-
-class Pages(NamedTuple):
-    """The pages of a folder that were written, and those that were taken away, since they showed another plan."""
-
-    written: List[Path]
-    gone: List[Path]
-
-    def lines(self) -> Iterator[str]:
-        """The lines that name them."""
-        if self.written:
-            yield f"written: {', '.join(map(str, self.written))}"
-        if self.gone:
-            wall = ": take down what hangs on the wall" if WALL in [path.name for path in self.gone] else ""
-            yield f"taken away: {', '.join(map(str, self.gone))}{wall}"
 
 
 def write_pages(
@@ -55,15 +41,17 @@ def write_pages(
     for name, content in contents.items():
         _without_link(top / name)
         write_text(top / name, page_text(content))
-    return Pages([*(top / name for name in contents), *calendars], gone)
+    return Pages((*(top / name for name in contents), *calendars), tuple(gone))
 
 
-def other_plan_lines(top: Path, stamp: str) -> Iterator[str]:
-    """The pages of the folder that show another plan than the one with this name, as after a run that was killed."""
+def other_plan_pages(top: Path, stamp: str) -> Tuple[str, ...]:
+    """The names of the pages that show another plan than the one with this name."""
+    found = []
     for path in (top / ROSTER, top / WALL):
-        found = _PLAN.search(path.read_text(encoding="utf-8", errors="replace")) if is_own_file(path) else None
-        if found and found[1] != stamp:
-            yield f"{path.name} shows another plan than the one that holds, as if a run was killed: the verbs plan and page write it anew"
+        shown = _PLAN.search(path.read_text(encoding="utf-8", errors="replace")) if is_own_file(path) else None
+        if shown and shown[1] != stamp:
+            found.append(path.name)
+    return tuple(found)
 
 
 def is_own_file(path: Path) -> bool:
@@ -147,7 +135,7 @@ def roster_content(plan: WardPlan, old: Optional[WardPlan] = None) -> Content:
     monday = None if plan.days.monday is None else plan.days.monday + plan.first * DAY
     before = old.view() if old and old.is_planned else None
     holidays = {day - plan.first for day in plan.ward.holidays if day >= plan.first}
-    notes = (*not_kept_lines(plan), *days_away_lines(plan), *beside_lines(plan))
+    notes = (*unkept_lines(plan, unkept(plan)), *days_away_lines(plan), *beside_lines(plan))
     swapped = {(one.day // WEEK_DAYS - plan.state.open_week, one.nurse, one.day % WEEK_DAYS) for one in plan.state.agreed}
     now = datetime.datetime.now()
     return Content(plan.view(), before, monday, plan.ward.times, holidays=holidays, as_of=now, notes=notes, swapped=swapped)

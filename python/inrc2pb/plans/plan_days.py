@@ -44,6 +44,10 @@ class PlanDays(NamedTuple):
         """The number of days."""
         return WEEK_DAYS * self.weeks
 
+    def next(self) -> "PlanDays":
+        """Those of the period after this one, whose number of weeks is not known."""
+        return PlanDays(None if self.monday is None else self.monday + self.total * DAY, 0)
+
     def date(self, day: int) -> datetime.date:
         """The date of a day of a plan with dates."""
         assert self.monday is not None

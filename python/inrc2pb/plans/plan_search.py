@@ -3,9 +3,9 @@
 import tempfile
 from dataclasses import replace
 from pathlib import Path
-from typing import Collection, Dict, Iterator, List, NamedTuple, Sequence
+from typing import Collection, Dict, Iterator, List, NamedTuple, Optional, Sequence, Tuple
 
-from ..judging.absences import is_broken_by, readable
+from ..judging.absences import is_broken_by
 from ..judging.days_away import DaysAway
 from ..judging.runs import ANY_CHOICE
 from ..programs.clock import Clock
@@ -15,20 +15,18 @@ from ..programs.progress import Progress
 from ..rows.plan import Calls
 from ..search.period_search import PeriodSearch
 from ..search.planned_weeks import PeriodFiles, PlannedWeeks, history_name
-from ..search.why_none import EXISTS, why_none
+from ..search.why_none import Shortage, why_none
 from ..week.facts import Choice, Claim, Fact, facts_text
 from ..week.faults import FileFault, fault_line
 from ..week.files import history_text, solution_text, week_text
-from ..week.records import DAYS, Cell, Solution, Week, WeekData
+from ..week.records import Cell, Solution, Week, WeekData
 from ..week.writing import write_text
-from .bound_words import UNKNOWN, bound_words
 from .changes import CALL_POINTS, days_off_beside_absences, with_few_changes, with_old_skills
+from .outcome import KnownBound
 from .plan_days import WEEK_DAYS
 from .state import NurseDay, in_week
 from .ward import FACTS, WardPlan, limits_for_leavers
 
-# The end of a line on a nurse who is away.
-IS_AWAY = " is away"
 # How a search keeps agreed days.
 NONE, MOST, ALL = "none", "most", "all"
 
@@ -44,11 +42,11 @@ class Asked(NamedTuple):
 
 
 class Found(NamedTuple):
-    """The plan that a search has found, the line on what a plan costs at least, and whether the user stopped the search."""
+    """The plan that a search has found, what it knows of all others, and whether the user stopped it."""
 
     plan: WardPlan
-    bound: str
-    stopped: bool
+    bound: Optional[KnownBound] = None
+    stopped: bool = False
 
 
 def search_plan(old: WardPlan, asked: Asked, progress: Progress) -> Found:
@@ -70,8 +68,15 @@ def search_plan(old: WardPlan, asked: Asked, progress: Progress) -> Found:
     cells = [cell._replace(day=cell.day + old.first) for cell in kept[-1]]
     labelled = with_old_skills(old.scenario, cells, [*old.cells, *old.held.values()])
     # The search may have counted points that a plan has not.
-    bound = UNKNOWN if asked.few_changes or asked.agreed == MOST else bound_words(search)
+    bound = None if asked.few_changes or asked.agreed == MOST else known_bound(search)
     return Found(old.with_cells(labelled), bound, clock.stopped)
+
+
+def known_bound(search: PeriodSearch) -> Optional[KnownBound]:
+    """What a search knows of all other plans."""
+    if search.bound is None or search.penalty is None:
+        return None
+    return KnownBound(search.penalty, search.bound, search.bound_beside)
 
 
 def _older_rows(old: WardPlan) -> Dict[str, bytes]:
@@ -163,30 +168,16 @@ def _past_claims(old: WardPlan, first: int) -> Iterator[Claim]:
     return (_off(one) for one in places if one not in old.works)
 
 
-def why_no_plan(plan: WardPlan) -> List[str]:
-    """Which minimum numbers to lower in the first week that has no roster; nothing if each week alone has one."""
+def why_no_plan(plan: WardPlan) -> Optional[Tuple[int, Shortage]]:
+    """The first week that has no roster, and which minimum numbers to lower in it; None if each week alone has one."""
     with tempfile.TemporaryDirectory(prefix="inrc2pb-plan-") as name:
         for number in plan.weeks:
             past = plan.histories[min(number, len(plan.histories) - 1)]
             week = Week(plan.scenario, replace(past, week=number), plan.data[number])
-            lines = list(why_none(_week_files(plan, week, Path(name)), week))
-            if not lines[0].startswith(EXISTS):
-                return [f"week {number}: {lines[0]}", *_with_dates(plan, number, lines[1:])]
-    return []
-
-
-def _with_dates(plan: WardPlan, number: int, lines: Sequence[str]) -> Iterator[str]:
-    """The lines on the minimum numbers of a week, with the dates of its days, and the nurses who are away in one line."""
-    away: List[str] = []
-    for line in [*lines, ""]:
-        if line.endswith(IS_AWAY):
-            away.append(line[: -len(IS_AWAY)].strip())
-            continue
-        if away:
-            yield readable(f"    away: {', '.join(away)}")
-            away = []
-        day, _, rest = line.partition(" ")
-        yield from [readable(f"{plan.days.text(WEEK_DAYS * number + DAYS.index(day))} {rest}" if day in DAYS else line)] * bool(line)
+            shortage = why_none(_week_files(plan, week, Path(name)), week)
+            if shortage.places:
+                return number, shortage
+    return None
 
 
 def _week_files(plan: WardPlan, week: Week, folder: Path) -> WeekFiles:

@@ -5,46 +5,40 @@ import shlex
 import tempfile
 from dataclasses import replace
 from pathlib import Path
-from typing import Callable, Dict, Iterable, List, NamedTuple, Optional, Sequence, Set
+from typing import Callable, Dict, Iterable, NamedTuple, Optional, Sequence, Set, Tuple
 
-from ..programs.program import READ_OR_WRITE, WeekFiles, penalty_of
+from ..programs.program import WeekFiles, penalty_of
 from ..programs.progress import Progress
-from ..week.faults import FileFault, Misuse, fault_line
+from ..week.faults import FileFault, Misuse
 from ..week.files import history_text, read_scenario, read_solution, read_week, write_solution
-from ..week.hints import plural
 from ..week.records import Cell, Solution
 from ..week.writing import write_text
 from . import pages
-from .pages import Pages
+from .outcome import Pages
 from .plan_days import WEEK_DAYS, PlanDays
 from .state import DayWord, Record, read_record, read_state, roster_name, state_texts
 from .ward import Ward, WardPlan, continued, first_plan
 from .ward_folder import WardFolder
-from .ward_sheet import anew_lines, unchanged_rows
-from .wording import Wording
+from .ward_sheet import WeekRow, unchanged_rows
 
 # Reads the spreadsheet of a ward, which has this name, if it has one, with these absences in its plan.
 Reader = Callable[[Path, Optional[str], Sequence[DayWord]], Ward]
 
 
 class Means(NamedTuple):
-    """How the verbs read a spreadsheet, show the progress of a search, and say what goes before their results; how a user ends a search,
-    and writes a swap."""
+    """How the verbs read a spreadsheet, show the progress of a search, and say what goes before their results; how a user ends a search."""
 
     read: Reader
     progress: Progress
     say: Callable[[str], None]
     end: str = "Ctrl-C ends the search and keeps the best plan"
-    write: str = "type it again with --do"
 
 
 class PlanStore:
-    """The plans of a folder. `status` is the exit status of the verb that uses it. A verb that `only_reads` ends before it searches or
-    writes, so it finds the faults of what is asked."""
+    """The plans of a folder."""
 
-    def __init__(self, folder: WardFolder, means: Means, only_reads: bool = False) -> None:
-        self.folder, self.means, self.only_reads = folder, means, only_reads
-        self.status = 0
+    def __init__(self, folder: WardFolder, means: Means) -> None:
+        self.folder, self.means = folder, means
 
     def current(self, absences: Sequence[DayWord] = ()) -> WardPlan:
         """The plan that holds, with what the spreadsheet says now; with these absences, if there are some."""
@@ -66,23 +60,29 @@ class PlanStore:
         """The same; that the spreadsheet does not have its names any more is a Misuse."""
         return fitted(self.planned())
 
-    def save(self, verb: str, plan: WardPlan, old: Optional[WardPlan] = None) -> List[str]:
-        """Writes the plan and its pages. Returns the lines that name them."""
-        if self.only_reads:
-            return []
-        now = datetime.datetime.now()
-        self.folder.add(verb.split(" ", 1)[0], plan_texts(plan, plan.state.record(verb, now)), now)
+    def save(self, verb: str, plan: WardPlan, old: Optional[WardPlan] = None) -> Pages:
+        """Writes the plan and its pages, which mark what differs from an older plan. Returns the pages."""
+        self.add(verb, plan)
         return self.pages(plan, old)
 
-    def anew(self, plan: WardPlan) -> List[str]:
-        """Warnings of rows of the needs that are as they were in the last period, at the begin of the next one."""
+    def add(self, verb: str, plan: WardPlan) -> None:
+        """Writes the plan that this verb has made, without pages."""
+        now = datetime.datetime.now()
+        self.folder.add(verb.split(" ", 1)[0], plan_texts(plan, plan.state.record(verb, now)), now)
+
+    def other_pages(self) -> Tuple[str, ...]:
+        """The names of pages that show another plan than the one that holds, as after a run that was killed."""
+        return pages.other_plan_pages(self.folder.top, self.folder.stamp)
+
+    def anew(self, plan: WardPlan) -> Tuple[WeekRow, ...]:
+        """The rows of the needs that are as they were in the last period, at the begin of the next one."""
         last = self.folder.last()
         if not last or not _ends_period(last):
-            return []
+            return ()
         ward = read_scenario(last / "ward.txt")
         paths = {row.week: last / f"week-{row.week}.txt" for row in plan.ward.week_rows}
         older = {number: read_week(path, ward).requirements for number, path in paths.items() if path.exists()}
-        return list(anew_lines(unchanged_rows(plan.ward.week_rows, older), plan.days))
+        return tuple(unchanged_rows(plan.ward.week_rows, older))
 
     def worked_pages(self, plan: Optional[WardPlan]) -> Dict[str, str]:
         """The pages of weeks that are over, and their texts; if the sheet has a fault, so there is no plan, that of the roster too."""
@@ -90,31 +90,27 @@ class PlanStore:
         found = {pages.ROSTER: "The roster as it was last written"} if is_left else {}
         return {**found, **pages.worked_pages(self.folder.top)}
 
-    def pages(self, plan: WardPlan, old: Optional[WardPlan] = None) -> List[str]:
-        """Makes the pages of the folder those of a plan. Returns the lines that name them."""
-        if self.only_reads:
-            return []
+    def pages(self, plan: WardPlan, old: Optional[WardPlan] = None) -> Pages:
+        """Makes the pages of the folder those of a plan."""
         is_ended = bool(plan.state.open_week) and not plan.weeks
         periods, before = self._periods() - is_ended, self._before(plan.days)
-        return self._paged(lambda: pages.write_pages(self.folder.top, plan, self.folder.stamp, periods, before, old))
+        try:
+            return pages.write_pages(self.folder.top, plan, self.folder.stamp, periods, before, old)
+        except OSError as fault:
+            return Pages(fault=fault)
 
-    def pages_undone(self, undone: Optional[Record]) -> List[str]:
-        """Takes the pages of a plan away that was undone, which has this record, if the plan that holds cannot be read now. Returns the
-        lines that name them."""
+    def pages_undone(self, undone: Optional[Record]) -> Pages:
+        """Takes the pages of a plan away that was undone, which has this record, if the plan that holds cannot be read now."""
         top, last = self.folder.top, self.folder.last()
         holds = known_record(last) if last else None
         names = [pages.ROSTER, pages.WALL]
         if undone and holds and (undone.days, undone.open_week) != (holds.days, holds.open_week):
             names.append(pages.worked_name(holds.days, self._periods()))
         before = {nurse: days for one in (undone, holds) if one for nurse, days in self._before(one.days).items()}
-        return self._paged(lambda: Pages([], [*pages.taken_away(top, names), *pages.calendars_taken_away(top, [], before)]))
-
-    def _paged(self, make: Callable[[], Pages]) -> List[str]:
         try:
-            return list(make().lines())
+            return Pages(gone=(*pages.taken_away(top, names), *pages.calendars_taken_away(top, [], before)))
         except OSError as fault:
-            self.status = READ_OR_WRITE
-            return [f"the plan holds, but its pages are not written: {fault_line(fault)}"]
+            return Pages(fault=fault)
 
     def _periods(self) -> int:
         """The number of periods that are over."""
@@ -166,32 +162,21 @@ def _known_cells(path: Path) -> Sequence[Cell]:
         return ()
 
 
-def wording_of(plan: WardPlan, words: Sequence[str], usage: str) -> Wording:
-    """The words after a verb, of which `usage` is an example."""
-    return Wording(words, plan.scenario.nurses, plan.days, plan.first, usage)
-
-
 def plan_texts(plan: WardPlan, record: Record) -> Dict[str, str]:
     """The files of a plan's folder."""
     return {**plan.ward.texts, **state_texts(plan.state, record, plan.scenario, plan.histories)}
 
 
-def _penalties(plan: WardPlan, folder: Path) -> Dict[int, int]:
-    """The penalty of each week that is not over, by `inrc2pb extend`, whose files are written to the folder."""
-    for name, text in plan.ward.texts.items():
-        write_text(folder / name, text)
+def penalties(plan: WardPlan) -> Dict[int, int]:
+    """The penalty of each week that is not over, by `inrc2pb extend`."""
     found = {}
-    for number in plan.weeks:
-        history, roster = folder / f"history-{number}.txt", folder / roster_name(number)
-        write_text(history, history_text(plan.histories[number]))
-        write_solution(roster, Solution(number, plan.scenario.name, plan.state.roster(number)))
-        found[number] = penalty_of(WeekFiles(folder / "ward.txt", history, folder / f"week-{number}.txt"), roster)
+    with tempfile.TemporaryDirectory(prefix="inrc2pb-plan-") as name:
+        folder = Path(name)
+        for file, text in plan.ward.texts.items():
+            write_text(folder / file, text)
+        for number in plan.weeks:
+            history, roster = folder / f"history-{number}.txt", folder / roster_name(number)
+            write_text(history, history_text(plan.histories[number]))
+            write_solution(roster, Solution(number, plan.scenario.name, plan.state.roster(number)))
+            found[number] = penalty_of(WeekFiles(folder / "ward.txt", history, folder / f"week-{number}.txt"), roster)
     return found
-
-
-def cost_lines(plan: WardPlan) -> List[str]:
-    """What each week costs, by `inrc2pb extend`."""
-    with tempfile.TemporaryDirectory(prefix="inrc2pb-plan-") as folder:
-        penalties = _penalties(plan, Path(folder))
-    lines = [f"week {number}: {points} points" for number, points in penalties.items()]
-    return [*lines, f"{plural(len(lines), 'week')}: {sum(penalties.values())} points"] if len(lines) > 1 else lines

@@ -4,32 +4,35 @@ A swap is judged by the weeks of its two nurses alone: what they are charged, wh
 beside their days away.
 """
 
+import enum
 from dataclasses import replace
 from typing import Dict, Iterator, List, Mapping, NamedTuple, Optional, Sequence, Tuple
 
 from ..judging import days_away
-from ..judging.absences import is_broken_by, readable
-from ..judging.limits import exceeded, excess, limits_in_words
+from ..judging.absences import is_broken_by
+from ..judging.days_away import DaysAway
+from ..judging.limits import exceeded, excess
 from ..judging.next_history import next_nurse_history
-from ..judging.rules import costs
+from ..judging.rules import Charge, costs
 from ..week.records import Cell, History, Week, WeekData
-from .days_beside import beside_words
-from .plan_days import WEEK_DAYS
-from .state import NurseDay
+from .facts import Beside, beside_of
+from .state import NurseDay, in_week
 from .ward import WardPlan
 
-# A nurse's assignments, by the days of the plan.
+# A nurse's shifts, by the days of the plan.
 NurseCells = Mapping[int, Cell]
 
 
-def _of_nurse(data: WeekData, nurse: str) -> WeekData:
-    """What a week's file has about one nurse."""
-    requests = tuple(request for request in data.requests if request.nurse == nurse)
-    return replace(data, requirements={}, requests=requests, limits=frozenset(limit for limit in data.limits if limit.nurse == nurse))
+class Above(NamedTuple):
+    """What a nurse has in a week above limits that hold, and her shifts in it, with the days of the week."""
+
+    week: int
+    charges: Tuple[Charge, ...]
+    cells: Tuple[Cell, ...]
 
 
 class NurseWeeks:
-    """Each nurse's weeks, as if the ward had her alone and needed nobody."""
+    """The weeks of a plan that are not over as each nurse has them, as if the ward had her alone and needed nobody."""
 
     def __init__(self, plan: WardPlan) -> None:
         self._plan = plan
@@ -37,35 +40,46 @@ class NurseWeeks:
             (nurse, number): _of_nurse(plan.data[number], nurse) for nurse in plan.scenario.nurses for number in plan.weeks
         }
 
-    def _weeks(self, nurse: str, cells: NurseCells) -> Iterator[Tuple[Week, List[Cell]]]:
-        """Each week, with her assignments."""
+    def _weeks(self, nurse: str, cells: NurseCells) -> Iterator[Tuple[Week, Tuple[Cell, ...]]]:
+        """Each week, with her shifts."""
         plan = self._plan
         scenario = replace(plan.scenario, nurses={nurse: plan.scenario.nurses[nurse]})
         past = plan.past.nurses[nurse]
         for number in plan.weeks:
-            of_week = [cell._replace(day=day % WEEK_DAYS) for day, cell in cells.items() if day // WEEK_DAYS == number]
+            of_week = in_week(cells.values(), number)
             yield Week(scenario, History(number, scenario.name, {nurse: past}), self._data[nurse, number]), of_week
             past = next_nurse_history(past, {cell.day: cell.shift for cell in of_week})
 
     def cost(self, nurse: str, cells: NurseCells) -> int:
-        """What the nurse is charged for these assignments."""
+        """What the nurse is charged for these shifts."""
         return sum(sum(costs(week, of_week).values()) for week, of_week in self._weeks(nurse, cells))
 
-    def above(self, nurse: str, cells: NurseCells) -> Tuple[int, List[str]]:
-        """How much these assignments of the nurse have above limits that hold, and in words."""
-        weeks = [(exceeded(week, week.data.limits, of_week), of_week) for week, of_week in self._weeks(nurse, cells)]
-        named = [self._plan.day_names(number) for number in self._plan.weeks]
-        words = [limits_in_words(charges, of_week, names) for (charges, of_week), names in zip(weeks, named) if charges]
-        return sum(excess(charges) for charges, _ in weeks), words
+    def above(self, nurse: str, cells: NurseCells) -> List[Above]:
+        """What these shifts of the nurse have above limits that hold."""
+        weeks = ((week, exceeded(week, week.data.limits, of_week), of_week) for week, of_week in self._weeks(nurse, cells))
+        return [Above(week.history.week, tuple(charges), of_week) for week, charges, of_week in weeks if charges]
 
-    def beside(self, nurse: str, cells: NurseCells) -> Tuple[int, List[str]]:
-        """By how many days the nurse's rows with training are too long with these assignments, and with how many nights before training or
-        leave; and in words."""
-        plan = self._plan
-        away = plan.days_away.of(nurse)
-        shifts = {(nurse, day - plan.first): cell.shift for day, cell in cells.items()}
-        above = days_away.excess(plan.scenario, plan.past, away, shifts)
-        return above, list(beside_words(plan, away, shifts))
+    def excess(self, nurse: str, cells: NurseCells) -> int:
+        """How much that is in all."""
+        return sum(excess(one.charges) for one in self.above(nurse, cells))
+
+    def beside(self, nurse: str, cells: NurseCells) -> List[Beside]:
+        """What is wrong beside the nurse's days of training and leave with these shifts."""
+        return beside_of(self._plan, *self._around(nurse, cells))
+
+    def excess_beside(self, nurse: str, cells: NurseCells) -> int:
+        """By how many days rows with training are too long, with the number of nights before training or leave."""
+        return days_away.excess(self._plan.scenario, self._plan.past, *self._around(nurse, cells))
+
+    def _around(self, nurse: str, cells: NurseCells) -> Tuple[DaysAway, Dict[Tuple[str, int], str]]:
+        """The nurse's days away, and her shift types on the days from the first one that is not over."""
+        return self._plan.days_away.of(nurse), {(nurse, day - self._plan.first): cell.shift for day, cell in cells.items()}
+
+
+def _of_nurse(data: WeekData, nurse: str) -> WeekData:
+    """What a week's file has about one nurse."""
+    requests = tuple(request for request in data.requests if request.nurse == nurse)
+    return replace(data, requirements={}, requests=requests, limits=frozenset(limit for limit in data.limits if limit.nurse == nurse))
 
 
 class Swap(NamedTuple):
@@ -77,14 +91,40 @@ class Swap(NamedTuple):
 
 
 class Offer(NamedTuple):
-    """A swap that breaks no hard rule and no absence, and what it adds to the penalty."""
+    """A swap that has no fault, and what it adds to the penalty."""
 
     cost: int
     swap: Swap
 
 
+class Kind(enum.Enum):
+    """Why a swap cannot be: a limit that holds, a row or a night beside days away, a shift that is held, a nurse who is away, who never
+    works a shift type, or who does not have a skill, and a shift type that may not follow another one."""
+
+    LIMIT = enum.auto()
+    BESIDE = enum.auto()
+    HELD = enum.auto()
+    AWAY = enum.auto()
+    NEVER = enum.auto()
+    SKILL = enum.auto()
+    FOLLOWS = enum.auto()
+
+
+class Fault(NamedTuple):
+    """Why a nurse cannot have the shifts of a swap: on a day, a word for why she is away, a shift type or a skill, and the shift type
+    before it; or what she has above limits, or what is wrong beside her days away."""
+
+    kind: Kind
+    nurse: str
+    day: int = 0
+    what: str = ""
+    before: str = ""
+    above: Tuple[Above, ...] = ()
+    beside: Optional[Beside] = None
+
+
 def swapped(cells: Sequence[Cell], swap: Swap) -> List[Cell]:
-    """The assignments after the swap."""
+    """The shifts after the swap."""
     others = {swap.one: swap.other, swap.other: swap.one}
     return [cell._replace(nurse=others.get(cell.nurse, cell.nurse)) if cell.day in swap.days else cell for cell in cells]
 
@@ -93,7 +133,7 @@ class Swaps:
     """The swaps in a plan, judged by its rules."""
 
     def __init__(self, plan: WardPlan) -> None:
-        self._plan = plan
+        self.plan = plan
         self._cells: Dict[str, Dict[int, Cell]] = {nurse: {} for nurse in plan.scenario.nurses}
         for cell in plan.cells:
             self._cells[cell.nurse][cell.day] = cell
@@ -101,15 +141,11 @@ class Swaps:
         self._costs = {nurse: self._alone.cost(nurse, cells) for nurse, cells in self._cells.items()}
 
     def works(self, nurse: str, day: int) -> Optional[Cell]:
-        """The nurse's assignment on a day, if she has one."""
+        """The nurse's shift on a day, if she has one."""
         return self._cells[nurse].get(day)
 
-    def is_held(self, nurse: str, day: int) -> bool:
-        """Whether the spreadsheet fixes the nurse's shift on a day."""
-        return NurseDay(nurse, day) in self._plan.held
-
     def _after(self, swap: Swap) -> Iterator[Tuple[str, Dict[int, Cell]]]:
-        """The assignments of the two nurses after the swap."""
+        """The shifts of the two nurses after the swap."""
         for nurse, other in ((swap.one, swap.other), (swap.other, swap.one)):
             kept = {day: cell for day, cell in self._cells[nurse].items() if day not in swap.days}
             gained = {day: cell._replace(nurse=nurse) for day, cell in self._cells[other].items() if day in swap.days}
@@ -119,8 +155,8 @@ class Swaps:
         """What the swap adds to the penalty: only the two nurses' charges change."""
         return sum(self._alone.cost(nurse, cells) - self._costs[nurse] for nurse, cells in self._after(swap))
 
-    def faults(self, swap: Swap) -> List[str]:
-        """Why the swap cannot be: hard rules, absences and held shifts that it breaks."""
+    def faults(self, swap: Swap) -> List[Fault]:
+        """Why the swap cannot be: hard rules, limits, absences and held shifts that it breaks, and what it makes worse beside days away."""
         return [fault for nurse, cells in self._after(swap) for fault in self._faults(nurse, cells, swap.days)]
 
     def offers(self, nurse: str, day: int) -> List[Offer]:
@@ -138,40 +174,32 @@ class Swaps:
             if same is None:
                 yield from (Swap(nurse, other, (day, back)) for back in cells if back not in self._cells[nurse])
 
-    def _faults(self, nurse: str, cells: Dict[int, Cell], days: Sequence[int]) -> Iterator[str]:
-        """Why the nurse cannot have these assignments, of which those on these days are new."""
-        plan = self._plan
-        above, words = self._alone.above(nurse, cells)
-        if above > self._alone.above(nurse, self._cells[nurse])[0]:
-            yield f"{', '.join(words)}, and this limit holds"
-        yield from self._faults_beside(nurse, cells)
-        shift_on = {
-            plan.first - 1: plan.past.nurses[nurse].last_shift,
-            **{day: cell.shift for day, cell in cells.items()},
-        }
+    def _faults(self, nurse: str, cells: NurseCells, days: Sequence[int]) -> Iterator[Fault]:
+        """Why the nurse cannot have these shifts, of which those on these days are new."""
+        plan, before = self.plan, self._cells[nurse]
+        if self._alone.excess(nurse, cells) > self._alone.excess(nurse, before):
+            yield Fault(Kind.LIMIT, nurse, above=tuple(self._alone.above(nurse, cells)))
+        if self._alone.excess_beside(nurse, cells) > self._alone.excess_beside(nurse, before):
+            known = self._alone.beside(nurse, before)
+            yield from (Fault(Kind.BESIDE, nurse, beside=one) for one in self._alone.beside(nurse, cells) if one not in known)
         for day in days:
-            if self.is_held(nurse, day) and cells.get(day) != self._cells[nurse].get(day):
-                yield f"{readable(nurse)} has her shift on {plan.days.text(day)} for certain, by the spreadsheet"
+            if NurseDay(nurse, day) in plan.held and cells.get(day) != before.get(day):
+                yield Fault(Kind.HELD, nurse, day)
             if day in cells:
                 yield from self._cell_faults(cells[day])
+        last = plan.past.nurses[nurse].last_shift
+        shift_on = {plan.first - 1: last, **{day: cell.shift for day, cell in cells.items()}}
         for day in sorted({*days, *(day + 1 for day in days)}):
-            before, now = shift_on.get(day - 1), shift_on.get(day)
-            if before and now and now in plan.scenario.shift_types[before].forbidden_next:
-                yield readable(f"{nurse} may not work {now} on {plan.days.text(day)} after {before}")
+            earlier, now = shift_on.get(day - 1), shift_on.get(day)
+            if earlier and now and now in plan.scenario.shift_types[earlier].forbidden_next:
+                yield Fault(Kind.FOLLOWS, nurse, day, now, earlier)
 
-    def _faults_beside(self, nurse: str, cells: Dict[int, Cell]) -> Iterator[str]:
-        """What these assignments make worse beside the nurse's days of training and leave."""
-        (before, known), (now, words) = (self._alone.beside(nurse, of_nurse) for of_nurse in (self._cells[nurse], cells))
-        if now > before:
-            yield from (line for line in words if line not in known)
-
-    def _cell_faults(self, cell: Cell) -> Iterator[str]:
-        """Why the nurse cannot have this assignment alone."""
-        plan = self._plan
-        why = plan.away.get(NurseDay(cell.nurse, cell.day))
+    def _cell_faults(self, cell: Cell) -> Iterator[Fault]:
+        """Why the nurse cannot have this shift alone."""
+        why = self.plan.away.get(NurseDay(cell.nurse, cell.day))
         if why:
-            yield readable(f"{cell.nurse} is away on {plan.days.text(cell.day)} ({why})")
-        elif is_broken_by(plan.absences, cell):
-            yield readable(f"{cell.nurse} never works {cell.shift}")
-        if cell.skill not in plan.scenario.nurses[cell.nurse].skills:
-            yield readable(f"{cell.nurse} does not have the skill {cell.skill}")
+            yield Fault(Kind.AWAY, cell.nurse, cell.day, why)
+        elif is_broken_by(self.plan.absences, cell):
+            yield Fault(Kind.NEVER, cell.nurse, cell.day, cell.shift)
+        if cell.skill not in self.plan.scenario.nurses[cell.nurse].skills:
+            yield Fault(Kind.SKILL, cell.nurse, cell.day, cell.skill)

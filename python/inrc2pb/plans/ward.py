@@ -283,6 +283,11 @@ def plan_of(ward: Ward, state: State, unknown: Tuple[Cell, ...] = ()) -> WardPla
     return WardPlan(ward, state, limits_of(ward, state), unknown)
 
 
+def for_leavers(plan: WardPlan, first: int) -> WardPlan:
+    """The plan, judged as by a search from this day on: nurses who leave keep their shifts before it."""
+    return replace(plan, limits=limits_for_leavers(plan.ward, plan.state, plan.limits, first))
+
+
 def first_plan(ward: Ward, past: Optional[History] = None) -> WardPlan:
     """The plan of a spreadsheet before anything is planned, after this history, if there is one."""
     return plan_of(ward, State(ward.days, _start(ward, past)))

@@ -3,15 +3,14 @@
 In the next period the weeks of such rows, as those of bank holidays, count anew.
 """
 
-from typing import Dict, Iterable, Iterator, List, Mapping, NamedTuple, Sequence
+from typing import Iterable, List, Mapping, NamedTuple, Sequence
 
-from ..judging.absences import joined, readable
+from ..judging.absences import readable
 from ..sheets.plan_sheets import AWAY, Days, needed
 from ..sheets.sheet_files import Book
 from ..sheets.sheet_rows import SheetCell, SheetRow, tidy
 from ..sheets.ward_sheets import table_of
 from ..week.records import DAYS, Place, Requirement
-from .plan_days import WEEK_DAYS, PlanDays
 from .state import BACK, SHEET, DayWord
 
 Needs = Mapping[Place, Requirement]
@@ -46,17 +45,6 @@ def unchanged_rows(rows: Iterable[WeekRow], older: Mapping[int, Needs]) -> List[
         if row.needs and all(before.get(place) == one for place, one in row.needs.items()):
             found.append(row)
     return found
-
-
-def anew_lines(rows: Iterable[WeekRow], days: PlanDays) -> Iterator[str]:
-    """That the weeks of these rows count anew in a period of these days, a line for each week."""
-    found: Dict[int, List[str]] = {}
-    for row in sorted(rows, key=lambda row: (row.week, row.number)):
-        found.setdefault(row.week, []).append(str(row.number))
-    for week, numbers in found.items():
-        named = f"row{'s' * (len(numbers) > 1)} {joined(numbers)}"
-        span = f", now {days.span([WEEK_DAYS * week, WEEK_DAYS * week + WEEK_DAYS - 1])}" if days.monday else ""
-        yield f"sheet needs, {named}: weeks count anew, and this is week {week}{span}: correct it, or delete what the last period needed"
 
 
 def with_written(book: Book, days: Days, written: Sequence[DayWord]) -> Book:

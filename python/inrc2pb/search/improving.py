@@ -13,7 +13,7 @@ from ..judging.limits import limits_in_words, limits_way_out
 from .best_roster import BestRoster
 from .bounds import PROVER
 from ..programs.clock import Clock
-from ..week.faults import Misuse, ProgramFault
+from ..week.faults import Misuse, ProgramFault, Stopped
 from ..week.files import read_files
 from ..week.records import Cell, Week
 from ..programs.interrupts import interrupts
@@ -157,7 +157,7 @@ def _result(
         raise fault or unreported
     if not report:
         if stopped and not (isinstance(fault, OSError) or isinstance(fault, ProgramFault)):
-            raise ProgramFault(NO_ROSTER, "stopped before the first roster")
+            raise Stopped(NO_ROSTER, "stopped before the first roster")
         late = f"no roster was found in {round(seconds, 1):g} s: give it more time"
         ended = "no roster was found, and no proof that none exists: try --solver clasp"
         raise fault or ProgramFault(NO_ROSTER, ended if running.has_time else late)

@@ -6,7 +6,7 @@ from typing import Callable, List, Optional, Sequence, Tuple
 
 from .bounds import PLAIN, PROOF_SECONDS, STOPPED_SECONDS, Bound, Bounds
 from ..programs.clock import Clock
-from ..week.faults import ProgramFault
+from ..week.faults import ProgramFault, Stopped
 from ..week.records import Cell
 from ..solvers.linear_solvers import INSTALL, LinearSolver, LinearSolvers, installed
 from ..judging.next_history import next_history
@@ -98,7 +98,9 @@ class PeriodSearch:
             if solver:
                 solver.close()
         if self.penalty is None:
-            raise ProgramFault(NO_ROSTER, self._why_none(runs[-1]))
+            if self._clock.stopped:
+                raise Stopped(NO_ROSTER, "stopped before the first plan")
+            raise ProgramFault(NO_ROSTER, _why_none(runs[-1]))
 
     def _take_bound(self, runs: Sequence[RowRun]) -> None:
         """Takes the bound of the plans that keep as much as the best one."""
@@ -180,15 +182,6 @@ class PeriodSearch:
                 raise
             return None
 
-    def _why_none(self, run: RowRun) -> str:
-        if self._clock.stopped:
-            return "stopped before the first plan"
-        if run.without_row:
-            return f"no rosters keep the hard rules: the held rows of {run.without_row} contradict one another"
-        if run.minimums or run.claim:
-            return "no rosters keep the hard rules of these weeks together, by plain Python: plan the weeks one by one with inrc2pb-improve"
-        return "no rosters were found in this time: give more"
-
     def not_kept(self) -> List[str]:
         """The absences that the best plan breaks, the limits that it exceeds, and what to do."""
         return list(self._weeks.warnings(self._cells))
@@ -205,3 +198,12 @@ class PeriodSearch:
             less = "no plan that keeps them costs less" if only else "no plan costs less"
             return f"{bound}: {less}" + (", proved" if self.bound.by != PLAIN else "")
         return f"{bound}: the gap is {self.penalty - self.bound.points}, {gap_share(self.penalty, self.bound.points)}"
+
+
+def _why_none(run: RowRun) -> str:
+    """Why a search has found no plan in its time."""
+    if run.without_row:
+        return f"no rosters keep the hard rules: the held rows of {run.without_row} contradict one another"
+    if run.minimums or run.claim:
+        return "no rosters keep the hard rules of these weeks together, by plain Python: plan the weeks one by one with inrc2pb-improve"
+    return "no rosters were found in this time: give more"

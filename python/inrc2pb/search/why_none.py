@@ -7,13 +7,13 @@ is 30 points for each nurse below a minimum, and the best roster shows the fewes
 import tempfile
 from dataclasses import replace
 from pathlib import Path
-from typing import Iterator, Sequence
+from typing import Iterator, NamedTuple, Sequence, Tuple
 
 from ..judging.absences import absences_of, in_words, wishes_of, working_while_away
 from ..week.faults import Misuse, ProgramFault
 from ..judging.demand import hindrance
 from ..week.files import read_solution, scenario_text, week_text
-from ..week.records import DAYS, Cell, Limits, Place, Requirement, Scenario, Week, WeekData
+from ..week.records import DAYS, Absence, Cell, Limits, Place, Requirement, Scenario, Week, WeekData
 from ..week.writing import write_text
 from .improving import SearchResult, improve
 from ..programs.program import NO_ROSTER, WeekFiles
@@ -21,8 +21,42 @@ from ..judging.rules import numbers
 
 SECONDS = 30.0
 _ANY = Limits(0, 9999)
-# The beginning of the line if nothing has to be lowered.
-EXISTS = "A roster exists"
+# The words for a nurse whom nothing hinders.
+CAN = "could, if nothing else needs her"
+
+
+class Owner(NamedTuple):
+    """A nurse with the skill of a place who does not fill it, whether she is away, and what hinders her in words, if something does."""
+
+    nurse: str
+    is_away: bool
+    why: str
+
+
+class ShortPlace(NamedTuple):
+    """A place whose minimum has to be lowered to the number of nurses there; whether someone has its skill, and who does not fill it."""
+
+    place: Place
+    minimum: int
+    there: int
+    owners: Tuple[Owner, ...]
+    is_known: bool
+
+
+class Shortage(NamedTuple):
+    """The minimum numbers to lower so that a roster exists, who works in it though she is away, whether it keeps absences, if there are
+    some, whether no roster can do with less, and who claims that."""
+
+    places: Tuple[ShortPlace, ...]
+    working: Tuple[Cell, ...]
+    keeps_absences: bool
+    is_proved: bool
+    claimed_by: str
+
+    @property
+    def lowered(self) -> int:
+        """By how much the minimum numbers are lowered in all."""
+        return sum(short.minimum - short.there for short in self.places)
 
 
 def only_minimums(week: Week) -> Week:
@@ -40,8 +74,8 @@ def only_minimums(week: Week) -> Week:
     return Week(scenario, week.history, data)
 
 
-def why_none(files: WeekFiles, week: Week) -> Iterator[str]:
-    """What to lower so that a roster exists, line by line."""
+def why_none(files: WeekFiles, week: Week) -> Shortage:
+    """What to lower so that a roster exists."""
     with tempfile.TemporaryDirectory() as name:
         folder = Path(name)
         easy = only_minimums(week)
@@ -49,11 +83,11 @@ def why_none(files: WeekFiles, week: Week) -> Iterator[str]:
         write_text(scenario, scenario_text(easy.scenario))
         write_text(data, week_text(easy.data))
         found = _solve(replace(files, scenario=scenario, week=data, early=False), roster)
-        rows = read_solution(roster).cells
-    yield from _missing(week, rows, found)
-    working = working_while_away(absences_of(week.data), rows)
-    if working:
-        yield f"{in_words(working)}, though away: no roster keeps every absence, even without minimum numbers; look at --fix"
+        cells = read_solution(roster).cells
+    number, away = numbers(cells), absences_of(week.data)
+    places = [_short(week, cells, place) for place, asked in week.data.requirements.items() if number[place] < asked.minimum]
+    working = tuple(working_while_away(away, cells))
+    return Shortage(tuple(places), working, bool(away) and not working, found.proved, found.claimed_by or "")
 
 
 def _solve(files: WeekFiles, roster: Path) -> SearchResult:
@@ -68,32 +102,47 @@ def _solve(files: WeekFiles, roster: Path) -> SearchResult:
         raise
 
 
-def _missing(week: Week, cells: Sequence[Cell], found: SearchResult) -> Iterator[str]:
-    number = numbers(cells)
-    short = {place: asked.minimum - number[place] for place, asked in week.data.requirements.items() if number[place] < asked.minimum}
+def _short(week: Week, cells: Sequence[Cell], place: Place) -> ShortPlace:
+    """A place that is not filled, and why nurses with its skill do not fill it in this roster."""
     away = absences_of(week.data)
-    kept = ", and keeps every absence" if away and not working_while_away(away, cells) else ""
-    if not short:
-        yield f"{EXISTS} that meets all minimum numbers{kept}."
-        return
-    lowered = sum(short.values())
-    if found.proved:
-        says = f", says {found.claimed_by}" if found.claimed_by else ""
-        yield f"No roster meets all minimum numbers{kept}. Lower these by {lowered} in all; no roster can do with less{says}:"
-    else:
-        yield f"These minimum numbers, lowered by {lowered} in all, have a roster{kept}; fewer may be enough:"
-    for place in short:
-        yield f"{DAYS[place.day]} {place.shift} {place.skill}: lower {week.data.requirements[place].minimum} to {number[place]}"
-        yield from _owners(week, cells, place)
-
-
-def _owners(week: Week, cells: Sequence[Cell], place: Place) -> Iterator[str]:
-    """The nurses who have the skill of a place that is not filled, and what they do in this roster."""
-    away = absences_of(week.data)
-    owners = [nurse for nurse, known in week.scenario.nurses.items() if place.skill in known.skills]
-    if not owners:
-        yield f"    nobody has the skill {place.skill}"
     there = {cell.nurse for cell in cells if Place(cell.day, cell.shift, cell.skill) == place}
-    for nurse in owners:
-        if nurse not in there:
-            yield f"    {nurse} {hindrance(week.scenario, week.history, away, cells, nurse, place) or 'could, if nothing else needs her'}"
+    known = [nurse for nurse, of_ward in week.scenario.nurses.items() if place.skill in of_ward.skills]
+    owners = tuple(
+        Owner(nurse, Absence(nurse, place.day, None) in away, hindrance(week.scenario, week.history, away, cells, nurse, place))
+        for nurse in known
+        if nurse not in there
+    )
+    return ShortPlace(place, week.data.requirements[place].minimum, numbers(cells)[place], owners, bool(known))
+
+
+def shortage_lines(found: Shortage) -> Iterator[str]:
+    """What to lower, line by line."""
+    yield shortage_head(found)
+    for short in found.places:
+        yield f"{DAYS[short.place.day]} {lowered_text(short)}"
+        if not short.is_known:
+            yield f"    nobody has the skill {short.place.skill}"
+        yield from (f"    {owner.nurse} {owner.why or CAN}" for owner in short.owners)
+    yield from kept_no_absence_lines(found)
+
+
+def shortage_head(found: Shortage) -> str:
+    """How much is to be lowered in all, and whether less is enough."""
+    kept = ", and keeps every absence" if found.keeps_absences else ""
+    if not found.places:
+        return f"A roster exists that meets all minimum numbers{kept}."
+    if not found.is_proved:
+        return f"These minimum numbers, lowered by {found.lowered} in all, have a roster{kept}; fewer may be enough:"
+    says = f", says {found.claimed_by}" if found.claimed_by else ""
+    return f"No roster meets all minimum numbers{kept}. Lower these by {found.lowered} in all; no roster can do with less{says}:"
+
+
+def lowered_text(short: ShortPlace) -> str:
+    """What to lower at a place, without its day."""
+    return f"{short.place.shift} {short.place.skill}: lower {short.minimum} to {short.there}"
+
+
+def kept_no_absence_lines(found: Shortage) -> Iterator[str]:
+    """Who works though she is away in the roster that lowers least, if someone does."""
+    if found.working:
+        yield f"{in_words(found.working)}, though away: no roster keeps every absence, even without minimum numbers; look at --fix"

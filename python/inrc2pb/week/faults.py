@@ -91,6 +91,10 @@ class ProgramFault(Exception):
         return self.message
 
 
+class Stopped(ProgramFault):
+    """A search that the user stopped before it had found a roster."""
+
+
 def page(name: str) -> str:
     """The path of a page: in a clone, or in an installation."""
     home = Path(__file__).resolve().parents[3]

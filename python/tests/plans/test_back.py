@@ -8,7 +8,7 @@ from test_plans import FolderTest
 from ward import run
 
 from inrc2pb.commands.plan import read_sheet
-from inrc2pb.plans import search_verbs
+from inrc2pb.plans import verbs
 from inrc2pb.plans.plan_search import Found
 from inrc2pb.plans.state import DayWord, read_state, with_days, without_last, words_of
 from inrc2pb.plans.ward import continued
@@ -18,7 +18,7 @@ from inrc2pb.week.records import Cell
 
 def _without_a_search(_, old, asked):
     """The old plan without the shifts of days away, as if a search had found it."""
-    return Found(old.with_cells(cell for cell in old.cells if (cell.nurse, cell.day) not in old.away), "", False)
+    return Found(old.with_cells(cell for cell in old.cells if (cell.nurse, cell.day) not in old.away))
 
 
 class BackTest(FolderTest):
@@ -26,9 +26,9 @@ class BackTest(FolderTest):
 
     def setUp(self):
         super().setUp()
-        stand_ins = {"_found": _without_a_search, "cost_lines": lambda _: [], "without_needless_changes": lambda _, new: new}
+        stand_ins = {"_found": _without_a_search, "penalties": lambda _: {}, "without_needless_changes": lambda _, new: new}
         for name, stand_in in stand_ins.items():
-            patched = mock.patch.object(search_verbs, name, stand_in)
+            patched = mock.patch.object(verbs, name, stand_in)
             patched.start()
             self.addCleanup(patched.stop)
 
@@ -160,9 +160,9 @@ class Reasons(BackTest):
         self.lines("plan", "--free")
 
         def works(_, old, asked):
-            return Found(old.with_cells([*old.cells, Cell("Chen", 5, "Late", "Nurse")]), "", False)
+            return Found(old.with_cells([*old.cells, Cell("Chen", 5, "Late", "Nurse")]))
 
-        with mock.patch.object(search_verbs, "_found", works):
+        with mock.patch.object(verbs, "_found", works):
             lines = self.lines("back", "Chen", "Sat")
         self.assertIn("Chen, Sat 5 Dec: Late Nurse instead of leave", lines)
         self.assertEqual(self.changes(), [["Chen", "Sat 5 Dec", "leave", "Late Nurse"]])

@@ -8,7 +8,8 @@ from test_kept_plans import KeptTest
 from ward import HAS_CBC, run
 
 from inrc2pb.commands.plan import read_sheet
-from inrc2pb.plans.not_kept import days_away_lines, exceeded_lines, not_kept_lines
+from inrc2pb.plans.facts import unkept
+from inrc2pb.plans.render import days_away_lines, exceeded_lines, fault_text, unkept_lines
 from inrc2pb.plans.state import read_state
 from inrc2pb.plans.swaps import Swap, Swaps
 from inrc2pb.plans.ward import continued, limits_of, plan_of
@@ -46,7 +47,7 @@ class Lines(ExceededTest):
             self.days(*[""] * 5, word, word)
             self.assertEqual(list(days_away_lines(self.read())), [f"{TWELVE}: {TAKES_TWO}"], word)
             self.assertEqual(list(exceeded_lines(self.read())), [f"{TWELVE}: {TAKES_TWO}"], word)
-            self.assertEqual([line for line in not_kept_lines(self.read()) if "Grace" in line], [], word)
+            self.assertEqual([line for line in unkept_lines(self.read(), unkept(self.read())) if "Grace" in line], [], word)
 
     def test_days_away_within_a_limit(self):
         # A maximum without `!` may be exceeded, and 12 of 12 are not too many.
@@ -127,7 +128,7 @@ class Lines(ExceededTest):
             kept_plan = replace(plan, limits=limits_of(plan.ward, plan.state, first))
             limits = {fact.nurse: fact.most for fact, _ in kept_plan.limits if getattr(fact, "kind", "") == "SHIFTS"}
             self.assertEqual(limits["Grace"], kept, first)
-            named = any("Grace has 12 shifts of at most 10" in line for line in not_kept_lines(kept_plan))
+            named = any("Grace has 12 shifts of at most 10" in line for line in unkept_lines(kept_plan, unkept(kept_plan)))
             self.assertEqual((named, bool(list(days_away_lines(kept_plan)))), (kept < 2, kept == 2), first)
 
 
@@ -147,7 +148,7 @@ class SwapsBesideTraining(ExceededTest):
         words for her."""
         self.days(*words)
         swaps, swap = Swaps(self.read()), Swap(nurse, "Grace", (day,))
-        return swaps.faults(swap), swap in [offer.swap for offer in swaps.offers(nurse, day)]
+        return [fault_text(swaps.plan, fault) for fault in swaps.faults(swap)], swap in [offer.swap for offer in swaps.offers(nurse, day)]
 
     def test_too_many_days_in_a_row_with_training(self):
         # With Sunday she works eleven days, in rows of five and of six, and with training on Saturday twelve in a row.

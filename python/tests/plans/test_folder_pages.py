@@ -17,7 +17,9 @@ from ward import ROSTER, files
 
 from inrc2pb.commands.plan import read_sheet
 from inrc2pb.plans import pages
+from inrc2pb.plans.outcome import Event, Status
 from inrc2pb.plans.plan_store import Means, PlanStore
+from inrc2pb.plans.render import lines
 from inrc2pb.plans.verbs import Verbs
 from inrc2pb.plans.ward_folder import WardFolder
 from inrc2pb.programs.progress import Progress
@@ -69,6 +71,10 @@ class FolderPages(KeptTest):
         means = Means(read_sheet, Progress(sys.stderr), lambda line: None)
         self.verbs, self.store = Verbs(WardFolder(self.ward), means), PlanStore(WardFolder(self.ward), means)
 
+    def said(self, verb, *words):
+        """What the verb says."""
+        return lines(self.verbs.done(Event(verb, words)))
+
     @property
     def state(self):
         """What the folder should have."""
@@ -84,7 +90,7 @@ class FolderPages(KeptTest):
     # ---- the steps of a user, and their right results
 
     def page(self):
-        self.verbs.page()
+        self.said("page")
         self.states.append(replace(self.state, is_published=True, calendars=self.state.shifts))
 
     def change(self, chooses):
@@ -102,7 +108,7 @@ class FolderPages(KeptTest):
         state = self.state
         last = state.first + 7 * DAY
         taken = chooses.choice(sorted(shift for shift in state.planned if shift[1] < last))
-        self.verbs.over([taken[0], f"{taken[1]}", "off"])
+        self.said("over", taken[0], f"{taken[1]}", "off")
         shifts = state.shifts - {taken}
         calendars = shifts if state.is_published else state.calendars
         worked = {**state.worked, state.monday: frozenset(shift for shift in shifts if shift[1] < last)}
@@ -118,7 +124,7 @@ class FolderPages(KeptTest):
     def undo(self, with_days=True):
         if with_days:
             self.days(self.states[-2].monday)
-        self.verbs.undo()
+        self.said("undo")
         self.states.pop()
 
     # ---- the contents of the folder
@@ -198,7 +204,7 @@ class Undone(FolderPages):
         chooses = random.Random(1)
         for verb in verbs:
             getattr(self, verb)(*[chooses] * (verb in ("change", "over")))
-        said = self.verbs.undo()
+        said = self.said("undo")
         self.states.pop()
         self.assert_pages(verbs)
         return said
@@ -226,8 +232,8 @@ class Undone(FolderPages):
 
     def test_undo_of_the_only_plan_leaves_nothing(self):
         self.change(random.Random(1))
-        self.verbs.undo()
-        self.verbs.undo()
+        self.said("undo")
+        self.said("undo")
         self.assertEqual([path.name for path in self.ward.glob("*.html")], [])
 
     def test_undo_of_the_end_of_a_period_beside_the_days_of_the_next_one(self):
@@ -248,7 +254,7 @@ class Undone(FolderPages):
             self.over(chooses)
             self.rows["plan"][1][1] = "wihs"
             self.write()
-            said = self.verbs.undo()
+            said = self.said("undo")
             self.states.pop()
             self.assertEqual([path.name for path in self.ward.glob("*.html")], [])
             self.assertEqual(self.in_calendars(), set())
@@ -259,39 +265,39 @@ class Undone(FolderPages):
     def test_undo_beside_a_sheet_that_cannot_be_read(self):
         self.page()
         reader = mock.Mock(side_effect=PermissionError(13, "Permission denied", "ward.ods"))
-        said = Verbs(WardFolder(self.ward), Means(reader, Progress(sys.stderr), print)).undo()
+        said = lines(Verbs(WardFolder(self.ward), Means(reader, Progress(sys.stderr), print)).done(Event("undo")))
         self.assertIn("its pages are not written: ward.ods: Permission denied", said[-1])
         self.assertEqual([path.name for path in self.ward.glob("*.html")], [])
 
     def test_a_page_that_cannot_be_taken_away(self):
         self.over(random.Random(1))
         with mock.patch.object(pages.Path, "unlink", side_effect=PermissionError(13, "Permission denied", "worked")):
-            said = self.verbs.undo()
-        self.assertIn("the plan holds, but its pages are not written: worked: Permission denied", said[-1])
-        self.assertEqual(self.verbs.status, 3)
+            found = self.verbs.done(Event("undo"))
+        self.assertIn("the plan holds, but its pages are not written: worked: Permission denied", lines(found)[-1])
+        self.assertEqual(found.status, Status.PAGES_NOT_WRITTEN)
 
     def test_pages_of_a_run_that_was_killed_are_told(self):
         self.page()
-        self.assertNotIn("another plan", "".join(self.verbs.check()))
+        self.assertNotIn("another plan", "".join(self.said("check")))
         # The plan is written, and its pages are not.
         with mock.patch.object(pages, "write_pages", side_effect=KeyboardInterrupt), self.assertRaises(KeyboardInterrupt):
-            self.verbs.over([])
-        warnings = [line for line in self.verbs.check() if line.startswith("warning: ")]
+            self.said("over")
+        warnings = [line for line in self.said("check") if line.startswith("warning: ")]
         for line, name in zip(warnings, ("roster.html", "wall.html")):
             says = "shows another plan than the one that holds, as if a run was killed: the verbs plan and page write it anew"
             self.assertEqual(line, f"warning: {name} {says}")
-        self.verbs.page()
-        self.assertNotIn("another plan", "".join(self.verbs.check()))
+        self.said("page")
+        self.assertNotIn("another plan", "".join(self.said("check")))
         # Pages of an older release do not say which plan they show.
         for name in ("roster.html", "wall.html"):
             (self.ward / name).write_text("<html/>")
-        self.assertNotIn("another plan", "".join(self.verbs.check()))
+        self.assertNotIn("another plan", "".join(self.said("check")))
 
     def test_other_files_stay(self):
         self.page()
         for name in ("notes.html", "calendars/mine.ics", "worked-2026-11-02.html"):
             (self.ward / name).write_text("mine")
-        self.verbs.undo()
+        self.said("undo")
         for name in ("notes.html", "calendars/mine.ics", "worked-2026-11-02.html"):
             self.assertEqual((self.ward / name).read_text(), "mine")
 
@@ -349,14 +355,14 @@ class Calendars(FolderPages):
         self.page()
         before = self.events("Finn")
         with mock.patch("time.time", return_value=datetime.datetime.now().timestamp() + 1):
-            self.verbs.over("Finn Fri off".split())
+            self.said("over", *"Finn Fri off".split())
         now = self.events("Finn")
         self.assertEqual(set(now), set(before))
         numbers = [int(re.search("SEQUENCE:([0-9]+)", one["20261204"])[1]) for one in (before, now)]
         self.assertLess(*numbers)
         self.assertEqual([date for date, event in now.items() if "STATUS:CANCELLED" in event], ["20261204"])
         # Later verbs keep the days that were worked, and the cancelled one.
-        self.verbs.over([])
+        self.said("over")
         self.assertEqual(["STATUS:CANCELLED" in event for event in self.events("Finn").values()].count(True), 1)
         self.assertEqual(set(self.events("Finn")), set(before))
 
@@ -379,11 +385,11 @@ class Calendars(FolderPages):
     def test_damaged_plans_of_the_past_hinder_no_page(self):
         self.page()
         roster = next(path for path in sorted((self.ward / "plans").glob("0002*"))) / "roster-0.txt"
-        self.verbs.over([])
+        self.said("over")
         roster.write_text("")
         (self.ward / "plans" / "undone").mkdir()
         (self.ward / "plans" / "undone" / "0007-other").mkdir()
-        self.assertTrue(self.verbs.page()[-1].endswith("/calendars"))
+        self.assertTrue(self.said("page")[-1].endswith("/calendars"))
 
 
 if __name__ == "__main__":

@@ -14,17 +14,13 @@ from inrc2pb.judging.limits import limits_way_out
 from inrc2pb.judging.rules import Charge
 from inrc2pb.commands.plan import read_sheet
 from inrc2pb.plans import pages, ward_folder
-from inrc2pb.plans.bound_words import UNKNOWN, bound_words
 from inrc2pb.plans.changes import days_off_beside_absences, shift_changes, with_few_changes, without_needless_changes
-from inrc2pb.plans.days_beside import beside_lines
-from inrc2pb.plans.leave_words import leave_lines
-from inrc2pb.plans.not_kept import not_kept_lines
+from inrc2pb.plans.facts import unkept
 from inrc2pb.plans.plan_days import PlanDays
-from inrc2pb.plans.search_verbs import part_lines
-from inrc2pb.plans.shift_changes import call_lines, change_lines
+from inrc2pb.plans.plan_search import known_bound
+from inrc2pb.plans.render import beside_lines, bound_text, call_lines, change_lines, days_off_lines, part_lines, unkept_lines, wish_lines
 from inrc2pb.plans.state import DayWord, NurseDay, Record, read_record, read_state, record_text
 from inrc2pb.plans.ward import limits_for_leavers, plan_of
-from inrc2pb.plans.wish_words import wish_lines
 from inrc2pb.search.bounds import PLAIN, PROVER, Bound
 from inrc2pb.shown.page import page_text
 from inrc2pb.week.facts import Charged
@@ -189,8 +185,8 @@ class Words(KeptTest):
         plan = self.read()
         plan = plan.with_cells(cell for cell in plan.cells if cell.nurse != "Grace" or cell.day not in (7, 8, 9))
         says = "Mon 7 Dec to Wed 9 Dec: 5 days off in a row (2 before Mon 7 Dec), at most 4: her days away (leave) count as days off"
-        self.assertEqual(list(leave_lines(plan)), [f"30 points: Grace, {says}"])
-        self.assertEqual(list(leave_lines(self.plan)), [])
+        self.assertEqual(list(days_off_lines(plan)), [f"30 points: Grace, {says}"])
+        self.assertEqual(list(days_off_lines(self.plan)), [])
 
     def test_the_limit_of_a_nurse_who_leaves_is_told_and_keeps_her_shifts_of_days_before_a_search(self):
         # Grace has five shifts from Monday to Friday. Her limit is that of the part of the plan before she leaves, rounded up.
@@ -205,10 +201,10 @@ class Words(KeptTest):
                 limits = limits_for_leavers(gone.ward, gone.state, gone.limits, day)
                 limit = next(fact.most for fact, _ in limits if isinstance(fact, Charged) and fact.nurse == "Grace")
                 self.assertEqual(limit, min(above, max(0, shifts - most)), (first, day))
-            says = [line for line in not_kept_lines(gone) if f"Grace has {shifts} shifts of at most {most}" in line]
+            says = [line for line in unkept_lines(gone, unkept(gone)) if f"Grace has {shifts} shifts of at most {most}" in line]
             self.assertEqual(bool(says), shifts > most, first)
             allowed = replace(gone, limits=limits_for_leavers(gone.ward, gone.state, gone.limits, first - 1))
-            self.assertFalse([line for line in not_kept_lines(allowed) if "Grace has" in line])
+            self.assertFalse([line for line in unkept_lines(allowed, unkept(allowed)) if "Grace has" in line])
 
     @unittest.skipUnless(HAS_CBC, "cbc is not installed")
     def test_who_leaves_with_too_many_shifts_is_named_and_an_earlier_day_takes_one(self):
@@ -239,7 +235,7 @@ class Words(KeptTest):
             limit = next(fact.most for fact, _ in plan.limits if isinstance(fact, Charged) and fact.nurse == "Grace")
             self.assertEqual(limit, most)
             # Only an eleventh shift is above the limit.
-            self.assertEqual(bool([line for line in not_kept_lines(plan) if "Grace has" in line]), more in rosters)
+            self.assertEqual(bool([line for line in unkept_lines(plan, unkept(plan)) if "Grace has" in line]), more in rosters)
 
     def test_days_off_beside_days_away_cost_more(self):
         # Grace is off on both weekends, and ill on Friday: her weekend costs more, and days on which she is always off do not count.
@@ -440,11 +436,11 @@ class Training(KeptTest):
             (1080, PROVER, 1170, f"{proved}; {beside} this one (not proved)"),
         ):
             search.bound, search.bound_beside = Bound(points, by, "absences and limits"), above
-            self.assertEqual(bound_words(search), says)
+            self.assertEqual(bound_text(known_bound(search)), says)
         search.bound, search.bound_beside = Bound(1170, PROVER), None
-        self.assertEqual(bound_words(search), "no plan costs less than this one (proved by inrc2pb-bound)")
+        self.assertEqual(bound_text(known_bound(search)), "no plan costs less than this one (proved by inrc2pb-bound)")
         search.bound = None
-        self.assertEqual(bound_words(search), UNKNOWN)
+        self.assertEqual(bound_text(known_bound(search)), "how much less another plan can cost is not known")
 
     def test_what_no_plan_can_keep_is_told(self):
         # Only Dilek works nights, one is needed on Monday, and she has training on Tuesday.

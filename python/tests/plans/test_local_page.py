@@ -16,7 +16,8 @@ from served_page import ServedPage
 from test_plans import DATED, DATES
 from ward import HAS_CBC, run
 
-from inrc2pb.plans.local_forms import verb_of
+from inrc2pb.plans.local_forms import event_of
+from inrc2pb.plans.outcome import Event
 
 
 class Page(ServedPage):
@@ -198,15 +199,13 @@ class Page(ServedPage):
 
     def test_the_seconds_of_a_search(self):
         self.assertIn('name="seconds" type="number" min="1" max="3600" placeholder="7"', self.asks()[1])
-        verbs = mock.Mock()
-        for seconds, fields in ((7.0, {"verb": "plan"}), (3.0, {"verb": "plan", "seconds": "3"})):
-            verb_of(fields, self.jobs.seconds)(verbs)
-            verbs.plan.assert_called_with([], seconds, False)
         for seconds, fields in ((7.0, {}), (3.0, {"seconds": "3"})):
-            verb_of({"verb": "back", "nurse": "Chen", **fields}, self.jobs.seconds)(verbs)
-            verbs.back.assert_called_with(["Chen"], seconds)
-            verb_of({"verb": "away", "reason": "ill", "nurse": "Chen", **fields}, self.jobs.seconds)(verbs)
-            verbs.away.assert_called_with("ill", ["Chen"], seconds)
+            for form, event in (
+                ({"verb": "plan"}, Event("plan", (), seconds)),
+                ({"verb": "back", "nurse": "Chen"}, Event("back", ("Chen",), seconds)),
+                ({"verb": "away", "reason": "ill", "nurse": "Chen"}, Event("ill", ("Chen",), seconds)),
+            ):
+                self.assertEqual(event_of({**form, **fields}, self.jobs.seconds), event)
         self.write_plan()
         self.assertEqual(self.asks()[1].count('name="seconds"'), 3)
 

@@ -1,0 +1,192 @@
+"""What a user asks for, and what comes of it, as values: `verbs` makes them, and `render` has their words.
+
+A question of the page is an outcome before anything is searched or written; the exit status of the command is that of the outcome.
+"""
+
+import enum
+from dataclasses import dataclass, field
+from pathlib import Path
+from typing import Dict, Mapping, NamedTuple, Optional, Tuple, Union
+
+from ..programs.program import BROKEN_RULE, NO_ROSTER, READ_OR_WRITE
+from ..search.bounds import PLAIN, Bound
+from ..search.why_none import Shortage
+from ..week.faults import FileFault, Misuse
+from .state import NurseDay, Record
+from .swaps import Fault, Offer, Swap, Swaps
+from .ward import WardPlan
+from .ward_sheet import WeekRow
+
+
+class Event(NamedTuple):
+    """What a user asks for: a verb, or a reason to be away; the names and days after it; the seconds of a search, if they are not the usual
+    ones; whether all shifts may change; and whether a swap is written."""
+
+    verb: str
+    words: Tuple[str, ...] = ()
+    seconds: Optional[float] = None
+    free: bool = False
+    do: bool = False
+
+
+class Status(enum.Enum):
+    """How an event ended."""
+
+    DONE = 0
+    PAGES_NOT_WRITTEN = READ_OR_WRITE
+    NO_PLAN = NO_ROSTER
+    # A plan that does not keep each absence and limit, or a swap that cannot be.
+    NOT_KEPT = BROKEN_RULE
+
+
+class Pages(NamedTuple):
+    """The pages of a folder that were written; those that were taken away, since they showed another plan; and the fault that ended this,
+    if there was one."""
+
+    written: Tuple[Path, ...] = ()
+    gone: Tuple[Path, ...] = ()
+    fault: Optional[OSError] = None
+
+
+class Searched(NamedTuple):
+    """What a search was asked for: its first day, whether few shifts may change, and its seconds."""
+
+    first: int
+    few_changes: bool
+    seconds: float
+
+
+class KnownBound(NamedTuple):
+    """What a search knows of all other plans: the penalty of the best one, the least that a plan can cost, and the least that one can cost
+    that also keeps the days beside days away, if that is known."""
+
+    penalty: int
+    bound: Bound
+    beside: Optional[int] = None
+
+    @property
+    def is_proved(self) -> bool:
+        """Whether `inrc2pb-bound` has proved it."""
+        return self.bound.by != PLAIN
+
+
+@dataclass(frozen=True)
+class Checked:
+    """The spreadsheet was read: its plan, the pages that show another plan, and the rows of needs that are as they were last period."""
+
+    plan: WardPlan
+    status: Status = Status.DONE
+    other_pages: Tuple[str, ...] = ()
+    anew: Tuple[WeekRow, ...] = ()
+
+
+@dataclass(frozen=True)
+class Away:
+    """A nurse is away on these days for a reason, or, for the reason `back`, she is not any more: the plans before and with this, and for
+    who is back the reason that she had."""
+
+    old: WardPlan
+    new: WardPlan
+    nurse: str
+    days: Tuple[int, ...]
+    word: str
+    was: str = ""
+    status: Status = Status.DONE
+
+
+@dataclass(frozen=True)
+class Planned:
+    """A search has found a plan: the plan before it, with its absences, if there is one; the same with the absences of now; what was asked;
+    the new plan; the penalty of its weeks; the bound, if it speaks of such plans; whether the user stopped the search."""
+
+    before: Optional[WardPlan]
+    old: WardPlan
+    asked: Searched
+    plan: WardPlan
+    penalties: Mapping[int, int]
+    bound: Optional[KnownBound]
+    is_stopped: bool
+    absence: Optional[Away] = None
+    pages: Pages = Pages()
+    status: Status = Status.DONE
+
+
+@dataclass(frozen=True)
+class NoPlan:
+    """No plan was found: the week that has no roster, and why."""
+
+    plan: WardPlan
+    week: int
+    shortage: Shortage
+    absence: Optional[Away] = None
+    status: Status = Status.NO_PLAN
+
+
+@dataclass(frozen=True)
+class Offers:
+    """Who could take a nurse's shift on a day."""
+
+    swaps: Swaps
+    nurse: str
+    day: int
+    offers: Tuple[Offer, ...]
+    status: Status = Status.DONE
+
+
+@dataclass(frozen=True)
+class Swapped:
+    """A swap of two nurses: the plan before and after it, its faults, whether it takes a swap of theirs back, and who else could take the
+    first shift. It is written, or only looked at."""
+
+    old: WardPlan
+    new: WardPlan
+    swap: Swap
+    faults: Tuple[Fault, ...] = ()
+    takes_back: bool = False
+    offers: Optional[Offers] = None
+    pages: Optional[Pages] = None
+    status: Status = Status.DONE
+
+
+@dataclass(frozen=True)
+class WeekOver:
+    """A week is over: the plan before it, the plan with the week as it was worked, the plan that goes on, which is None after the last week
+    of a period, and the days on which nurses were away or back by the corrections."""
+
+    old: WardPlan
+    worked: WardPlan
+    next: Optional[WardPlan]
+    away: Dict[NurseDay, str] = field(default_factory=dict)
+    pages: Pages = Pages()
+    status: Status = Status.DONE
+
+
+@dataclass(frozen=True)
+class Published:
+    """The plan hangs on the wall now."""
+
+    plan: WardPlan
+    pages: Pages = Pages()
+    status: Status = Status.DONE
+
+
+class Undoing(NamedTuple):
+    """A plan's folder and its record, if it is not damaged."""
+
+    folder: Path
+    record: Optional[Record]
+
+
+@dataclass(frozen=True)
+class Undone:
+    """A plan was undone, and another one holds now, if there is one. `plan` is None if the spreadsheet has a fault."""
+
+    undone: Undoing
+    holds: Optional[Undoing] = None
+    plan: Optional[WardPlan] = None
+    fault: Union[FileFault, Misuse, OSError, None] = None
+    pages: Pages = Pages()
+    status: Status = Status.DONE
+
+
+Outcome = Union[Checked, Away, Planned, NoPlan, Offers, Swapped, WeekOver, Published, Undone]

@@ -1,0 +1,501 @@
+"""The words of outcomes and of facts about a plan: no other module of this package writes sentences about them."""
+
+from functools import singledispatch
+from typing import Dict, Iterable, Iterator, List, Mapping, Optional, Tuple, Union
+
+from ..judging.absences import in_words, joined, readable
+from ..judging.leave import paid_days
+from ..judging.limits import limits_in_words, limits_way_out
+from ..search.why_none import CAN, kept_no_absence_lines, lowered_text, shortage_head
+from ..sheets.plan_sheets import COUNTED
+from ..shown.charge_words import difference
+from ..shown.charge_words import in_words as charge_text
+from ..shown.ward_sentences import history_sentences, limit_sentences, part_sentences, scenario_sentences, supply_text, ward_sentence
+from ..shown.week_sentences import DescribedWeek, weeks_sentences
+from ..shown.why import plain_breach_lines
+from ..week.faults import fault_line
+from ..week.hints import plural, quoted
+from ..week.records import Cell, Request
+from .changes import BESIDE_POINTS, CALL_POINTS, POINTS, ShiftChange, called, shift_changes
+from .facts import (
+    Beside, Broken, TooMany, Unkept, beside_days_away, broken, broken_agreements, charged_days_off, exceeded_in_weeks, lost_wishes,
+    too_many_by_days_away, too_many_shifts, unkept,
+)  # fmt: skip
+from .outcome import (
+    Away, Checked, KnownBound, NoPlan, Offers, Outcome, Pages, Planned, Published, Searched, Status, Swapped, Undoing, Undone, WeekOver,
+)  # fmt: skip
+from .plan_days import PERIOD_IS_OVER, WEEK_DAYS, PlanDays
+from .state import BACK, NurseDay, in_week
+from .swaps import Fault, Kind, Offer, Swaps
+from .ward import ALWAYS_OFF, WardPlan, for_leavers
+from .ward_sheet import WeekRow
+
+OFF = "off"
+# The most swaps that are offered.
+MOST_OFFERS = 8
+UNKNOWN_BOUND = "how much less another plan can cost is not known"
+
+
+@singledispatch
+def lines(outcome: Outcome, write: str = "") -> List[str]:
+    """The lines of an outcome. `write` says how a user writes a swap that was only looked at."""
+    raise TypeError(type(outcome))
+
+
+# ---- shifts, days and nurses
+
+
+def cell_text(cell: Optional[Cell]) -> str:
+    """A shift with its skill in words, or `off`."""
+    return readable(f"{cell.shift} {cell.skill}") if cell else OFF
+
+
+def change_lines(
+    changes: Iterable[ShiftChange], days: PlanDays, away: Mapping[NurseDay, str] = {}, before: Mapping[NurseDay, str] = {}
+) -> List[str]:
+    """A line for each change. `away` has words for the nurses' days on which they are away, and `before` those of the older plan."""
+    found = []
+    for one in changes:
+        now, older = (cell_text(cell) if cell else words.get(one.place, OFF) for cell, words in ((one.now, away), (one.before, before)))
+        found.append(f"{readable(one.nurse)}, {days.text(one.day)}: {now} instead of {older}")
+    return found
+
+
+def call_lines(changes: Iterable[ShiftChange], away: Mapping[NurseDay, str] = {}) -> List[str]:
+    """The nurses to call, if there are some."""
+    nurses = called(changes, away)
+    return [f"{plural(len(nurses), 'nurse')} to call: {quoted(map(readable, nurses), len(nurses))}"] if nurses else []
+
+
+def wish_lines(old: Optional[WardPlan], new: WardPlan) -> List[str]:
+    """The wishes that are not granted, or only those that an older plan grants and this one does not."""
+
+    def text(wish: Request) -> str:
+        asked = f"no {readable(wish.shift)}" if wish.shift else OFF
+        return f"{readable(wish.nurse)}, {asked} on {new.days.text(wish.day)}"
+
+    return [f"{'wish lost' if old else 'wish not granted'}: {text(wish)}" for wish in lost_wishes(old, new)]
+
+
+# ---- what a plan does not keep
+
+
+def unkept_lines(plan: WardPlan, found: Iterable[Unkept]) -> List[str]:
+    """Who works while she is away, or above a limit that holds, and what would help."""
+    said: List[str] = []
+    for one in found:
+        week, names, cells = f"week {one.week}", plan.day_names(one.week), plan.state.roster(one.week)
+        if one.working:
+            skills = joined(dict.fromkeys(readable(cell.skill) for cell in one.working))
+            said.append(f"{week}: no plan was found that keeps every absence: {in_words(one.working, names)}")
+            said.append(f"{week}: lower the minimum of {skills} in the sheet needs, or give someone the skill")
+        else:
+            said.append(f"{week}: no plan was found that keeps every limit: {limits_in_words(one.above, cells, names)}")
+            said.append(f"{week}: {limits_way_out(plan.week(one.week), one.above, cells)}")
+    return said
+
+
+def exceeded_lines(plan: WardPlan) -> List[str]:
+    """The limits that hold which the plan that holds exceeds, and what would help; none if there is no plan."""
+    said = []
+    for number, charge in exceeded_in_weeks(plan):
+        words = limits_in_words([charge], plan.state.roster(number), plan.day_names(number))
+        said.append(f"week {number} exceeds a limit that holds: {words}: plan again, or allow her more")
+    return said + [_shifts_line(plan, one) for one in too_many_shifts(plan)]
+
+
+def days_away_lines(plan: WardPlan) -> List[str]:
+    """The nurses whose shifts are too many only since days away count as shifts, and what would help."""
+    return [_shifts_line(plan, one) for one in too_many_by_days_away(plan)]
+
+
+def _shifts_line(plan: WardPlan, one: TooMany) -> str:
+    """That a nurse has too many shifts, and what would help."""
+    above, counted = one.shifts - one.most, plan.ward.credit.get(one.nurse, 0)
+    part = f", {counted} of them for days away," if counted else ""
+    number = f"{plural(one.shifts, 'shift')}{part} of at most {one.most} in the period"
+    cure = "no plan takes so many away, since the others were worked or are held: allow her more"
+    if one.last is not None:
+        begin = f"plan from {plan.days.text(one.last)} on, or from an earlier day"
+        cure = f"{begin}, takes {above} away if the needs allow it; or allow her more"
+    return readable(f"{one.nurse} has {number}, and this limit holds: {cure}")
+
+
+def beside_text(days: PlanDays, one: Beside) -> str:
+    """What is wrong beside days away."""
+    before, day = one.days
+    if not one.shift:
+        number = plural(one.number, "day")
+        span = days.span(one.days)
+        return f"{readable(one.nurse)} has {number} in a row with work or training, {span}, and her contract at most {one.most} with work"
+    night = days.text(before) if day else "the Sunday before"
+    return readable(f"{one.nurse} works {one.shift} on {night}, and has {one.word} on {days.text(day)}")
+
+
+def beside_lines(plan: WardPlan) -> List[str]:
+    """What is wrong beside days away, a line for each."""
+    return [beside_text(plan.days, one) for one in beside_days_away(plan)]
+
+
+def days_off_lines(plan: WardPlan) -> List[str]:
+    """A line for each charge for too many days off in a row, if the nurse is away on some of them."""
+    said = []
+    for one in charged_days_off(plan):
+        text = charge_text(one.charge, names=plan.day_names(one.week))
+        said.append(readable(f"{one.charge.cost} points: {text}: her days away ({joined(one.words)}) count as days off"))
+    return said
+
+
+def _broken_text(plan: WardPlan, one: Broken) -> str:
+    if one.rule:
+        return f"week {one.week}, {readable(one.rule)}"
+    words = limits_in_words(one.above, plan.state.roster(one.week), plan.day_names(one.week))
+    return f"week {one.week} exceeds a limit that holds: {words}"
+
+
+# ---- pages and periods
+
+
+def pages_lines(pages: Pages) -> List[str]:
+    """The pages that were written and taken away."""
+    if pages.fault:
+        return [f"the plan holds, but its pages are not written: {fault_line(pages.fault)}"]
+    said = [f"written: {', '.join(map(str, pages.written))}"] if pages.written else []
+    if pages.gone:
+        wall = ": take down what hangs on the wall" if any(path.name == "wall.html" for path in pages.gone) else ""
+        said.append(f"taken away: {', '.join(map(str, pages.gone))}{wall}")
+    return said
+
+
+def anew_lines(rows: Iterable[WeekRow], days: PlanDays) -> Iterator[str]:
+    """That the weeks of these rows count anew in a period of these days, a line for each week."""
+    found: Dict[int, List[str]] = {}
+    for row in sorted(rows, key=lambda row: (row.week, row.number)):
+        found.setdefault(row.week, []).append(str(row.number))
+    for week, numbers in found.items():
+        named = f"row{'s' if len(numbers) > 1 else ''} {joined(numbers)}"
+        span = f", now {days.span([WEEK_DAYS * week, WEEK_DAYS * week + WEEK_DAYS - 1])}" if days.monday else ""
+        yield f"sheet needs, {named}: weeks count anew, and this is week {week}{span}: correct it, or delete what the last period needed"
+
+
+# ---- the spreadsheet
+
+
+def warning_lines(found: Checked) -> List[str]:
+    """What is odd in the spreadsheet and the folder, before a search."""
+    told = [
+        f"{name} shows another plan than the one that holds, as if a run was killed: the verbs plan and page write it anew"
+        for name in found.other_pages
+    ]
+    return [*told, *found.plan.ward.warnings, *anew_lines(found.anew, found.plan.days)]
+
+
+@lines.register
+def _(found: Checked, write: str = "") -> List[str]:
+    plan = found.plan
+    said = [f"warning: {line}" for line in (*warning_lines(found), *exceeded_lines(plan), *beside_lines(plan))]
+    if plan.is_planned and plan.weeks:
+        said += plain_breach_lines(plan.view())
+    said = [*(said or ["No mistake found."]), "", *_ward_lines(plan)]
+    if found.status != Status.DONE:
+        said += ["", "No plan can keep all of this: do what the warnings at the top say."]
+    return [readable(line) for line in said]
+
+
+def _ward_lines(plan: WardPlan) -> List[str]:
+    """The ward and the weeks that are not over in sentences: first its size, and what its weeks ask for and the contracts supply."""
+    limits = limit_sentences(plan.scenario, plan.data[plan.state.open_week]) if plan.weeks else ()
+    past = history_sentences(plan.past, plan.ward.credit)
+    weeks = [DescribedWeek(number, plan.data[number], plan.reasons(number), in_week(plan.ward.held, number)) for number in plan.weeks]
+    sentences = weeks_sentences(plan.scenario, weeks, lambda days: plan.days.spans([plan.first + day for day in days]))
+    return [ward_sentence(plan.scenario), *_supplies(plan), "", *scenario_sentences(plan.scenario), *limits, "", *past, "", *sentences]
+
+
+def _supplies(plan: WardPlan) -> Iterator[str]:
+    """A line for each week. A plan takes nothing from what is left after the weeks that are over."""
+    paid = {number: paid_days(plan.reasons(number), COUNTED) for number in plan.weeks}
+    for number in plan.weeks:
+        own_first = [paid[number], *(days for other, days in paid.items() if other != number)]
+        supply = supply_text(plan.scenario, plan.past, plan.data[number], own_first)
+        yield f"Week {number}, {plan.days.text(WEEK_DAYS * number)}: {supply}."
+
+
+# ---- a search
+
+
+def search_lines(plan: WardPlan, asked: Searched, end: str) -> List[str]:
+    """What a search begins with; `end` says how a user ends it."""
+    days = plan.days.span([asked.first, plan.days.total - 1])
+    said = [f"{days}, at most {asked.seconds:g} s{f'; {end}' if end else ''}"]
+    if asked.few_changes and plan.is_planned:
+        beside = f"{BESIDE_POINTS} more on a day off beside days away"
+        changed = f"{POINTS} points for a new shift of a nurse ({beside}), {CALL_POINTS} for a nurse to call"
+        said.append(f"penalties and the bound of the search have also {changed}; the points of the plan have not")
+    return said
+
+
+def absence_lines(found: Away) -> List[str]:
+    """That a nurse is away or back, before a search."""
+    nurse = readable(found.nurse)
+    if found.word != BACK:
+        return [f"{nurse}: {found.word}, {found.old.days.span(found.days)}"]
+    stays: Dict[str, List[int]] = {}
+    for day in range(found.days[0], found.new.days.total):
+        stays.setdefault(found.new.away.get(NurseDay(found.nurse, day), ALWAYS_OFF), []).append(day)
+    stays.pop(ALWAYS_OFF, None)
+    said = [f"{nurse}: back, {found.old.days.span(found.days)} ({found.was})"]
+    return said + [f"{nurse} stays away: {word}, {found.new.days.spans(days)}" for word, days in stays.items()]
+
+
+@lines.register
+def _(found: Away, write: str = "") -> List[str]:
+    begin = absence_lines(found) if found.word == BACK else []
+    return [*begin, *_counts_now(found)]
+
+
+def _counts_now(found: Away) -> List[str]:
+    """The shifts that the spreadsheet holds and the absence lifts, and what counts of the nurse's contract now."""
+    lifted = [found.old.held.get(NurseDay(found.nurse, day)) for day in found.days] if found.word != BACK else []
+    said = [
+        readable(f"{cell.nurse}, {found.old.days.text(cell.day)}: {found.word} lifts {cell.shift}, which the spreadsheet holds")
+        for cell in lifted
+        if cell
+    ]
+    return [*said, *part_lines(found.old, found.new, found.nurse)]
+
+
+def part_lines(old: WardPlan, new: WardPlan, nurse: str) -> List[str]:
+    """What counts of the nurse's contract now, if her shifts of the period are other ones."""
+    before, now = (plan.scenario.contract_of(nurse) for plan in (old, new))
+    if before.assignments == now.assignments:
+        return []
+    whole = f"{nurse}: contract {now.name} counts as a whole again."
+    return [readable(line) for line in part_sentences(new.scenario, [nurse])] or [readable(whole)]
+
+
+@lines.register
+def _(found: Planned, write: str = "") -> List[str]:
+    new, missing = found.plan, unkept(found.plan)
+    said = _counts_now(found.absence) if found.absence else []
+    said += unkept_lines(new, missing)
+    if len(missing) > len(unkept(for_leavers(new, found.asked.first))):
+        said.append(f"shifts before {new.days.text(found.asked.first)} stay: plan from an earlier day can take some of them away")
+    said += [*days_away_lines(new), *_changed(found)]
+    said += [_agreement_text(found.old, new, one) for one in broken_agreements(found.old, new)]
+    said += [*beside_lines(new), *days_off_lines(new), *wish_lines(found.before, new), *cost_lines(found.penalties)]
+    if not missing and not found.asked.few_changes:
+        said.append(bound_text(found.bound))
+    if found.is_stopped:
+        said.append("stopped: this is the best plan until then")
+    if missing:
+        said.append("this plan is written, but it does not keep what the first lines say: do what helps and plan again, or undo")
+    return [*said, *pages_lines(found.pages)]
+
+
+def _changed(found: Planned) -> List[str]:
+    """The shifts that change, and who has to be called; only their number in a plan that nobody has seen."""
+    before, new = found.before, found.plan
+    if not before:
+        return []
+    changes = shift_changes(before.cells, new.cells)
+    if not (before.state.published or found.asked.few_changes):
+        return [f"{plural(len(changes), 'shift')} {'differs' if len(changes) == 1 else 'differ'} from the last plan"]
+    if not changes:
+        return ["no shift changes"]
+    calls = call_lines(changes, new.away) or ["no nurse has to be called"]
+    return [*change_lines(changes, new.days, new.away, before.away), *calls]
+
+
+def _agreement_text(old: WardPlan, new: WardPlan, one: NurseDay) -> str:
+    """That a plan does not keep what two nurses have agreed on."""
+    now, agreed = readable(new.away.get(one) or cell_text(new.works.get(one))), cell_text(old.works.get(one))
+    return f"this breaks an agreed swap: {readable(one.nurse)}, {new.days.text(one.day)}: {now}, agreed was {agreed}"
+
+
+def cost_lines(penalties: Mapping[int, int]) -> List[str]:
+    """What each week costs, and all of them."""
+    said = [f"week {number}: {points} points" for number, points in penalties.items()]
+    return [*said, f"{plural(len(said), 'week')}: {sum(penalties.values())} points"] if len(said) > 1 else said
+
+
+def bound_text(known: Optional[KnownBound]) -> str:
+    """What a plan costs at least, and whether that is proved; after it the other bound, if it is higher."""
+    if not known:
+        return UNKNOWN_BOUND
+    kept = f" that keeps all {known.bound.only}" if known.bound.only else ""
+    bounds = [(f"no plan{kept}", known.bound.points, f"proved by {known.bound.by}" if known.is_proved else "not proved")]
+    if known.beside is not None and known.beside > known.bound.points:
+        bounds.append(("with training as work in a row and no night shift before it or leave, none", known.beside, "not proved"))
+    said = [f"{plans} costs less than {'this one' if known.penalty <= least else f'{least} points'} ({by})" for plans, least, by in bounds]
+    if known.penalty > bounds[-1][1]:
+        said.append(f"this one costs {known.penalty}: more seconds may help")
+    return "; ".join(said)
+
+
+@lines.register
+def _(found: NoPlan, write: str = "") -> List[str]:
+    plan, begin = found.plan, _counts_now(found.absence) if found.absence else []
+    said = [f"week {found.week}: {shortage_head(found.shortage)}"]
+    for short in found.shortage.places:
+        said.append(readable(f"{plan.days.text(WEEK_DAYS * found.week + short.place.day)} {lowered_text(short)}"))
+        if not short.is_known:
+            said.append(readable(f"    nobody has the skill {short.place.skill}"))
+        said += [readable(f"    {owner.nurse} {owner.why or CAN}") for owner in short.owners if not owner.is_away]
+        away = [owner.nurse for owner in short.owners if owner.is_away]
+        if away:
+            said.append(readable(f"    away: {', '.join(away)}"))
+    return [*begin, *said, *(readable(line) for line in kept_no_absence_lines(found.shortage))]
+
+
+# ---- swaps
+
+
+def fault_text(plan: WardPlan, fault: Fault) -> str:
+    """Why a swap cannot be."""
+    nurse, day = fault.nurse, plan.days.text(fault.day)
+    if fault.kind is Kind.LIMIT:
+        above = (limits_in_words(one.charges, one.cells, plan.day_names(one.week)) for one in fault.above)
+        return f"{', '.join(above)}, and this limit holds"
+    if fault.kind is Kind.BESIDE and fault.beside:
+        return beside_text(plan.days, fault.beside)
+    texts = {
+        Kind.HELD: f"{nurse} has her shift on {day} for certain, by the spreadsheet",
+        Kind.AWAY: f"{nurse} is away on {day} ({fault.what})",
+        Kind.NEVER: f"{nurse} never works {fault.what}",
+        Kind.SKILL: f"{nurse} does not have the skill {fault.what}",
+        Kind.FOLLOWS: f"{nurse} may not work {fault.what} on {day} after {fault.before}",
+    }
+    return readable(texts[fault.kind])
+
+
+def offer_text(swaps: Swaps, offer: Offer) -> str:
+    """Who takes a shift, which of hers is taken for it, and what that adds to the points."""
+    one, other, days = offer.swap
+    given = ((day, swaps.works(other, day)) for day in days)
+    taken = "".join(f", and {readable(one)} her {readable(cell.shift)} on {swaps.plan.days.text(day)}" for day, cell in given if cell)
+    return f"{offer.cost:+5}  {readable(other)} takes it{taken}"
+
+
+def nobody_text(found: Offers) -> str:
+    """Why nobody can take a shift, and what to do."""
+    if NurseDay(found.nurse, found.day) in found.swaps.plan.held:
+        return f"the sheet plan fixes it for {readable(found.nurse)}: empty her cell of this day, save the sheet, and look again"
+    fault = "each swap would break a hard rule, a limit that holds or an absence, or move a fixed shift"
+    return f"{fault}: look at a swap with one nurse, which says what it breaks"
+
+
+@lines.register
+def _(found: Offers, write: str = "") -> List[str]:
+    cell, day = found.swaps.works(found.nurse, found.day), found.swaps.plan.days.text(found.day)
+    shift = f"{readable(found.nurse)}'s {readable(cell.shift if cell else '')} on {day}"
+    if not found.offers:
+        return [f"nobody can take {shift}: {nobody_text(found)}"]
+    offers = (offer_text(found.swaps, offer) for offer in found.offers[:MOST_OFFERS])
+    return [f"who could take {shift}, and what it adds to the points:", *offers]
+
+
+@lines.register
+def _(found: Swapped, write: str = "") -> List[str]:
+    offers = lines(found.offers) if found.offers else []
+    if found.faults:
+        return [*(f"not possible: {fault_text(found.old, fault)}" for fault in found.faults), "nothing is written", *offers]
+    said = swap_lines(found)
+    if found.pages is None:
+        return [*said, f"nothing is written: {write}", *offers] if write else said
+    kept = [] if found.takes_back else ["later plans keep this swap"]
+    return [*said, *exceeded_lines(found.new), *kept, *pages_lines(found.pages)]
+
+
+def swap_lines(found: Swapped) -> List[str]:
+    """What a swap changes and costs."""
+    old, new = found.old, found.new
+    changes = shift_changes(old.cells, new.cells)
+    known = beside_days_away(old)
+    beside = [beside_text(new.days, one) for one in beside_days_away(new) if one not in known]
+    said = [*change_lines(changes, old.days), *call_lines(changes), *wish_lines(old, new), *beside, *_charge_lines(old, new)]
+    return [*said, "this takes their swap back: later plans do not keep it"] if found.takes_back else said
+
+
+def _charge_lines(old: WardPlan, new: WardPlan) -> Iterator[str]:
+    """The charges that a swap saves or adds, and their sum; nothing if a plan has no cost, since it breaks a hard rule."""
+    before, now = old.view().penalty, new.view().penalty
+    if before is None or now is None:
+        return
+    saved, added = difference(_charged(old), _charged(new))
+    yield from (f"{cost:+5}  {words}" for cost, words in (*((-cost, words) for cost, words in saved), *added))
+    yield f"{now - before:+5}  in all: {now} points instead of {before}"
+
+
+def _charged(plan: WardPlan) -> List[Tuple[int, str]]:
+    """The cost of each charge, and the charge in words."""
+    weeks = ((week.charges or (), plan.day_names(week.number)) for week in plan.view().weeks)
+    return [(charge.cost, readable(charge_text(charge, names=names))) for charges, names in weeks for charge in charges]
+
+
+# ---- the end of a week, publishing and undo
+
+
+@lines.register
+def _(found: WeekOver, write: str = "") -> List[str]:
+    old, worked = found.old, found.worked
+    said: List[str] = []
+    for (nurse, day), word in found.away.items():
+        one = Away(old, worked, nurse, (day,), word)
+        said += [f"{readable(nurse)}: {word}, {old.days.text(day)}", *(line for line in _counts_now(one) if line not in said)]
+    said += change_lines(shift_changes(old.cells, worked.cells), old.days, worked.away, old.away)
+    number = old.state.open_week
+    known = broken(old, number)
+    by_hand = [_broken_text(worked, one) for one in broken(worked, number) if one not in known]
+    said += [*by_hand, "if it was not worked so: undo, then over with other corrections"] if by_hand else []
+    return [*said, *(_goes_on(found, found.next) if found.next else _period_over(found))]
+
+
+def _goes_on(found: WeekOver, new: WardPlan) -> List[str]:
+    """The plan goes on: the rules that it breaks now, and shifts that are too many."""
+    begin = new.days.text(new.first)
+    now = [one for number in new.weeks for one in broken(new, number)]
+    known = [one for number in new.weeks for one in broken(found.old, number)]
+    said = [f"week {found.old.state.open_week} is over: the plan goes on from {begin}", *(_broken_text(new, one) for one in now)]
+    if any(one not in known for one in now):
+        said.append(f"after these corrections the plan does not fit any more: plan again, from {begin} on")
+    return [*said, *days_away_lines(new), *pages_lines(found.pages)]
+
+
+def _period_over(found: WeekOver) -> List[str]:
+    """The period is over: what to write for the next one."""
+    days = found.worked.days.next()
+    begin = f"from {days.monday} on, " if days.monday else ""
+    then = "into the sheet plan, with its wishes and absences; then plan"
+    closed = f"week {found.old.state.open_week} is over, and with it the {PERIOD_IS_OVER}"
+    rows = anew_lines(found.worked.ward.week_rows, days)
+    return [*pages_lines(found.pages), closed, f"write the days of the next one, {begin}{then}", *rows]
+
+
+@lines.register
+def _(found: Published, write: str = "") -> List[str]:
+    return [*exceeded_lines(found.plan), *pages_lines(found.pages)]
+
+
+def made_text(one: Undoing) -> str:
+    """The verb and the time of a plan; the name of its folder if it is damaged."""
+    return readable(one.record.made) if one.record else one.folder.name
+
+
+@lines.register
+def _(found: Undone, write: str = "") -> List[str]:
+    undone, holds = made_text(found.undone), found.holds
+    said = [f"undone: {undone}" if holds else f"undone: {undone}; there is no plan any more"]
+    if holds:
+        is_same = found.undone.record is not None and found.undone.record.verb == "page"
+        said.append(f"the plan of {made_text(holds)} holds again{', with the same shifts' if is_same else ''}")
+    said += [*(exceeded_lines(found.plan) if found.plan else []), *pages_lines(found.pages)]
+    return [*said, f"its pages are not written: {fault_line(found.fault)}"] if found.fault and holds else said
+
+
+def question_lines(found: Union[Outcome, Undoing, None]) -> List[str]:
+    """What a question says of an event that is not done yet; why it cannot be, if that is known."""
+    if isinstance(found, Undoing):
+        return [f"this takes back: {made_text(found)}"]
+    if isinstance(found, (Away, Swapped)):
+        return lines(found)
+    return []
