@@ -1,0 +1,100 @@
+"""Tests of what verbs do if a search ends without a plan: who has stopped it is not asked to wait for another one."""
+
+import datetime
+import unittest
+from dataclasses import replace
+from unittest import mock
+
+from test_kept_plans import KeptTest
+from test_plans import TWO_WEEKS
+from ward import run
+
+from inrc2pb.commands.plan import read_sheet
+from inrc2pb.plans import verbs
+from inrc2pb.plans.outcome import Event
+from inrc2pb.plans.plan_search import ALL, MOST, Found
+from inrc2pb.plans.plan_store import Means, plan_texts
+from inrc2pb.plans.state import NurseDay
+from inrc2pb.plans.ward_folder import WardFolder
+from inrc2pb.programs.program import BROKEN_RULE, NO_ROSTER
+from inrc2pb.programs.progress import Progress
+from inrc2pb.search.why_none import Owner, Shortage, ShortPlace
+from inrc2pb.week.faults import ProgramFault, Stopped
+from inrc2pb.week.records import Place
+
+REASON = "no plan was found: a search for the reason, at most 30 s for each week\n"
+AGAIN = "no plan was found that keeps all agreed swaps: a search for one that may break them\n"
+LATE = "no rosters were found in this time: give more"
+
+
+class WithoutPlan(KeptTest):
+    def ended(self, *results, why=None):
+        """The status, output and messages of the verb plan, if its searches end so, one after another."""
+        searches = mock.patch.object(verbs, "search_plan", side_effect=results)
+        with searches, mock.patch.object(verbs, "why_no_plan", return_value=why):
+            return run("plan", self.ward, "plan")
+
+    def agree(self):
+        """Grace and Chen have agreed on Monday."""
+        state = replace(self.plan.state, agreed=(NurseDay("Grace", 0), NurseDay("Chen", 0)))
+        now = datetime.datetime(2026, 11, 28, 12, 30)
+        WardFolder(self.ward).add("swap", plan_texts(self.plan.with_state(state), state.record("swap Grace Chen 2026-11-30", now)), now)
+
+    def test_who_stops_a_search_waits_for_no_other_one(self):
+        for agree in (lambda: None, self.agree):
+            agree()
+            status, printed, said = self.ended(Stopped(NO_ROSTER, "stopped before the first plan"))
+            self.assertEqual((status, printed), (5, ""))
+            self.assertTrue(said.endswith("inrc2pb-plan: stopped before the first plan\n"), said)
+            self.assertFalse(REASON in said or AGAIN in said, said)
+
+    def test_the_words_of_a_fault_stop_nothing(self):
+        # Only the user stops a search: a solver that was stopped has found no plan.
+        for message in (LATE, "clasp was stopped by the signal 9"):
+            status, printed, said = self.ended(ProgramFault(NO_ROSTER, message))
+            self.assertEqual((status, printed), (5, ""))
+            self.assertIn(REASON, said)
+            self.assertTrue(said.splitlines()[-1].startswith(f"inrc2pb-plan: {message}"), said)
+        self.agree()
+        status, _, said = self.ended(ProgramFault(NO_ROSTER, LATE), Found(self.read(TWO_WEEKS)))
+        self.assertEqual(status, 0, said)
+        self.assertTrue(AGAIN in said and REASON not in said, said)
+
+    def test_another_fault_is_told_at_once(self):
+        self.agree()
+        _, printed, said = self.ended(ProgramFault(BROKEN_RULE, "week-0.txt line 3"))
+        self.assertEqual(printed, "")
+        self.assertFalse(REASON in said or AGAIN in said, said)
+
+    def test_agreed_days_are_kept_by_the_first_search_and_mostly_by_the_second(self):
+        self.agree()
+        asked = []
+
+        def search(old, wanted, _):
+            asked.append(wanted.agreed)
+            if wanted.agreed == ALL:
+                raise ProgramFault(NO_ROSTER, LATE)
+            return Found(old)
+
+        with mock.patch.object(verbs, "search_plan", search):
+            means = Means(read_sheet, Progress(None), lambda line: None)
+            verbs.Verbs(WardFolder(self.ward), means).done(Event("plan"))
+        self.assertEqual(asked, [ALL, MOST])
+
+    def test_why_there_is_no_plan_in_dates(self):
+        owners = (Owner("Amara", True, "is away"), Owner("Bruno", False, "works Late on this day"), Owner("Ewa", True, "is away"),
+                  Owner("Chen", False, ""))  # fmt: skip
+        place = ShortPlace(Place(2, "Day", "Charge"), 1, 0, owners, True)
+        status, printed, _ = self.ended(ProgramFault(NO_ROSTER, LATE), why=(1, Shortage((place,), (), True, True, "")))
+        self.assertEqual(status, 5)
+        self.assertEqual(printed.splitlines(), [
+            "week 1: No roster meets all minimum numbers, and keeps every absence. Lower these by 1 in all; no roster can do with less:",
+            "Wed 9 Dec Day Charge: lower 1 to 0",
+            "    Bruno works Late on this day",
+            "    Chen could, if nothing else needs her",
+            "    away: Amara, Ewa",
+        ])  # fmt: skip
+
+
+if __name__ == "__main__":
+    unittest.main()
