@@ -9,15 +9,14 @@ from typing import List, Optional, Sequence
 
 from ..plans.local_jobs import Jobs
 from ..plans.local_server import LOCAL, LocalServer
-from ..plans.plan_days import PlanDays
 from ..plans.outcome import Event, Outcome
-from ..plans.plan_store import Means
 from ..plans.render import lines
 from ..plans.state import DayWord
+from ..plans.store import Means, WardFolder
 from ..plans.verbs import Verbs
-from ..plans.ward_folder import WardFolder
 from ..plans.ward import Ward
 from ..plans.ward_sheet import week_rows, with_written
+from ..plans.words import PlanDays
 from ..programs.interrupts import interrupts
 from ..programs.program import find_program
 from ..programs.progress import Progress

@@ -13,9 +13,9 @@ from ..judging.limits import exceeded
 from ..judging.rules import Charge
 from ..week.facts import SHIFTS, Charged
 from ..week.records import Cell, Request
-from .plan_days import WEEK_DAYS
 from .state import NurseDay
 from .ward import ALWAYS_OFF, WardPlan
+from .words import WEEK_DAYS
 
 # The rule on the shifts of a period.
 _TOTAL = "S6"

@@ -9,9 +9,9 @@ from ..week.faults import Misuse
 from ..week.hints import quoted
 from .local_jobs import Fields
 from .outcome import Event
-from .plan_days import WEEK_DAYS
 from .verbs import CHANGE_SECONDS, WEEK_SECONDS
 from .ward import WardPlan
+from .words import WEEK_DAYS
 
 _MOST_SECONDS = 3600.0
 _NEW_PLAN = "a new plan, and its pages"

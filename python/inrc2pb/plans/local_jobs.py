@@ -9,10 +9,9 @@ from ..programs.progress import Progress
 from ..week.faults import FileFault, FileFaults, Misuse, ProgramFault, fault_line
 from . import render
 from .outcome import Event, Outcome, Status, Undoing, Undone, WeekOver
-from .plan_days import PeriodOver
-from .plan_store import Means, Reader
+from .store import Means, Reader, WardFolder
 from .verbs import Verbs
-from .ward_folder import WardFolder
+from .words import PeriodOver
 
 Fields = Mapping[str, str]
 # How a user of the page writes a swap that was only looked at.

@@ -15,12 +15,12 @@ from .local_forms import FORMS, STAMP, form_markup, sure_markup, swap_markup
 from .local_jobs import Fields, Said
 from .outcome import Swapped
 from .pages import CALENDARS, roster_content
-from .plan_days import WEEK_DAYS
 from .render import MOST_OFFERS, nobody_text, offer_text
 from .state import NurseDay
 from .swaps import Swaps
 from .verbs import offers_of
 from .ward import WardPlan
+from .words import WEEK_DAYS
 
 REFRESH_SECONDS = 2
 _ROSTER = "roster"

@@ -18,8 +18,8 @@ from .local_forms import STAMP, SURE, event_of, not_written, writes
 from .local_jobs import Busy, Changed, Fields, Jobs, Said, fault_lines
 from .local_page import Place, Shown, calendars_markup, page_markup
 from .pages import CALENDARS, own_calendars, roster_content
-from .plan_days import PeriodOver
 from .ward import WardPlan
+from .words import PeriodOver
 
 # The most bytes of a form and of its address, its most fields, and the seconds that a browser has for a request.
 _MOST_BYTES, _MOST_FIELDS, _SECONDS = 10_000, 20, 20
@@ -213,7 +213,7 @@ class _Handler(BaseHTTPRequestHandler):
             self._refuse(403, "open the address that inrc2pb-plan has printed")
             return None, {}
         try:
-            return place[len(self.site.base) :], dict(parse_qsl(query, max_num_fields=_MOST_FIELDS))
+            return place[len(self.site.base) :], dict(parse_qsl(query, keep_blank_values=True, max_num_fields=_MOST_FIELDS))
         except ValueError:
             self._refuse(400, "this is no address of the page")
             return None, {}

@@ -13,9 +13,9 @@ from ..week.dates import DAY, date_text
 from ..week.writing import write_text
 from .facts import unkept
 from .outcome import Pages
-from .plan_days import WEEK_DAYS, PlanDays
 from .render import beside_lines, days_away_lines, unkept_lines
 from .ward import WardPlan
+from .words import WEEK_DAYS, PlanDays
 
 ROSTER, WALL, CALENDARS = "roster.html", "wall.html", "calendars"
 # The name of the plan that a page shows, in its head.

@@ -24,11 +24,11 @@ from .facts import (
 from .outcome import (
     Away, Checked, KnownBound, NoPlan, Offers, Outcome, Pages, Planned, Published, Searched, Status, Swapped, Undoing, Undone, WeekOver,
 )  # fmt: skip
-from .plan_days import PERIOD_IS_OVER, WEEK_DAYS, PlanDays
 from .state import BACK, NurseDay, in_week
 from .swaps import Fault, Kind, Offer, Swaps
 from .ward import ALWAYS_OFF, WardPlan, for_leavers
 from .ward_sheet import WeekRow
+from .words import PERIOD_IS_OVER, WEEK_DAYS, PlanDays
 
 OFF = "off"
 # The most swaps that are offered.

@@ -14,7 +14,7 @@ from ..week.faults import FileFault
 from ..week.files import history_text, read_history, read_scenario, read_solution, solution_text
 from ..week.records import Cell, History, Scenario, Solution
 from ..week.slots import text_of
-from .plan_days import WEEK_DAYS, PlanDays
+from .words import WEEK_DAYS, PlanDays
 
 NAME, START = "plan.json", "start.txt"
 # The most bytes of a plan's file: that of the largest ward has some thousand days away.

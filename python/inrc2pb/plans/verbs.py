@@ -21,14 +21,12 @@ from .facts import unkept
 from .outcome import (
     Away, Checked, Event, NoPlan, Offers, Outcome, Pages, Planned, Published, Searched, Status, Swapped, Undoing, Undone, WeekOver,
 )  # fmt: skip
-from .plan_days import WEEK_DAYS
-from .plan_search import MOST, NONE, Asked, Found, search_plan, why_no_plan
-from .plan_store import Means, PlanStore, fitted, known_record, penalties
+from .searching import MOST, NONE, Asked, Found, search_plan, why_no_plan
 from .state import BACK, NurseDay, State, read_state, with_days, without_last, words_of
+from .store import Means, PlanStore, WardFolder, fitted, known_record, penalties
 from .swaps import Swap, Swaps, swapped
 from .ward import ALWAYS_OFF, WardPlan, first_plan, for_leavers, limits_of, plan_of
-from .ward_folder import WardFolder
-from .wording import Wording
+from .words import WEEK_DAYS, Wording
 
 # The seconds of a search, for each week if it is a whole plan.
 WEEK_SECONDS, CHANGE_SECONDS = 20.0, 30.0

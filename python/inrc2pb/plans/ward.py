@@ -19,9 +19,9 @@ from ..week.files import read_history, read_scenario, read_solution, read_week
 from ..week.hints import plural
 from ..week.reasons import read_reasons
 from ..week.records import Absence, Cell, History, Place, Requirement, Scenario, Week, WeekData
-from .plan_days import PERIOD_IS_OVER, WEEK_DAYS, PeriodOver, PlanDays
 from .state import NurseDay, State, in_week
 from .ward_sheet import WeekRow
+from .words import PERIOD_IS_OVER, WEEK_DAYS, PeriodOver, PlanDays
 
 FACTS, REASONS = "facts.txt", "reasons.txt"
 ALWAYS_OFF = "off"

@@ -11,7 +11,7 @@ from test_plans import FolderTest
 from inrc2pb.commands.plan import read_sheet
 from inrc2pb.plans.local_jobs import Jobs
 from inrc2pb.plans.local_server import LocalServer
-from inrc2pb.plans.ward_folder import WardFolder
+from inrc2pb.plans.store import WardFolder
 from inrc2pb.programs.interrupts import interrupts
 
 

@@ -9,7 +9,7 @@ from ward import run
 
 from inrc2pb.commands.plan import read_sheet
 from inrc2pb.plans import verbs
-from inrc2pb.plans.plan_search import Found
+from inrc2pb.plans.searching import Found
 from inrc2pb.plans.state import DayWord, read_state, with_days, without_last, words_of
 from inrc2pb.plans.ward import continued
 from inrc2pb.week.files import read_history, read_scenario

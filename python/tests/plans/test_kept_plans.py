@@ -13,14 +13,14 @@ from ward import HAS_CBC, files, run
 from inrc2pb.judging.limits import limits_way_out
 from inrc2pb.judging.rules import Charge
 from inrc2pb.commands.plan import read_sheet
-from inrc2pb.plans import pages, ward_folder
+from inrc2pb.plans import pages, store
 from inrc2pb.plans.changes import days_off_beside_absences, shift_changes, with_few_changes, without_needless_changes
 from inrc2pb.plans.facts import unkept
-from inrc2pb.plans.plan_days import PlanDays
-from inrc2pb.plans.plan_search import known_bound
 from inrc2pb.plans.render import beside_lines, bound_text, call_lines, change_lines, days_off_lines, part_lines, unkept_lines, wish_lines
+from inrc2pb.plans.searching import known_bound
 from inrc2pb.plans.state import DayWord, NurseDay, Record, read_record, read_state, record_text
 from inrc2pb.plans.ward import limits_for_leavers, plan_of
+from inrc2pb.plans.words import PlanDays
 from inrc2pb.search.bounds import PLAIN, PROVER, Bound
 from inrc2pb.shown.page import page_text
 from inrc2pb.week.facts import Charged
@@ -373,7 +373,7 @@ class Disks(KeptTest):
 
     def test_a_full_disk(self):
         before = self.texts()
-        with mock.patch.object(ward_folder, "write_text", side_effect=OSError(errno.ENOSPC, "No space left on device")):
+        with mock.patch.object(store, "write_text", side_effect=OSError(errno.ENOSPC, "No space left on device")):
             status, printed, said = run("plan", self.ward, "over")
         self.assertEqual((status, printed, said.count("\n")), (3, "", 1), said)
         self.assertRegex(said, "plans/0002-.*-over: No space left on device: the disk is full: free some space")
@@ -388,7 +388,7 @@ class Disks(KeptTest):
 
     def test_a_folder_that_may_not_be_written(self):
         before = self.texts()
-        with mock.patch.object(ward_folder.tempfile, "mkdtemp", side_effect=OSError(errno.EACCES, "Permission denied", str(self.ward))):
+        with mock.patch.object(store.tempfile, "mkdtemp", side_effect=OSError(errno.EACCES, "Permission denied", str(self.ward))):
             status, printed, said = run("plan", self.ward, "over")
         self.assertEqual((status, printed, said.count("\n")), (3, "", 1), said)
         self.assertIn("Permission denied: you may not read or write it", said)

@@ -20,12 +20,10 @@ from ward import HAS_CBC, HELPERS, ROSTER, HelperTest, files, program, run
 from inrc2pb.commands.plan import read_sheet
 from inrc2pb.plans.changes import with_few_changes, with_old_skills
 from inrc2pb.plans.local_server import LocalServer
-from inrc2pb.plans.plan_days import OtherPlan, PlanDays
-from inrc2pb.plans.plan_store import plan_texts
+from inrc2pb.plans.store import WardFolder, plan_texts
 from inrc2pb.plans.swaps import Swap, Swaps
 from inrc2pb.plans.ward import first_plan
-from inrc2pb.plans.ward_folder import WardFolder
-from inrc2pb.plans.wording import Wording
+from inrc2pb.plans.words import OtherPlan, PlanDays, Wording
 from inrc2pb.sheets.ward_template import EXAMPLE
 from inrc2pb.week.facts import Charged, Claim
 from inrc2pb.week.faults import Misuse

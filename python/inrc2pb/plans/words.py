@@ -1,14 +1,17 @@
-"""The days of a plan, as a user writes and reads them."""
+"""What users write after a verb, and how days are said: one grammar of nurses, days and dates."""
 
 import datetime
 import itertools
 import re
-from typing import Collection, NamedTuple, Optional, Sequence
+from typing import Collection, List, NamedTuple, NoReturn, Optional, Sequence, Tuple
 
-from ..judging.absences import joined
+from ..judging.absences import joined, readable
+from ..sheets.sheet_rows import tidy
 from ..week.dates import DAY, MONTHS, date_text
 from ..week.faults import Misuse
+from ..week.hints import quoted
 from ..week.records import DAYS
+from ..week.slots import did_you_mean
 
 WEEK_DAYS = len(DAYS)
 _WEEKDAY = re.compile("(mon|tue|wed|thu|fri|sat|sun)[a-z]* ?([0-9]{1,2})?", re.IGNORECASE)
@@ -100,3 +103,80 @@ class PlanDays(NamedTuple):
         except ValueError:
             raise Misuse(f"there is no day '{text}': write a date such as {self.head(0)}") from None
         return (date - self.monday).days
+
+
+class Wording:
+    """The words after a verb, which are taken one after another; a comma after a word counts for nothing. `usage` is an example of the
+    whole line."""
+
+    def __init__(self, words: Sequence[str], nurses: Collection[str], days: PlanDays, first: int, usage: str) -> None:
+        self._left = [text for text in (tidy(word).rstrip(",;") for word in words) if text]
+        self._nurses, self._days, self._first, self._usage = nurses, days, first, usage
+
+    @property
+    def is_over(self) -> bool:
+        """Whether no word is left."""
+        return not self._left
+
+    def nurse(self) -> str:
+        """A nurse. Her name may be several words, up to the next day, or the beginning of a name that only she has."""
+        if self.is_over:
+            self._misuse("a nurse is missing")
+        text = self._left.pop(0)
+        while self._left and not is_day(self._left[0]) and not _named(text, self._nurses, whole=True):
+            text += f" {self._left.pop(0)}"
+        return self._known("nurse", text, self._nurses)
+
+    def day(self, near: Optional[int] = None) -> int:
+        """A day; a day of the week is the first one from the day `near` on, or from the first day that is not over."""
+        if self.is_over:
+            self._misuse("a day is missing")
+        text = self._left.pop(0)
+        if self._left and self._left[0].isdigit():
+            text += f" {self._left.pop(0)}"
+        if text[-1:].isdigit() and self._left and self._left[0].title() in MONTHS and not _named(self._left[0], self._nurses):
+            text += f" {self._left.pop(0)}"
+        return self._days.number(text, self._first if near is None else near)
+
+    def open_day(self, near: Optional[int] = None) -> int:
+        """The same for a day that is not in a week that is over."""
+        found = self.day(near)
+        if found < self._first:
+            raise Misuse(f"{self._days.text(found)} is in a week that is over: the plan goes on from {self._days.text(self._first)}")
+        return found
+
+    def one_of(self, words: Collection[str]) -> str:
+        """The next word, if it is one of these, or else nothing is taken."""
+        if self.is_over or self._left[0].casefold() not in words:
+            return ""
+        return self._left.pop(0).casefold()
+
+    def shift(self, names: Collection[str], skills: Collection[str]) -> Tuple[str, str]:
+        """One of these shift types, and the skill that follows it, as in `Late/Nurse`, or nothing."""
+        if self.is_over:
+            self._misuse("a shift type is missing")
+        shift, _, skill = self._left.pop(0).partition("/")
+        return self._known("shift type", shift, names), self._known("skill of hers", skill, skills) if skill else ""
+
+    def end(self) -> None:
+        """No word may be left."""
+        if self._left:
+            self._misuse(f"'{self._left[0]}' is a word too many")
+
+    def _known(self, kind: str, text: str, names: Collection[str]) -> str:
+        same, begun = _named(text, names, whole=True), _named(text, names)
+        if len(same or begun) == 1:
+            return (same or begun)[0]
+        if begun:
+            raise Misuse(f"'{text}' may be {quoted(map(readable, begun))}: write the whole name")
+        otherwise = f"write one of {quoted(map(readable, names))}"
+        raise Misuse(f"'{text}' is no {kind}: {did_you_mean(text.replace(' ', '_'), names, otherwise, readable)}")
+
+    def _misuse(self, what: str) -> NoReturn:
+        raise Misuse(f"{what}: write, for example, {self._usage}")
+
+
+def _named(text: str, names: Collection[str], whole: bool = False) -> List[str]:
+    """The names that begin with this text, or that equal it if it is a whole name; case does not matter."""
+    wanted = text.replace(" ", "_").casefold()
+    return [name for name in names if name.casefold()[: None if whole else len(wanted)] == wanted]

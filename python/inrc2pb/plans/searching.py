@@ -23,9 +23,9 @@ from ..week.records import Cell, Solution, Week, WeekData
 from ..week.writing import write_text
 from .changes import CALL_POINTS, days_off_beside_absences, with_few_changes, with_old_skills
 from .outcome import KnownBound
-from .plan_days import WEEK_DAYS
 from .state import NurseDay, in_week
 from .ward import FACTS, WardPlan, limits_for_leavers
+from .words import WEEK_DAYS
 
 # How a search keeps agreed days.
 NONE, MOST, ALL = "none", "most", "all"
