@@ -1,14 +1,15 @@
 -- The weeks of a leaf, one after another.
 use Rattle.std.proofs.Common.{◌≡◌, ℕ, zero, suc, ◌+◌, ◌<◌, ◌≤◌, Bool, true, false, ap, refl, sym, ◌∙◌, subst, arith, List, [], ◌∷◌, length, map, drop, slice_index_or}
 use Rattle.std.specs.List.{AllByRecursion, list_any}
+use Rattle.rota_core.specs.PriceTables.{IsForWeek}
 use Rattle.rota_core.specs.Problem.{Problem}
 use Rattle.rota_core.specs.Sizes.{Numbers}
 use Rattle.rota_certificate.specs.CertificateBounds.{thousandths}
 use Rattle.rota_certificate.specs.Facts.{Case}
 use Rattle.rota_certificate.specs.LeafBounds.{leaf_weeks, may_choose, nurse_count}
+use Rattle.rota_certificate.specs.LentLeaves.{AreFit, Fits, IsLeaf, LeafTables, prices_lent, week_lent, weeks_of}
 use Rattle.rota_certificate.specs.NurseBounds.{LeafWeek, charge_totals}
-use Rattle.rota_certificate.specs.Stages.{AreFit, Fits, IsFreeOfTotals, IsLeaf, IsStage, all_of, later_of, prices_lent, week_lent, week_of, weeks_of}
-use Rattle.rota_certificate.specs.declared.stages.LentLeaf.{LentLeaf}
+use Rattle.rota_certificate.specs.Stages.{IsFreeOfTotals, IsStage, later_of, week_of}
 use Rattle.rota_certificate.specs.declared.stages.LentWeek.{LentWeek}
 use Rattle.rota_certificate.specs.declared.stages.Stage.{Stage}
 
@@ -53,20 +54,20 @@ drop-from case w (one ∷ weeks) (suc i) d inside =
     rw (weeks-cons case w one weeks)
     (rest ∙ ap (λ (k : ℕ). week_at case k (slice_index_or weeks i d) ∷ drop (suc i) (weeks_from case (w + 1) weeks)) e)
 
-pub drop-lent : (leaf : LentLeaf) (i : ℕ) (d : LentWeek) → i < length leaf.weeks.now →
-    drop i (weeks_of leaf) ≡ (week_at leaf.case.now i (slice_index_or leaf.weeks.now i d) ∷ drop (i + 1) (weeks_of leaf))
+pub drop-lent : (leaf : LeafTables) (i : ℕ) (d : LentWeek) → i < length leaf.weeks →
+    drop i (weeks_of leaf) ≡ (week_at leaf.case i (slice_index_or leaf.weeks i d) ∷ drop (i + 1) (weeks_of leaf))
 drop-lent leaf i d inside =
     let start : 0 + i ≡ i = omega arith in
     let e : suc i ≡ i + 1 = omega arith in
-    drop-from leaf.case.now 0 leaf.weeks.now i d inside ∙
-    ap (λ (k : ℕ). week_at leaf.case.now k (slice_index_or leaf.weeks.now i d) ∷ drop (suc i) (weeks_of leaf)) start ∙
-    ap (λ (k : ℕ). week_at leaf.case.now i (slice_index_or leaf.weeks.now i d) ∷ drop k (weeks_of leaf)) e
+    drop-from leaf.case 0 leaf.weeks i d inside ∙
+    ap (λ (k : ℕ). week_at leaf.case k (slice_index_or leaf.weeks i d) ∷ drop (suc i) (weeks_of leaf)) start ∙
+    ap (λ (k : ℕ). week_at leaf.case i (slice_index_or leaf.weeks i d) ∷ drop k (weeks_of leaf)) e
 
 -- the weeks from the index of this one on
-pub drop-at : (leaf : LentLeaf) (i : ℕ) (one : LentWeek) → i < length leaf.weeks.now → one ≡ slice_index_or leaf.weeks.now i one →
-    drop i (weeks_of leaf) ≡ (week_at leaf.case.now i one ∷ drop (i + 1) (weeks_of leaf))
+pub drop-at : (leaf : LeafTables) (i : ℕ) (one : LentWeek) → i < length leaf.weeks → one ≡ slice_index_or leaf.weeks i one →
+    drop i (weeks_of leaf) ≡ (week_at leaf.case i one ∷ drop (i + 1) (weeks_of leaf))
 drop-at leaf i one inside is =
-    drop-lent leaf i one inside ∙ ap (λ (week : LentWeek). week_at leaf.case.now i week ∷ drop (i + 1) (weeks_of leaf)) (sym is)
+    drop-lent leaf i one inside ∙ ap (λ (week : LentWeek). week_at leaf.case i week ∷ drop (i + 1) (weeks_of leaf)) (sym is)
 
 drop-from_end : (case : Case) (w : ℕ) (weeks : List LentWeek) (i : ℕ) → length weeks ≤ i → drop i (weeks_from case w weeks) ≡ []
 drop-from_end case w [] zero past = weeks-none case w
@@ -74,8 +75,15 @@ drop-from_end case w [] (suc i) past = rw (weeks-none case w) refl
 drop-from_end case w (one ∷ weeks) zero past = absurd (omega arith)
 drop-from_end case w (one ∷ weeks) (suc i) past = rw (weeks-cons case w one weeks) (drop-from_end case (w + 1) weeks i (omega arith))
 
-pub drop-end : (leaf : LentLeaf) (i : ℕ) → length leaf.weeks.now ≤ i → drop i (weeks_of leaf) ≡ []
-drop-end leaf i past = drop-from_end leaf.case.now 0 leaf.weeks.now i past
+pub drop-end : (leaf : LeafTables) (i : ℕ) → length leaf.weeks ≤ i → drop i (weeks_of leaf) ≡ []
+drop-end leaf i past = drop-from_end leaf.case 0 leaf.weeks i past
+
+-- a week of a list that is the leaf's is the leaf's week with that index
+pub lent-at : (leaf : LeafTables) (weeks : List LentWeek) (i : ℕ) (d : LentWeek) → weeks ≡ leaf.weeks → d ≡ slice_index_or weeks i d →
+    slice_index_or weeks i d ≡ slice_index_or leaf.weeks i (slice_index_or weeks i d)
+lent-at leaf weeks i d same is =
+    subst (λ (all : List LentWeek). slice_index_or weeks i d ≡ slice_index_or all i (slice_index_or weeks i d)) same
+    (ap (λ (one : LentWeek). slice_index_or weeks i one) is)
 
 -- ---- the next week
 
@@ -93,15 +101,13 @@ fits-next other next one numbers limits contract fits = record {
 abbrev pub next_of : Stage → LentWeek → Stage
 next_of stage one = record stage { instance = one.instance; prices = one.prices; week = stage.week + 1 }
 
-module _ (stage : Stage) (d : LentWeek) (is : IsStage stage) (more : stage.week + 1 < length stage.leaf.weeks.now) where
-  abbrev pub one : LentWeek
-  one = slice_index_or stage.leaf.weeks.now (stage.week + 1) d
-
+module _ (stage : Stage) (one : LentWeek) (at : one ≡ slice_index_or stage.leaf.now.weeks (stage.week + 1) one) (is : IsStage stage)
+    (more : stage.week + 1 < length stage.leaf.now.weeks) where
   next-fits : Fits (week_of stage).week one
-  next-fits = all-at (Fits (week_of stage).week) stage.leaf.weeks.now (stage.week + 1) d is.fit more
+  next-fits = subst (Fits (week_of stage).week) (sym at) (all-at (Fits (week_of stage).week) stage.leaf.now.weeks (stage.week + 1) one is.fit more)
 
   pub next-left : later_of stage ≡ (week_of (next_of stage one) ∷ later_of (next_of stage one))
-  next-left = drop-lent stage.leaf (stage.week + 1) d more
+  next-left = drop-at stage.leaf.now (stage.week + 1) one more at
 
   pub next-numbers : (week_lent one).numbers ≡ (week_of stage).week.numbers
   next-numbers = next-fits.numbers
@@ -114,7 +120,7 @@ module _ (stage : Stage) (d : LentWeek) (is : IsStage stage) (more : stage.week 
     inside = more;
     count = is.count;
     shape = next-fits.shape;
-    fit = all-map (Fits (week_of stage).week) (Fits (week_lent one)) stage.leaf.weeks.now
+    fit = all-map (Fits (week_of stage).week) (Fits (week_lent one)) stage.leaf.now.weeks
         (λ x fits. fits-next (week_of stage).week (week_lent one) x next-fits.numbers next-fits.limits next-fits.contract fits) is.fit;
     free = λ none. subst (AllByRecursion IsFreeOfTotals) next-left (is.free none).1;
   }
@@ -126,51 +132,49 @@ free-all : (weeks : List LeafWeek) → charge_totals weeks ≡ false → AllByRe
 free-all [] none = tt
 free-all (one ∷ weeks) none = (grind (arith, none), free-all weeks (grind (arith, none)))
 
-first-fit : (weeks : List LentWeek) (d : LentWeek) → 0 < length weeks → AreFit weeks →
-    AllByRecursion (Fits (week_lent (slice_index_or weeks 0 d))) weeks
-first-fit [] d some fit = absurd (omega arith)
-first-fit (first ∷ later) d some fit = fit
+first-fit : (weeks : List LentWeek) (one : LentWeek) → 0 < length weeks → one ≡ slice_index_or weeks 0 one → AreFit weeks →
+    AllByRecursion (Fits (week_lent one)) weeks
+first-fit [] one some is fit = absurd (omega arith)
+first-fit (first ∷ later) one some is fit = subst (λ (week : LentWeek). AllByRecursion (Fits (week_lent week)) (first ∷ later)) (sym is) fit
 
 -- the number of nurses of the leaf, from its first week
-pub count-first : (leaf : LentLeaf) (d : LentWeek) → 0 < length leaf.weeks.now →
-    nurse_count (weeks_of leaf) ≡ (week_lent (slice_index_or leaf.weeks.now 0 d)).nurses
+pub count-first : (leaf : LeafTables) (d : LentWeek) → 0 < length leaf.weeks →
+    nurse_count (weeks_of leaf) ≡ (week_lent (slice_index_or leaf.weeks 0 d)).nurses
 count-first leaf d some = ap nurse_count (drop-lent leaf 0 d some)
 
 -- the stage of the first of its weeks
 abbrev pub first_of : Stage → LentWeek → Stage
 first_of stage one = record stage { instance = one.instance; prices = one.prices; week = 0 }
 
-pub first-is : (stage : Stage) (d : LentWeek) → IsLeaf stage.leaf → stage.unit ≤ thousandths → stage.nurse < nurse_count (weeks_of stage.leaf) →
-    stage.charged ≡ charge_totals (weeks_of stage.leaf) → IsStage (first_of stage (slice_index_or stage.leaf.weeks.now 0 d))
-first-is stage d leaf unit nurse charged =
-    let all = first-fit stage.leaf.weeks.now d leaf.some leaf.fit in
-    let at = drop-lent stage.leaf 0 d leaf.some in
+pub first-is : (stage : Stage) (one : LentWeek) → one ≡ slice_index_or stage.leaf.now.weeks 0 one → IsLeaf stage.leaf.now →
+    stage.unit ≤ thousandths → stage.nurse < nurse_count (weeks_of stage.leaf.now) →
+    stage.charged ≡ charge_totals (weeks_of stage.leaf.now) → IsStage (first_of stage one)
+first-is stage one is leaf unit nurse charged =
+    let all = first-fit stage.leaf.now.weeks one leaf.some is leaf.fit in
+    let at = drop-at stage.leaf.now 0 one leaf.some is in
     record {
       unit = unit;
-      nurse = omega (arith, nurse, count-first stage.leaf d leaf.some);
+      nurse = omega (arith, nurse, ap nurse_count at);
       at = at;
       inside = leaf.some;
       count = leaf.count;
-      shape = (all-at (Fits (week_lent (slice_index_or stage.leaf.weeks.now 0 d))) stage.leaf.weeks.now 0 d all leaf.some).shape;
+      shape = subst (λ (week : LentWeek). IsForWeek (week_lent week) week.prices.now) (sym is)
+          (all-at (Fits (week_lent one)) stage.leaf.now.weeks 0 one all leaf.some).shape;
       fit = all;
-      free = λ none. subst (AllByRecursion IsFreeOfTotals) at (free-all (weeks_of stage.leaf) (sym charged ∙ none));
+      free = λ none. subst (AllByRecursion IsFreeOfTotals) at (free-all (weeks_of stage.leaf.now) (sym charged ∙ none));
     }
-
--- at the first week, all weeks are the stage's week and the later ones
-pub first-all : (stage : Stage) → IsStage stage → stage.week ≡ 0 → all_of stage ≡ (week_of stage ∷ later_of stage)
-first-all stage is first = ap (λ (i : ℕ). drop i (all_of stage)) (sym first) ∙ is.at
 
 -- ---- loops over the weeks
 
 -- a test of the weeks from the index of this one on, if it fails or passes there
-pub any-passes : (test : LeafWeek → Bool) (leaf : LentLeaf) (i : ℕ) (one : LentWeek) → i < length leaf.weeks.now →
-    one ≡ slice_index_or leaf.weeks.now i one → test (week_at leaf.case.now i one) ≡ true → list_any test (drop i (weeks_of leaf)) ≡ true
+pub any-passes : (test : LeafWeek → Bool) (leaf : LeafTables) (i : ℕ) (one : LentWeek) → i < length leaf.weeks →
+    one ≡ slice_index_or leaf.weeks i one → test (week_at leaf.case i one) ≡ true → list_any test (drop i (weeks_of leaf)) ≡ true
 any-passes test leaf i one inside is passes = ap (list_any test) (drop-at leaf i one inside is) ∙ grind (arith, passes)
 
-pub any-fails : (test : LeafWeek → Bool) (leaf : LentLeaf) (i : ℕ) (one : LentWeek) → i < length leaf.weeks.now →
-    one ≡ slice_index_or leaf.weeks.now i one → test (week_at leaf.case.now i one) ≡ false →
+pub any-fails : (test : LeafWeek → Bool) (leaf : LeafTables) (i : ℕ) (one : LentWeek) → i < length leaf.weeks →
+    one ≡ slice_index_or leaf.weeks i one → test (week_at leaf.case i one) ≡ false →
     list_any test (drop i (weeks_of leaf)) ≡ list_any test (drop (i + 1) (weeks_of leaf))
 any-fails test leaf i one inside is fails = ap (list_any test) (drop-at leaf i one inside is) ∙ rw fails refl
 
-pub any-end : (test : LeafWeek → Bool) (leaf : LentLeaf) (i : ℕ) → length leaf.weeks.now ≤ i → list_any test (drop i (weeks_of leaf)) ≡ false
+pub any-end : (test : LeafWeek → Bool) (leaf : LeafTables) (i : ℕ) → length leaf.weeks ≤ i → list_any test (drop i (weeks_of leaf)) ≡ false
 any-end test leaf i past = ap (list_any test) (drop-end leaf i past)

@@ -7,8 +7,7 @@ use Rattle.rota_core.specs.Prices.{Prices}
 use Rattle.rota_core.specs.Problem.{Problem}
 use Rattle.rota_certificate.specs.Facts.{Case}
 use Rattle.rota_certificate.specs.LeafBounds.{leaf_weeks}
-use Rattle.rota_certificate.specs.Stages.{prices_lent, week_lent, weeks_of}
-use Rattle.rota_certificate.specs.declared.stages.LentLeaf.{LentLeaf}
+use Rattle.rota_certificate.specs.LentLeaves.{LeafTables, prices_lent, week_lent, weeks_of}
 
 weeks-length : (case : Case) (w : ℕ) (problems : List Problem) (prices : List Prices) → length (leaf_weeks case w problems prices) ≡ length problems
 unfolding leaf_weeks
@@ -17,9 +16,9 @@ weeks-length case w (problem ∷ problems) [] = omega (arith, weeks-length case 
 weeks-length case w (problem ∷ problems) (first ∷ prices) = omega (arith, weeks-length case (w + 1) problems prices)
 
 -- the leaf has its weeks
-pub leaf-length : (leaf : LentLeaf) → length (weeks_of leaf) ≡ length leaf.weeks.now
+pub leaf-length : (leaf : LeafTables) → length (weeks_of leaf) ≡ length leaf.weeks
 leaf-length leaf =
-    weeks-length leaf.case.now 0 (map week_lent leaf.weeks.now) (map prices_lent leaf.weeks.now) ∙ length-map leaf.weeks.now week_lent
+    weeks-length leaf.case 0 (map week_lent leaf.weeks) (map prices_lent leaf.weeks) ∙ length-map leaf.weeks week_lent
 
 -- if no value is found, the test is passed
 pub none-passes : {X : Type 0} (test : Bool) (x : X) (found : Option X) → found ≡ (if test then None else Some x) → found ≡ None → test ≡ true

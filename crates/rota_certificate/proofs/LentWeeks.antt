@@ -12,11 +12,10 @@ use Rattle.rota_core.specs.declared.certificate.Certificate.{Certificate}
 use Rattle.rota_certificate.specs.CaseLimits.{IsLimitedCase}
 use Rattle.rota_certificate.specs.CertificateBounds.{lists_of}
 use Rattle.rota_certificate.specs.Facts.{Case}
+use Rattle.rota_certificate.specs.LentLeaves.{AreFit, Fits, IsLeaf, LeafTables, prices_lent, week_lent}
 use Rattle.rota_certificate.specs.PeriodBounds.{IsForWeeks, IsPeriod}
 use Rattle.rota_certificate.specs.Plans.{ArePeriod, Continue}
 use Rattle.rota_certificate.specs.Evidence.{AreLent, bound_by}
-use Rattle.rota_certificate.specs.Stages.{AreFit, Fits, IsLeaf, prices_lent, week_lent}
-use Rattle.rota_certificate.specs.declared.stages.LentLeaf.{LentLeaf}
 use Rattle.rota_certificate.specs.declared.stages.LentWeek.{LentWeek}
 use Rattle.rota_certificate.specs.declared.tree.Rules.{Rules}
 use Rattle.rota_certificate.proofs.ListSteps.{all-of}
@@ -93,24 +92,24 @@ pub list-at : {X : Type 0} (f : X → List PriceTables) (xs : List X) (i : ℕ) 
     f x ≡ slice_index_or (map f xs) i []
 list-at f xs i x inside is = ap f is ∙ sym (get_or-map f xs i x [] inside)
 
-module _ (leaf : LentLeaf) (weeks : List InstanceTables) (list : List PriceTables) (lent : AreLent leaf.weeks.now weeks list) where
-  pub lent-leaf : IsPeriod weeks → AreForWeeks weeks list → IsLimitedCase leaf.case.now → IsLeaf leaf
+module _ (leaf : LeafTables) (weeks : List InstanceTables) (list : List PriceTables) (lent : AreLent leaf.weeks weeks list) where
+  pub lent-leaf : IsPeriod weeks → AreForWeeks weeks list → IsLimitedCase leaf.case → IsLeaf leaf
   lent-leaf period shapes case =
-      let mine : AreForWeeks (instances leaf.weeks.now) (tables leaf.weeks.now) =
-      subst (λ (ts : List PriceTables). AreForWeeks (instances leaf.weeks.now) ts) (sym lent.tables)
+      let mine : AreForWeeks (instances leaf.weeks) (tables leaf.weeks) =
+      subst (λ (ts : List PriceTables). AreForWeeks (instances leaf.weeks) ts) (sym lent.tables)
       (subst (λ (ws : List InstanceTables). AreForWeeks ws list) (sym lent.instances) shapes) in
       record {
-        some = some-weeks leaf.weeks.now (tables leaf.weeks.now) mine;
-        count = omega (arith, length-map leaf.weeks.now (λ one. one.instance.now), ap length lent.instances, period.count);
-        fit = all-fit leaf.weeks.now mine (subst (λ (ws : List InstanceTables). ArePeriod (map problem_of ws)) (sym lent.instances) period.period);
+        some = some-weeks leaf.weeks (tables leaf.weeks) mine;
+        count = omega (arith, length-map leaf.weeks (λ one. one.instance.now), ap length lent.instances, period.count);
+        fit = all-fit leaf.weeks mine (subst (λ (ws : List InstanceTables). ArePeriod (map problem_of ws)) (sym lent.instances) period.period);
         case = case;
       }
 
-  pub lent-problems : map week_lent leaf.weeks.now ≡ map problem_of weeks
-  lent-problems = sym (map-map problem_of (λ (one : LentWeek). one.instance.now) leaf.weeks.now) ∙ ap (map problem_of) lent.instances
+  pub lent-problems : map week_lent leaf.weeks ≡ map problem_of weeks
+  lent-problems = sym (map-map problem_of (λ (one : LentWeek). one.instance.now) leaf.weeks) ∙ ap (map problem_of) lent.instances
 
-  pub lent-prices : map prices_lent leaf.weeks.now ≡ map prices_of list
-  lent-prices = sym (map-map prices_of (λ (one : LentWeek). one.prices.now) leaf.weeks.now) ∙ ap (map prices_of) lent.tables
+  pub lent-prices : map prices_lent leaf.weeks ≡ map prices_of list
+  lent-prices = sym (map-map prices_of (λ (one : LentWeek). one.prices.now) leaf.weeks) ∙ ap (map prices_of) lent.tables
 
 -- the bound of a leaf from equal weeks, cases, prices and surcharges
 pub bound-same : (rules : Rules) (weeks weeks-2 : List Problem) (case case-2 : Case) (prices prices-2 : List Prices) (surcharges surcharges-2 : List ℕ) →

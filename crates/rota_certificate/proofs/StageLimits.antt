@@ -7,8 +7,9 @@ use Rattle.rota_core.specs.declared.values.Past.{Past}
 use Rattle.rota_certificate.specs.EquivalentPasts.{AreEquivalent, HaveSameLimits}
 use Rattle.rota_certificate.specs.Facts.{Case}
 use Rattle.rota_certificate.specs.LeafBounds.{leaf_weeks}
+use Rattle.rota_certificate.specs.LentLeaves.{Fits, prices_lent, week_lent}
 use Rattle.rota_certificate.specs.NurseBounds.{LeafWeek}
-use Rattle.rota_certificate.specs.Stages.{Fits, IsStage, all_of, least_after, least_in, later_of, prices_lent, terms_of, week_lent, week_of}
+use Rattle.rota_certificate.specs.Stages.{IsStage, all_of, least_after, least_in, later_of, terms_of, week_of}
 use Rattle.rota_certificate.specs.declared.stages.LentWeek.{LentWeek}
 use Rattle.rota_certificate.specs.declared.stages.Stage.{Stage}
 use Rattle.rota_certificate.proofs.EquivalentPasts.{least_days-equivalent, rest_after-equivalent}
@@ -33,8 +34,8 @@ module _ (stage : Stage) (is : IsStage stage) where
 
   later-limits : AllByRecursion HasLimits (later_of stage)
   later-limits =
-      let all = leaf-all (HaveSameLimits (week_of stage).week) stage.leaf.case.now 0 stage.leaf.weeks.now
-      (fits-limits (week_of stage).week stage.leaf.weeks.now is.fit) in
+      let all = leaf-all (HaveSameLimits (week_of stage).week) stage.leaf.now.case 0 stage.leaf.now.weeks
+      (fits-limits (week_of stage).week stage.leaf.now.weeks is.fit) in
       recursion_from_All HasLimits (later_of stage)
       (All-drop HasLimits (stage.week + 1) (all_of stage) (All-from_recursion HasLimits (all_of stage) all))
 

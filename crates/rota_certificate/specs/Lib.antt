@@ -8,6 +8,7 @@ pub mod FirstBelow
 pub mod Facts
 pub mod KnownCosts
 pub mod LeafBounds
+pub mod LentLeaves
 pub mod Minimums
 pub mod Nearness
 pub mod NurseBounds

@@ -7,9 +7,9 @@ ghost use Rattle.rota_core.specs.SumsBelow.{sum_below};
 ghost use Rattle.rota_certificate.specs.CaseLimits.{AreLimitedCharges};
 ghost use Rattle.rota_certificate.specs.CertificateBounds.{thousandths};
 ghost use Rattle.rota_certificate.specs.LeafBounds.{added_prices, bound_of_leaf, leaf_bound, most_bound, nurse_count};
+ghost use Rattle.rota_certificate.specs.LentLeaves.{prices_lent, week_lent, weeks_of};
 ghost use Rattle.rota_certificate.specs.Minimums.{not_allowed};
 ghost use Rattle.rota_certificate.specs.NurseBounds.{nurse_bound};
-ghost use Rattle.rota_certificate.specs.Stages.{IsLeaf, prices_lent, week_lent, weeks_of};
 ghost use Rattle.rota_certificate.specs.Tariffs.{has_overdrawn, tariff_of};
 
 use crate::known::Known;
@@ -23,7 +23,6 @@ use std::alloc::{AllocError, Global};
 
 // The number of nurses of the leaf.
 fn nurse_count(leaf: &LentLeaf<'_>) -> u16
-    requires leaf { IsLeaf leaf.now }
     ensures count { result ≡ nurse_count (weeks_of leaf.now) }
     ensures small { result ≤ 1000 }
 {
@@ -38,7 +37,6 @@ fn nurse_bounds(
     known: &mut Known,
 ) -> Option<u64>
     requires unit_in { unit ≤ thousandths }
-    requires leaf { IsLeaf leaf.now }
     requires limited { AreLimitedCharges charges.now }
     ensures none { result ≡ None → has_overdrawn unit charges.now (nurse_count (weeks_of leaf.now)) ≡ true }
     ensures some { let weeks = weeks_of leaf.now in IfSome result (λ sum. has_overdrawn unit charges.now (nurse_count weeks) ≡ false) }
@@ -58,7 +56,6 @@ fn nurse_bounds(
 
 // The sum that is added to the bounds of the nurses.
 fn added_prices(leaf: &LentLeaf<'_>) -> u64
-    requires leaf { IsLeaf leaf.now }
     ensures sum { result ≡ added_prices (weeks_of leaf.now) }
     ensures small { result ≤ 1000 * (52 * (7 * max_price)) }
 {
@@ -70,10 +67,9 @@ fn added_prices(leaf: &LentLeaf<'_>) -> u64
 // The bound of the leaf with these surcharges of its conditions.
 fn bound_of_leaf(unit: u64, leaf: &LentLeaf<'_>, charges: &[Surcharged], known: &mut Known) -> u64
     requires unit_in { unit ≤ thousandths }
-    requires leaf { IsLeaf leaf.now }
     requires limited { AreLimitedCharges charges.now }
     ensures bound { let weeks = weeks_of leaf.now in
-        result ≡ (if has_overdrawn unit charges.now (nurse_count weeks) then 0 else bound_of_leaf unit leaf.now.case.now charges.now weeks) }
+        result ≡ (if has_overdrawn unit charges.now (nurse_count weeks) then 0 else bound_of_leaf unit leaf.now.case charges.now weeks) }
     ensures small { result ≤ most_bound }
 {
     match nurse_bounds(unit, leaf, charges, known) {
@@ -100,10 +96,9 @@ pub fn leaf_bound(
     known: &mut Known,
 ) -> Result<u64, AllocError>
     requires unit_in { unit ≤ thousandths }
-    requires leaf { IsLeaf leaf.now }
     requires surcharges { AllByRecursion (λ surcharge. surcharge ≤ max_price) surcharges.now }
     ensures bound { IfOk result (λ sum. sum ≡
-        leaf_bound unit (map week_lent leaf.now.weeks.now) leaf.now.case.now (map prices_lent leaf.now.weeks.now) surcharges.now) }
+        leaf_bound unit (map week_lent leaf.now.weeks) leaf.now.case (map prices_lent leaf.now.weeks) surcharges.now) }
     ensures small { IfOk result (λ sum. sum ≤ most_bound) }
 {
     let charges = with_surcharges(alloc, leaf.case, surcharges)?;

@@ -5,9 +5,10 @@ ghost use Rattle.rota_core.specs.InstanceTables.{problem_of};
 ghost use Rattle.rota_certificate.specs.CertificateBounds.{thousandths};
 ghost use Rattle.rota_certificate.specs.KnownCosts.{AreRight, Finds, IsBefore, IsReady};
 ghost use Rattle.rota_certificate.specs.LeafBounds.{nurse_count};
+ghost use Rattle.rota_certificate.specs.LentLeaves.{weeks_of};
 ghost use Rattle.rota_certificate.specs.Minimums.{not_allowed};
 ghost use Rattle.rota_certificate.specs.NurseBounds.{allowed_rebate, choice_value, is_barred, least_choice, nurse_bound};
-ghost use Rattle.rota_certificate.specs.Stages.{IsLeaf, IsStage, least_after, least_in, terms_of, week_of, weeks_of};
+ghost use Rattle.rota_certificate.specs.Stages.{IsStage, least_after, least_in, terms_of, week_of};
 
 use crate::allowed::may_choose;
 use crate::charged_pasts::charged_past;
@@ -42,7 +43,8 @@ fn allowed_rebate(stage: &Stage<'_>, day: u8, choice: Option<u8>) -> u64
     ensures rebate { result ≡ allowed_rebate (week_of stage.now) stage.now.nurse day choice }
     ensures small { result ≤ not_allowed }
 {
-    if may_choose(stage.leaf.case, stage.week, stage.nurse, day, choice) {
+    let leaf = stage.leaf;
+    if may_choose(leaf.case, stage.week, stage.nurse, day, choice) {
         day_rebate(stage.instance, stage.prices, stage.nurse, day, choice)
     } else {
         NOT_ALLOWED
@@ -140,15 +142,16 @@ fn least_after(stage: &Stage<'_>, known: &mut Known, past: Past) -> u64
     requires { IsBefore stage.now known.old 0 past }
     ensures { Finds stage.now known.new (least_after stage.now past) result }
 {
+    let leaf = stage.leaf;
     let week = stage.week + 1;
-    if week >= stage.leaf.weeks.len() {
+    if week >= leaf.weeks.len() {
         return end_cost(stage, past);
     }
-    let next = stage.leaf.weeks[week];
+    let next = leaf.weeks[week];
     let next = Stage {
         instance: next.instance,
         prices: next.prices,
-        leaf: stage.leaf,
+        leaf,
         week,
         unit: stage.unit,
         nurse: stage.nurse,
@@ -166,7 +169,6 @@ pub fn nurse_bound(
     tariff: Tariff,
     nurse: u16,
 ) -> u64
-    requires leaf { IsLeaf leaf.now }
     requires unit_in { unit ≤ thousandths }
     requires nurse_in { nurse < nurse_count (weeks_of leaf.now) }
     ensures bound { result ≡ nurse_bound unit tariff (weeks_of leaf.now) nurse }

@@ -10,9 +10,9 @@ ghost use Rattle.rota_rules.specs.OptimalCoverage.{optimum_weight};
 ghost use Rattle.rota_certificate.specs.CaseLimits.{IsLimitedCase, IsLimitedDemand, most_nurses};
 ghost use Rattle.rota_certificate.specs.CertificateBounds.{thousandths};
 ghost use Rattle.rota_certificate.specs.LeafBounds.{leaf_place_bounds};
+ghost use Rattle.rota_certificate.specs.LentLeaves.{prices_lent, week_lent, weeks_of};
 ghost use Rattle.rota_certificate.specs.PlaceBounds.{place_bound, place_cost};
 ghost use Rattle.rota_certificate.specs.PlaceCases.{case_place_bound, case_place_bounds};
-ghost use Rattle.rota_certificate.specs.Stages.{IsLeaf, prices_lent, week_lent, weeks_of};
 
 use crate::costs::times;
 use crate::demand::{Place, case_demand};
@@ -162,8 +162,7 @@ fn bounds_of_week(unit: u64, case: &[Condition], one: &LentWeek<'_>, week: usize
 /// The bounds of all places of the leaf.
 pub fn leaf_place_bounds(unit: u64, leaf: &LentLeaf<'_>) -> u64
     requires unit_in { unit ≤ thousandths }
-    requires leaf { IsLeaf leaf.now }
-    ensures bounds { result ≡ leaf_place_bounds unit leaf.now.case.now 0 (weeks_of leaf.now) }
+    ensures bounds { result ≡ leaf_place_bounds unit leaf.now.case 0 (weeks_of leaf.now) }
     ensures small { result ≤ max_weeks * (7 * (16 * (16 * 30000000000000))) }
 {
     let mut sum = 0;

@@ -4,11 +4,13 @@ ghost use Rattle.std.specs.Prelude.{◌≡◌, ◌≤◌, ◌<◌, ◌&&◌, ◌
 ghost use Rattle.rota_core.specs.InstanceTables.{problem_of};
 ghost use Rattle.rota_certificate.specs.CertificateBounds.{thousandths};
 ghost use Rattle.rota_certificate.specs.LeafBounds.{nurse_count};
+ghost use Rattle.rota_certificate.specs.LentLeaves.{weeks_of};
 ghost use Rattle.rota_certificate.specs.NurseBounds.{charge_totals, pay_for_history};
-ghost use Rattle.rota_certificate.specs.Stages.{IsLeaf, IsStage, weeks_of};
+ghost use Rattle.rota_certificate.specs.Stages.{IsStage};
 
 use crate::tariffs::Tariff;
 use rota_core::{Condition, Instance, Prices};
+use std::marker::Model;
 
 /// A week and its prices.
 #[derive(Clone, Copy)]
@@ -20,12 +22,22 @@ pub struct LentWeek<'a> {
 }
 
 /// The weeks of a leaf, and its case.
-#[derive(Clone, Copy)]
+#[derive(Drop)]
 pub struct LentLeaf<'a> {
     /// The weeks in order.
     pub weeks: &'a [LentWeek<'a>],
     /// The conditions of the case.
     pub case: &'a [Condition],
+}
+
+impl<'a> Model for LentLeaf<'a> {
+    ghost use Rattle.rota_certificate.specs.LentLeaves.{IsLeaf, LeafTables};
+
+    ghost Value = { LeafTables };
+
+    ghost view = { λ l. record { weeks = l.weeks.now; case = l.case.now } };
+
+    ghost invariant = { λ l. IsLeaf (record { weeks = l.weeks.now; case = l.case.now }) };
 }
 
 /// A week of a leaf in the search for a nurse's minimum: the week with its prices and its number in
@@ -34,7 +46,7 @@ pub struct LentLeaf<'a> {
 pub struct Stage<'a> {
     pub instance: &'a Instance,
     pub prices: &'a Prices,
-    pub leaf: LentLeaf<'a>,
+    pub leaf: &'a LentLeaf<'a>,
     pub week: usize,
     pub unit: u64,
     pub nurse: u16,
@@ -82,12 +94,11 @@ pub fn pay_for_history(leaf: &LentLeaf<'_>) -> bool
 
 impl<'a> Stage<'a> {
     /// The first week of the leaf.
-    pub fn first(leaf: &LentLeaf<'a>, unit: u64, tariff: Tariff, nurse: u16) -> Stage<'a>
-        requires leaf { IsLeaf leaf.now }
+    pub fn first(leaf: &'a LentLeaf<'a>, unit: u64, tariff: Tariff, nurse: u16) -> Stage<'a>
         requires unit_in { unit ≤ thousandths }
         requires nurse_in { nurse < nurse_count (weeks_of leaf.now) }
         ensures stage { IsStage result }
-        ensures leaf { result.leaf ≡ leaf.now }
+        ensures leaf { result.leaf.now ≡ leaf.now }
         ensures week { result.week ≡ 0 }
         ensures unit { result.unit ≡ unit }
         ensures nurse { result.nurse ≡ nurse }
@@ -99,7 +110,7 @@ impl<'a> Stage<'a> {
         Stage {
             instance: first.instance,
             prices: first.prices,
-            leaf: *leaf,
+            leaf,
             week: 0,
             unit,
             nurse,

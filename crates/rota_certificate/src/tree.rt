@@ -9,9 +9,9 @@ ghost use Rattle.rota_core.specs.PriceTables.{prices_of};
 ghost use Rattle.rota_core.specs.Prices.{ArePrices};
 ghost use Rattle.rota_certificate.specs.CertificateBounds.{HaveTables, least_bound, lower_bound, minimums_bound, rounded_up, says_even, says_odd};
 ghost use Rattle.rota_certificate.specs.LeafBounds.{most_bound};
+ghost use Rattle.rota_certificate.specs.LentLeaves.{prices_lent, week_lent};
 ghost use Rattle.rota_certificate.specs.PeriodBounds.{AreEvidence, AreOptimalAt, HaveNoPlan, NoneCostLess};
 ghost use Rattle.rota_certificate.specs.Evidence.{AreLent, IsShortPath, IsEvidence, bound_asked, bound_by};
-ghost use Rattle.rota_certificate.specs.Stages.{IsLeaf, prices_lent, week_lent};
 
 use crate::known::Known;
 use crate::leaves::leaf_bound;
@@ -136,10 +136,9 @@ fn bound_by(
     surcharges: &[u32],
     known: &mut Known,
 ) -> Result<u64, AllocError>
-    requires leaf { IsLeaf leaf.now }
     requires surcharges { AllByRecursion (λ surcharge. surcharge ≤ max_price) surcharges.now }
     ensures bound { IfOk result (λ bound. bound ≡
-        bound_by rules (map week_lent leaf.now.weeks.now) leaf.now.case.now (map prices_lent leaf.now.weeks.now) surcharges.now) }
+        bound_by rules (map week_lent leaf.now.weeks) leaf.now.case (map prices_lent leaf.now.weeks) surcharges.now) }
     ensures small { IfOk result (λ bound. bound ≤ most_bound) }
 {
     match rules {

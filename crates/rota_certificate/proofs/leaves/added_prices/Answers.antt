@@ -6,11 +6,10 @@ use Rattle.rota_certificate.proofs.leaves.added_prices.Goals as goal
 
 pub returns-clause-sum : goal.returns-clause-sum
 returns-clause-sum c =
-    let weeks = c.args.leaf.now.weeks.now in
-    rw (c.from-3.ensures, c.from.ensures, c.from-2.ensures, c.nurse_count-nurses.ensures.count, leaf-length c.args.leaf.now) refl
+    rw (c.from-3.ensures, c.from.ensures, c.from-2.ensures, c.nurse_count-nurses.ensures.count, leaf-length c.args.leaf.now, ← c.leaf.view_is) refl
 
 pub returns-clause-small : goal.returns-clause-small
 returns-clause-small c =
-    let weeks = c.args.leaf.now.weeks.now in
+    let weeks = c.leaf.inside.weeks.now in
     let few : c.from-3.result ≤ 1000 = omega (arith, c.from-3.ensures, c.nurse_count-nurses.ensures.small) in
-    rw (c.from.ensures, c.from-2.ensures) (product-small c.from-3.result (length weeks) (DAYS * max_price) few c.requires.leaf.count)
+    rw (c.from.ensures, c.from-2.ensures) (product-small c.from-3.result (length weeks) (DAYS * max_price) few c.leaf.invariant.count)

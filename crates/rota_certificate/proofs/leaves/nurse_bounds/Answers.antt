@@ -1,8 +1,8 @@
 use Rattle.std.proofs.Common.{◌≡◌, ◌<◌, ap, arith, ◌∙◌, ℕ}
 use Rattle.rota_core.specs.SumsBelow.{sum_below}
 use Rattle.rota_certificate.specs.LeafBounds.{nurse_count}
+use Rattle.rota_certificate.specs.LentLeaves.{weeks_of}
 use Rattle.rota_certificate.specs.NurseBounds.{nurse_bound}
-use Rattle.rota_certificate.specs.Stages.{weeks_of}
 use Rattle.rota_certificate.specs.Tariffs.{has_overdrawn_weight, tariff_of}
 use Rattle.rota_certificate.proofs.LeafSteps.{none-passes}
 use Rattle.rota_certificate.proofs.Sums.{any-at}

@@ -1,8 +1,8 @@
 use Rattle.std.proofs.Common.{◌≡◌, ◌≤◌, ◌*◌, false}
 use Rattle.rota_core.specs.SumsBelow.{sum_below}
+use Rattle.rota_certificate.specs.LentLeaves.{weeks_of}
 use Rattle.rota_certificate.specs.Minimums.{not_allowed}
 use Rattle.rota_certificate.specs.NurseBounds.{nurse_bound}
-use Rattle.rota_certificate.specs.Stages.{weeks_of}
 use Rattle.rota_certificate.specs.Tariffs.{has_overdrawn, tariff_of}
 use Rattle.rota_certificate.proofs.leaves.nurse_bounds.Given as goal
 

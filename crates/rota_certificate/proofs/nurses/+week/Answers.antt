@@ -1,10 +1,11 @@
-use Rattle.std.proofs.Common.{rules, List, ap, sym, ◌∙◌, arith, subst, ◌+◌, ◌-◌, ◌*◌}
+use Rattle.std.proofs.Common.{rules, List, ap, sym, ◌≡◌, ◌<◌, ◌∙◌, arith, subst, ◌+◌, ◌-◌, ◌*◌, length, slice_index_or}
 use Rattle.rota_core.specs.Sizes.{DAYS, Numbers}
+use Rattle.rota_certificate.specs.LentLeaves.{LeafTables}
 use Rattle.rota_certificate.specs.Nearness.{IsNear}
 use Rattle.rota_certificate.specs.NurseBounds.{LeafWeek, least_left, rest_after}
 use Rattle.rota_certificate.specs.Stages.{all_of, days_before, least_after, terms_of, week_of}
 use Rattle.rota_certificate.proofs.LeastCosts.{least_days-at_end, least_days-is, least_days-small}
-use Rattle.rota_certificate.proofs.LeafStages.{drop-end, next-is, next-left, next-numbers}
+use Rattle.rota_certificate.proofs.LeafStages.{drop-end, lent-at, next-is, next-left, next-numbers}
 use Rattle.rota_certificate.proofs.Tables.{near-more}
 use Rattle.rota_certificate.proofs.nurses.+week.Goals as goal
 
@@ -50,13 +51,14 @@ least_in-returns t c =
           c.requires.ready.at.at));
     }
 
-pub least_after-returns-then-week-stage : goal.least_after-returns-then-week-stage
-least_after-returns-then-week-stage t c =
+pub least_after-returns-then-week-leaf : goal.least_after-returns-then-week-leaf
+least_after-returns-then-week-leaf t c =
     let stage = c.args.stage.now in
+    let same : c.leaf.inside.weeks.now ≡ stage.leaf.now.weeks = ap (λ (leaf : LeafTables). leaf.weeks) c.leaf.view_is in
     record {
       found = c.end_cost.ensures.cost ∙
           sym (ap (λ (weeks : List LeafWeek). rest_after (terms_of stage) (week_of stage).week weeks stage.nurse c.args.past)
-          (drop-end stage.leaf (stage.week + 1) c.if-week-stage.true));
+          (drop-end stage.leaf.now (stage.week + 1) (rw same at c.if-week-leaf.true)));
       small = c.end_cost.ensures.small;
       right = c.requires.ready.right;
     }
@@ -64,22 +66,31 @@ least_after-returns-then-week-stage t c =
 pub least_after-least_in-requires : goal.least_after-least_in-requires
 least_after-least_in-requires t c =
     let stage = c.args.stage.now in
-    let next = c.index-stage-week.result in
-    let same = next-numbers stage next c.requires.ready.at c.if-week-stage.false in
-    let near : IsNear (week_of stage).week.shifts (DAYS * (stage.week + 1) + (DAYS - DAYS)) c.args.past =
+    let i = stage.week + 1 in
+    let weeks = c.leaf.inside.weeks.now in
+    let same : weeks ≡ stage.leaf.now.weeks = ap (λ (leaf : LeafTables). leaf.weeks) c.leaf.view_is in
+    let next = slice_index_or weeks i c.index-leaf-week.result in
+    let at = lent-at stage.leaf.now weeks i c.index-leaf-week.result same c.index-leaf-week.is in
+    let more : i < length stage.leaf.now.weeks = rw same at c.if-week-leaf.false in
+    let near : IsNear (week_of stage).week.shifts (DAYS * i + (DAYS - DAYS)) c.args.past =
     near-more (week_of stage).week.shifts (days_before stage (DAYS - 0)) _ c.args.past (omega arith) c.requires.near in (
       search rules,
       record {
-        ready = record { at = next-is stage next c.requires.ready.at c.if-week-stage.false; right = c.requires.ready.right };
+        ready = record { at = next-is stage next at c.requires.ready.at more; right = c.requires.ready.right };
         within = omega arith;
-        near = subst (λ (numbers : Numbers). IsNear numbers.shifts (DAYS * (stage.week + 1) + (DAYS - DAYS)) c.args.past) (sym same) near;
+        near = subst (λ (numbers : Numbers). IsNear numbers.shifts (DAYS * i + (DAYS - DAYS)) c.args.past)
+            (sym (next-numbers stage next at c.requires.ready.at more)) near;
       },
     )
 
 pub least_after-returns : goal.least_after-returns
 least_after-returns t c =
     let stage = c.args.stage.now in
-    let left = next-left stage c.index-stage-week.result c.requires.ready.at c.if-week-stage.false in
+    let i = stage.week + 1 in
+    let weeks = c.leaf.inside.weeks.now in
+    let same : weeks ≡ stage.leaf.now.weeks = ap (λ (leaf : LeafTables). leaf.weeks) c.leaf.view_is in
+    let left = next-left stage (slice_index_or weeks i c.index-leaf-week.result)
+    (lent-at stage.leaf.now weeks i c.index-leaf-week.result same c.index-leaf-week.is) c.requires.ready.at (rw same at c.if-week-leaf.false) in
     record {
       found = c.least_in.ensures.found ∙
           sym (ap (λ (weeks : List LeafWeek). rest_after (terms_of stage) (week_of stage).week weeks stage.nurse c.args.past) left);

@@ -1,7 +1,7 @@
 use Rattle.std.proofs.Common.{◌≡◌, ◌≤◌, ◌*◌}
 use Rattle.rota_core.specs.SumsBelow.{sum_below}
+use Rattle.rota_certificate.specs.LentLeaves.{prices_lent, week_lent}
 use Rattle.rota_certificate.specs.PlaceCases.{case_place_bound}
-use Rattle.rota_certificate.specs.Stages.{prices_lent, week_lent}
 use Rattle.rota_certificate.proofs.places.bounds_of_day.Given as goal
 
 abbrev pub invariant-loop-shift : goal.invariant-loop-shift

@@ -1,6 +1,6 @@
 use Rattle.std.proofs.Common.{◌≡◌, drop}
+use Rattle.rota_certificate.specs.LentLeaves.{weeks_of}
 use Rattle.rota_certificate.specs.NurseBounds.{charge_totals}
-use Rattle.rota_certificate.specs.Stages.{weeks_of}
 use Rattle.rota_certificate.proofs.stages.charge_totals.Given as goal
 
 -- the weeks that are left give the answer for all weeks

@@ -1,6 +1,6 @@
 use Rattle.std.proofs.Common.{◌≡◌, drop}
+use Rattle.rota_certificate.specs.LentLeaves.{weeks_of}
 use Rattle.rota_certificate.specs.NurseBounds.{pay_for_history}
-use Rattle.rota_certificate.specs.Stages.{weeks_of}
 use Rattle.rota_certificate.proofs.stages.pay_for_history.Given as goal
 
 -- the weeks that are left give the answer for all weeks

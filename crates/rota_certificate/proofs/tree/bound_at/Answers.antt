@@ -5,16 +5,15 @@ use Rattle.rota_core.specs.PriceTables.{PriceTables, prices_of}
 use Rattle.rota_certificate.specs.CaseLimits.{IsLimitedCase}
 use Rattle.rota_certificate.specs.CertificateBounds.{case_of, lists_of, prices_of_leaf}
 use Rattle.rota_certificate.specs.Evidence.{AreLent}
-use Rattle.rota_certificate.specs.Stages.{prices_lent, week_lent}
-use Rattle.rota_certificate.specs.declared.stages.LentLeaf.{LentLeaf}
+use Rattle.rota_certificate.specs.LentLeaves.{LeafTables, prices_lent, week_lent}
 use Rattle.rota_certificate.specs.declared.stages.LentWeek.{LentWeek}
 use Rattle.rota_certificate.proofs.LentWeeks.{AreForWeeks, bound-same, leaf-tables, lent-leaf, lent-prices, lent-problems, list-at}
 use Rattle.rota_certificate.proofs.PeriodProofs.{given-limited}
 use Rattle.rota_certificate.proofs.TreePaths.{case-forward, case-limited}
 use Rattle.rota_certificate.proofs.tree.bound_at.Goals as goal
 
-pub bound_by-requires-clause-leaf : goal.bound_by-requires-clause-leaf
-bound_by-requires-clause-leaf c =
+pub invariant_of-lent : goal.invariant_of-lent
+invariant_of-lent c =
     let weeks = c.args.evidence.now.weeks.now in
     let certificate = c.args.evidence.now.certificate.now in
     let i = c.args.leaf.now.prices in
@@ -22,7 +21,7 @@ bound_by-requires-clause-leaf c =
     let is_list : list ≡ slice_index_or (lists_of certificate) i [] =
     c.deref.ensures.value ∙
     list-at (λ one. one.items) certificate.prices.items i c.index-prices.result.now c.requires.leaf.number c.index-prices.ensures in
-    lent-leaf _ weeks list
+    lent-leaf (record { weeks = c.deref-2.result.now; case = c.deref-3.result.now }) weeks list
     (subst (λ (lent : List LentWeek). AreLent lent weeks list) (sym c.deref-2.ensures.value) c.in_ok-weeks.ensures)
     c.requires.evidence.period
     (subst (AreForWeeks weeks) (sym is_list) (leaf-tables weeks certificate i c.requires.evidence.is_for c.requires.leaf.number))
@@ -41,7 +40,7 @@ returns-clause-bound c =
     list-at (λ one. one.items) certificate.prices.items i c.index-prices.result.now c.requires.leaf.number c.index-prices.ensures in
     let lent : AreLent c.deref-2.result.now evidence.weeks.now list =
     subst (λ (lent : List LentWeek). AreLent lent evidence.weeks.now list) (sym c.deref-2.ensures.value) c.in_ok-weeks.ensures in
-    let leaf : LentLeaf = record { weeks = c.deref-2.result; case = c.deref-3.result } in
+    let leaf : LeafTables = record { weeks = c.deref-2.result.now; case = c.deref-3.result.now } in
     let same = bound-same evidence.rules (map week_lent c.deref-2.result.now) (map problem_of evidence.weeks.now) c.deref-3.result.now
     (case_of (reverse c.args.path.now) evidence.given.now) (map prices_lent c.deref-2.result.now) (prices_of_leaf certificate c.args.leaf.now)
     c.deref-4.result.now c.args.leaf.now.surcharges.items
