@@ -4,7 +4,6 @@ use Rattle.std.specs.List.{AllByRecursion, list_any}
 use Rattle.rota_core.specs.PriceTables.{IsForWeek}
 use Rattle.rota_core.specs.Problem.{Problem}
 use Rattle.rota_core.specs.Sizes.{Numbers}
-use Rattle.rota_certificate.specs.CertificateBounds.{thousandths}
 use Rattle.rota_certificate.specs.Facts.{Case}
 use Rattle.rota_certificate.specs.LeafBounds.{leaf_weeks, may_choose, nurse_count}
 use Rattle.rota_certificate.specs.LentLeaves.{AreFit, Fits, IsLeaf, LeafTables, prices_lent, week_lent, weeks_of}
@@ -114,7 +113,6 @@ module _ (stage : Stage) (one : LentWeek) (at : one ≡ slice_index_or stage.lea
 
   pub next-is : IsStage (next_of stage one)
   next-is = record {
-    unit = is.unit;
     nurse = subst (λ (numbers : Numbers). stage.nurse < numbers.nurses) (sym next-numbers) is.nurse;
     at = next-left;
     inside = more;
@@ -147,13 +145,12 @@ abbrev pub first_of : Stage → LentWeek → Stage
 first_of stage one = record stage { instance = one.instance; prices = one.prices; week = 0 }
 
 pub first-is : (stage : Stage) (one : LentWeek) → one ≡ slice_index_or stage.leaf.now.weeks 0 one → IsLeaf stage.leaf.now →
-    stage.unit ≤ thousandths → stage.nurse < nurse_count (weeks_of stage.leaf.now) →
+    stage.nurse < nurse_count (weeks_of stage.leaf.now) →
     stage.charged ≡ charge_totals (weeks_of stage.leaf.now) → IsStage (first_of stage one)
-first-is stage one is leaf unit nurse charged =
+first-is stage one is leaf nurse charged =
     let all = first-fit stage.leaf.now.weeks one leaf.some is leaf.fit in
     let at = drop-at stage.leaf.now 0 one leaf.some is in
     record {
-      unit = unit;
       nurse = omega (arith, nurse, ap nurse_count at);
       at = at;
       inside = leaf.some;

@@ -6,7 +6,6 @@ use Rattle.rota_core.specs.Limits.{max_weeks}
 use Rattle.rota_core.specs.PriceTables.{IsForWeek, prices_of}
 use Rattle.rota_core.specs.Sizes.{DAYS}
 use Rattle.rota_core.specs.declared.values.Past.{Past}
-use Rattle.rota_certificate.specs.CertificateBounds.{thousandths}
 use Rattle.rota_certificate.specs.DayCharges.{day_cost}
 use Rattle.rota_certificate.specs.LeafBounds.{may_choose}
 use Rattle.rota_certificate.specs.LentLeaves.{Fits, weeks_of}
@@ -51,7 +50,6 @@ IsFreeOfTotals one = one.week.is_last ≡ false
 
 -- the stage's week has the stage's number, all weeks fit it, and if totals are not charged, neither it nor a later week is the last
 pub record IsStage (stage : Stage) : Type 0 where
-  pub unit : stage.unit ≤ thousandths
   pub nurse : stage.nurse < (week_of stage).week.nurses
   pub at : drop stage.week (all_of stage) ≡ (week_of stage ∷ later_of stage)
   pub inside : stage.week < length stage.leaf.now.weeks

@@ -2,7 +2,6 @@
 
 ghost use Rattle.std.specs.Prelude.{◌≡◌, ◌+◌, ◌*◌, ◌≤◌, ◌<◌, IfSome};
 ghost use Rattle.rota_core.specs.InstanceTables.{problem_of};
-ghost use Rattle.rota_certificate.specs.CertificateBounds.{thousandths};
 ghost use Rattle.rota_certificate.specs.DayCharges.{start_cost, totals_cost, weighted};
 ghost use Rattle.rota_certificate.specs.Minimums.{not_allowed};
 ghost use Rattle.rota_certificate.specs.NurseBounds.{end_cost};
@@ -23,16 +22,6 @@ fn weighted(weight: u64, charges: u64) -> u64
     ensures small { result ≤ not_allowed }
 {
     weight.saturating_mul(charges).min(NOT_ALLOWED)
-}
-
-// The product of the number of points and the value of a point.
-pub fn times(unit: u64, points: u64) -> u64
-    requires unit_in { unit ≤ thousandths }
-    requires small { points ≤ 1000000000 }
-    ensures product { result ≡ unit * points }
-    ensures small { result ≤ 1000000000000 }
-{
-    unit * points
 }
 
 // The cost of the totals of the day.
@@ -66,7 +55,7 @@ pub fn day_cost(stage: &Stage<'_>, day: u8, past: Past, choice: Option<u8>) -> u
     };
     weighted(stage.tariff.shift_runs, shifts)
         + weighted(stage.tariff.work_days, u64::from(over))
-        + times(stage.unit, fixed)
+        + stage.unit.times(fixed)
         + totals
 }
 
@@ -89,8 +78,7 @@ pub fn end_cost(stage: &Stage<'_>, past: Past) -> u64
 {
     let contract = stage.instance.contract(stage.nurse);
     let missing = missing_total(stage.instance.last_week(), contract, past);
-    times(
-        stage.unit,
-        u64::from(ASSIGNMENT_WEIGHT) * u64::from(missing),
-    )
+    stage
+        .unit
+        .times(u64::from(ASSIGNMENT_WEIGHT) * u64::from(missing))
 }

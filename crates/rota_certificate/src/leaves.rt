@@ -1,11 +1,10 @@
-//! The bound of a leaf. `unit` is the value of a point in units of a price.
+//! The bound of a leaf. `unit` is the value of a point.
 
 ghost use Rattle.std.specs.Prelude.{◌≡◌, ◌≤◌, ◌*◌, IfOk, IfSome, None, false, true, if◌then◌else◌, map};
 ghost use Rattle.std.specs.List.{AllByRecursion};
 ghost use Rattle.rota_core.specs.Limits.{max_price};
 ghost use Rattle.rota_core.specs.SumsBelow.{sum_below};
 ghost use Rattle.rota_certificate.specs.CaseLimits.{AreLimitedCharges};
-ghost use Rattle.rota_certificate.specs.CertificateBounds.{thousandths};
 ghost use Rattle.rota_certificate.specs.LeafBounds.{added_prices, bound_of_leaf, leaf_bound, most_bound, nurse_count};
 ghost use Rattle.rota_certificate.specs.LentLeaves.{prices_lent, week_lent, weeks_of};
 ghost use Rattle.rota_certificate.specs.Minimums.{not_allowed};
@@ -15,6 +14,7 @@ ghost use Rattle.rota_certificate.specs.Tariffs.{has_overdrawn, tariff_of};
 use crate::known::Known;
 use crate::nurses::nurse_bound;
 use crate::places::leaf_place_bounds;
+use crate::points::PointValue;
 use crate::stages::LentLeaf;
 use crate::surcharges::{Surcharged, with_surcharges};
 use crate::tariffs::{gained, lost, tariff_of};
@@ -31,12 +31,11 @@ fn nurse_count(leaf: &LentLeaf<'_>) -> u16
 
 // The bounds of all nurses with their tariffs, unless the surcharges make a weight negative.
 fn nurse_bounds(
-    unit: u64,
+    unit: PointValue,
     leaf: &LentLeaf<'_>,
     charges: &[Surcharged],
     known: &mut Known,
 ) -> Option<u64>
-    requires unit_in { unit ≤ thousandths }
     requires limited { AreLimitedCharges charges.now }
     ensures none { result ≡ None → has_overdrawn unit charges.now (nurse_count (weeks_of leaf.now)) ≡ true }
     ensures some { let weeks = weeks_of leaf.now in IfSome result (λ sum. has_overdrawn unit charges.now (nurse_count weeks) ≡ false) }
@@ -65,8 +64,12 @@ fn added_prices(leaf: &LentLeaf<'_>) -> u64
 }
 
 // The bound of the leaf with these surcharges of its conditions.
-fn bound_of_leaf(unit: u64, leaf: &LentLeaf<'_>, charges: &[Surcharged], known: &mut Known) -> u64
-    requires unit_in { unit ≤ thousandths }
+fn bound_of_leaf(
+    unit: PointValue,
+    leaf: &LentLeaf<'_>,
+    charges: &[Surcharged],
+    known: &mut Known,
+) -> u64
     requires limited { AreLimitedCharges charges.now }
     ensures bound { let weeks = weeks_of leaf.now in
         result ≡ (if has_overdrawn unit charges.now (nurse_count weeks) then 0 else bound_of_leaf unit leaf.now.case charges.now weeks) }
@@ -83,19 +86,17 @@ fn bound_of_leaf(unit: u64, leaf: &LentLeaf<'_>, charges: &[Surcharged], known: 
 }
 
 /// The bound of the leaf with these surcharges, in thousandths of a point. It is 0 if they make a
-/// weight negative. `unit` is the value of a point: 1000, or 0 if the soft rules are left out. The
-/// first surcharge belongs to the first condition of the case, and so on; a missing one is 0. Forgets
-/// what was known.
+/// weight negative. The first surcharge belongs to the first condition of the case, and so on; a
+/// missing one is 0. Forgets what was known.
 ///
 /// The only error is that memory runs out.
 pub fn leaf_bound(
     alloc: Global,
-    unit: u64,
+    unit: PointValue,
     leaf: &LentLeaf<'_>,
     surcharges: &[u32],
     known: &mut Known,
 ) -> Result<u64, AllocError>
-    requires unit_in { unit ≤ thousandths }
     requires surcharges { AllByRecursion (λ surcharge. surcharge ≤ max_price) surcharges.now }
     ensures bound { IfOk result (λ sum. sum ≡
         leaf_bound unit (map week_lent leaf.now.weeks) leaf.now.case (map prices_lent leaf.now.weeks) surcharges.now) }

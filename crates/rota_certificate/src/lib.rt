@@ -11,6 +11,9 @@ mod charges;
 mod costs;
 mod rebates;
 
+// The value of a point of the penalty.
+mod points;
+
 // Pasts that cost the same.
 mod capped;
 mod charged_pasts;

@@ -2,7 +2,6 @@
 
 ghost use Rattle.std.specs.Prelude.{◌≡◌, ◌+◌, ◌-◌, ◌*◌, ◌≤◌, ◌<◌, IfSome};
 ghost use Rattle.rota_core.specs.InstanceTables.{problem_of};
-ghost use Rattle.rota_certificate.specs.CertificateBounds.{thousandths};
 ghost use Rattle.rota_certificate.specs.KnownCosts.{AreRight, Finds, IsBefore, IsReady};
 ghost use Rattle.rota_certificate.specs.LeafBounds.{nurse_count};
 ghost use Rattle.rota_certificate.specs.LentLeaves.{weeks_of};
@@ -15,6 +14,7 @@ use crate::charged_pasts::charged_past;
 use crate::charges::past_after;
 use crate::costs::{day_cost, end_cost, start_cost};
 use crate::known::{Known, KnownCost, KnownRebate};
+use crate::points::PointValue;
 use crate::rebates::{NOT_ALLOWED, day_rebate};
 use crate::stages::{LentLeaf, Stage, pay_for_history};
 use crate::tariffs::Tariff;
@@ -165,11 +165,10 @@ fn least_after(stage: &Stage<'_>, known: &mut Known, past: Past) -> u64
 pub fn nurse_bound(
     leaf: &LentLeaf<'_>,
     known: &mut Known,
-    unit: u64,
+    unit: PointValue,
     tariff: Tariff,
     nurse: u16,
 ) -> u64
-    requires unit_in { unit ≤ thousandths }
     requires nurse_in { nurse < nurse_count (weeks_of leaf.now) }
     ensures bound { result ≡ nurse_bound unit tariff (weeks_of leaf.now) nurse }
     ensures small { result ≤ 3 * not_allowed }

@@ -1,4 +1,4 @@
-//! The bounds of the places in a case. `unit` is the value of a point in units of a price.
+//! The bounds of the places in a case. `unit` is the value of a point.
 
 ghost use Rattle.std.specs.Prelude.{◌≡◌, ◌≤◌, ◌<◌, ◌*◌, length};
 ghost use Rattle.rota_core.specs.InstanceTables.{IsInstance, problem_of};
@@ -8,14 +8,13 @@ ghost use Rattle.rota_core.specs.Prices.{max_price};
 ghost use Rattle.rota_core.specs.SumsBelow.{sum_below};
 ghost use Rattle.rota_rules.specs.OptimalCoverage.{optimum_weight};
 ghost use Rattle.rota_certificate.specs.CaseLimits.{IsLimitedCase, IsLimitedDemand, most_nurses};
-ghost use Rattle.rota_certificate.specs.CertificateBounds.{thousandths};
 ghost use Rattle.rota_certificate.specs.LeafBounds.{leaf_place_bounds};
 ghost use Rattle.rota_certificate.specs.LentLeaves.{prices_lent, week_lent, weeks_of};
 ghost use Rattle.rota_certificate.specs.PlaceBounds.{place_bound, place_cost};
 ghost use Rattle.rota_certificate.specs.PlaceCases.{case_place_bound, case_place_bounds};
 
-use crate::costs::times;
 use crate::demand::{Place, case_demand};
+use crate::points::PointValue;
 use crate::stages::{LentLeaf, LentWeek};
 use rota_core::{Condition, DAYS, Demand, Instance};
 use rota_rules::OPTIMUM_WEIGHT;
@@ -31,17 +30,15 @@ fn price_of(price: u32, nurses: u16) -> u64
 }
 
 // The cost of this number of missing nurses.
-fn missing_cost(unit: u64, missing: u16) -> u64
-    requires unit_in { unit ≤ thousandths }
+fn missing_cost(unit: PointValue, missing: u16) -> u64
     ensures cost { result ≡ unit * optimum_weight * missing }
     ensures small { result ≤ 1000000000000 }
 {
-    times(unit, u64::from(OPTIMUM_WEIGHT) * u64::from(missing))
+    unit.times(u64::from(OPTIMUM_WEIGHT) * u64::from(missing))
 }
 
 // The cost of this number of nurses at a place with this demand, and their prices.
-fn place_cost(unit: u64, demand: Demand, price: u32, nurses: u16) -> u64
-    requires unit_in { unit ≤ thousandths }
+fn place_cost(unit: PointValue, demand: Demand, price: u32, nurses: u16) -> u64
     requires price_in { price ≤ max_price }
     requires nurses_in { nurses ≤ most_nurses }
     ensures cost { result ≡ place_cost unit demand price nurses }
@@ -52,14 +49,13 @@ fn place_cost(unit: u64, demand: Demand, price: u32, nurses: u16) -> u64
 }
 
 // The minimum cost of the place with a number of nurses that is not below the minimum.
-fn place_bound(unit: u64, demand: Demand, price: u32) -> u64
-    requires unit_in { unit ≤ thousandths }
+fn place_bound(unit: PointValue, demand: Demand, price: u32) -> u64
     requires price_in { price ≤ max_price }
     requires demand { IsLimitedDemand most_nurses demand }
     ensures bound { result ≡ place_bound unit demand price }
     ensures small { result ≤ 20000000000000 }
 {
-    let nurses = if u64::from(price) < times(unit, u64::from(OPTIMUM_WEIGHT)) {
+    let nurses = if u64::from(price) < unit.times(u64::from(OPTIMUM_WEIGHT)) {
         demand.minimum.max(demand.optimal)
     } else {
         demand.minimum
@@ -68,8 +64,13 @@ fn place_bound(unit: u64, demand: Demand, price: u32) -> u64
 }
 
 // The bound of the place in the case, with the cost of the nurses that are missing in any event.
-fn case_place_bound(unit: u64, case: &[Condition], place: Place, demand: Demand, price: u32) -> u64
-    requires unit_in { unit ≤ thousandths }
+fn case_place_bound(
+    unit: PointValue,
+    case: &[Condition],
+    place: Place,
+    demand: Demand,
+    price: u32,
+) -> u64
     requires limited { IsLimitedCase case.now }
     requires price_in { price ≤ max_price }
     requires demand { IsLimitedDemand max_number demand }
@@ -96,14 +97,13 @@ fn demand_at(instance: &Instance, day: u8, shift: u8, skill: u8) -> Demand
 
 // The sum of the bounds of all skills of a day's shift type of the week with this number.
 fn bounds_of_shift(
-    unit: u64,
+    unit: PointValue,
     case: &[Condition],
     one: &LentWeek<'_>,
     week: usize,
     day: u8,
     shift: u8,
 ) -> u64
-    requires unit_in { unit ≤ thousandths }
     requires limited { IsLimitedCase case.now }
     requires day_in { day < DAYS }
     requires shift_in { shift < (week_lent one.now).shifts }
@@ -128,8 +128,13 @@ fn bounds_of_shift(
 }
 
 // The sum of the bounds of all places of a day.
-fn bounds_of_day(unit: u64, case: &[Condition], one: &LentWeek<'_>, week: usize, day: u8) -> u64
-    requires unit_in { unit ≤ thousandths }
+fn bounds_of_day(
+    unit: PointValue,
+    case: &[Condition],
+    one: &LentWeek<'_>,
+    week: usize,
+    day: u8,
+) -> u64
     requires limited { IsLimitedCase case.now }
     requires day_in { day < DAYS }
     requires shape { IsForWeek (week_lent one.now) one.now.prices.now }
@@ -145,8 +150,7 @@ fn bounds_of_day(unit: u64, case: &[Condition], one: &LentWeek<'_>, week: usize,
 }
 
 // The sum of the bounds of all places of the week with this number.
-fn bounds_of_week(unit: u64, case: &[Condition], one: &LentWeek<'_>, week: usize) -> u64
-    requires unit_in { unit ≤ thousandths }
+fn bounds_of_week(unit: PointValue, case: &[Condition], one: &LentWeek<'_>, week: usize) -> u64
     requires limited { IsLimitedCase case.now }
     requires shape { IsForWeek (week_lent one.now) one.now.prices.now }
     ensures bounds { result ≡ case_place_bounds unit case.now week (week_lent one.now) (prices_lent one.now) }
@@ -160,8 +164,7 @@ fn bounds_of_week(unit: u64, case: &[Condition], one: &LentWeek<'_>, week: usize
 }
 
 /// The bounds of all places of the leaf.
-pub fn leaf_place_bounds(unit: u64, leaf: &LentLeaf<'_>) -> u64
-    requires unit_in { unit ≤ thousandths }
+pub fn leaf_place_bounds(unit: PointValue, leaf: &LentLeaf<'_>) -> u64
     ensures bounds { result ≡ leaf_place_bounds unit leaf.now.case 0 (weeks_of leaf.now) }
     ensures small { result ≤ max_weeks * (7 * (16 * (16 * 30000000000000))) }
 {

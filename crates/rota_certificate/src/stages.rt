@@ -2,12 +2,12 @@
 
 ghost use Rattle.std.specs.Prelude.{◌≡◌, ◌≤◌, ◌<◌, ◌&&◌, ◌||◌, not};
 ghost use Rattle.rota_core.specs.InstanceTables.{problem_of};
-ghost use Rattle.rota_certificate.specs.CertificateBounds.{thousandths};
 ghost use Rattle.rota_certificate.specs.LeafBounds.{nurse_count};
 ghost use Rattle.rota_certificate.specs.LentLeaves.{weeks_of};
 ghost use Rattle.rota_certificate.specs.NurseBounds.{charge_totals, pay_for_history};
 ghost use Rattle.rota_certificate.specs.Stages.{IsStage};
 
+use crate::points::PointValue;
 use crate::tariffs::Tariff;
 use rota_core::{Condition, Instance, Prices};
 use std::marker::Model;
@@ -48,7 +48,7 @@ pub struct Stage<'a> {
     pub prices: &'a Prices,
     pub leaf: &'a LentLeaf<'a>,
     pub week: usize,
-    pub unit: u64,
+    pub unit: PointValue,
     pub nurse: u16,
     pub tariff: Tariff,
     pub charged: bool,
@@ -94,8 +94,7 @@ pub fn pay_for_history(leaf: &LentLeaf<'_>) -> bool
 
 impl<'a> Stage<'a> {
     /// The first week of the leaf.
-    pub fn first(leaf: &'a LentLeaf<'a>, unit: u64, tariff: Tariff, nurse: u16) -> Stage<'a>
-        requires unit_in { unit ≤ thousandths }
+    pub fn first(leaf: &'a LentLeaf<'a>, unit: PointValue, tariff: Tariff, nurse: u16) -> Stage<'a>
         requires nurse_in { nurse < nurse_count (weeks_of leaf.now) }
         ensures stage { IsStage result }
         ensures leaf { result.leaf.now ≡ leaf.now }

@@ -4,12 +4,12 @@ ghost use Rattle.std.specs.Prelude.{◌≡◌, ◌*◌, ◌+◌, ◌≤◌, ◌|
 ghost use Rattle.std.specs.Option.{option_map_or};
 ghost use Rattle.rota_core.specs.Limits.{max_number, max_price};
 ghost use Rattle.rota_certificate.specs.CaseLimits.{AreLimitedCharges, IsLimited, most_conditions};
-ghost use Rattle.rota_certificate.specs.CertificateBounds.{thousandths};
 ghost use Rattle.rota_certificate.specs.Minimums.{not_allowed};
 ghost use Rattle.rota_certificate.specs.Tariffs.{added, added_by, forbidden_by, gained, gained_by, has_overdrawn_weight, is_forbidden, is_overdrawn, limit_of, lost, lost_by, points_of, taken, taken_by, tariff_of, weight};
 ghost use Rattle.rota_certificate.specs.declared.limits.Limit.{Limit};
 
 use crate::limits::{Limit, counts, forbids, limit_of};
+use crate::points::PointValue;
 use crate::rebates::NOT_ALLOWED;
 use crate::surcharges::Surcharged;
 use rota_core::{ChargeKind, Condition};
@@ -109,12 +109,11 @@ fn is_forbidden(charges: &[Surcharged], kind: ChargeKind, nurse: u16) -> bool
 }
 
 // The weight of the nurse's charges of the kind, unless the surcharges make it negative.
-fn weight(unit: u64, charges: &[Surcharged], kind: ChargeKind, nurse: u16) -> Option<u64>
-    requires unit_in { unit ≤ thousandths }
+fn weight(unit: PointValue, charges: &[Surcharged], kind: ChargeKind, nurse: u16) -> Option<u64>
     requires limited { AreLimitedCharges charges.now }
     ensures { result ≡ (if is_overdrawn unit charges.now kind nurse then None else Some (weight unit charges.now kind nurse)) }
 {
-    let base = unit * u64::from(points_of(kind)) + added(charges, kind, nurse);
+    let base = unit.times(u64::from(points_of(kind))) + added(charges, kind, nurse);
     let taken = taken(charges, kind, nurse);
     if base < taken {
         None
@@ -126,8 +125,7 @@ fn weight(unit: u64, charges: &[Surcharged], kind: ChargeKind, nurse: u16) -> Op
 }
 
 /// The tariff of the nurse in the leaf, unless the surcharges make a weight negative.
-pub fn tariff_of(unit: u64, charges: &[Surcharged], nurse: u16) -> Option<Tariff>
-    requires unit_in { unit ≤ thousandths }
+pub fn tariff_of(unit: PointValue, charges: &[Surcharged], nurse: u16) -> Option<Tariff>
     requires limited { AreLimitedCharges charges.now }
     ensures { result ≡ (if has_overdrawn_weight unit charges.now nurse then None else Some (tariff_of unit charges.now nurse)) }
 {

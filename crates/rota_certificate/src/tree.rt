@@ -16,6 +16,7 @@ ghost use Rattle.rota_certificate.specs.Evidence.{AreLent, IsShortPath, IsEviden
 use crate::known::Known;
 use crate::leaves::leaf_bound;
 use crate::paths::{case_at, go_on, with};
+use crate::points::PointValue;
 use crate::stages::{LentLeaf, LentWeek};
 use rota_core::{Certificate, Condition, Fact, Instance, Leaf, Node, POINT, Prices};
 use rota_rules::STEP;
@@ -143,10 +144,11 @@ fn bound_by(
 {
     match rules {
         Rules::All => {
-            let sum = leaf_bound(alloc, POINT, leaf, surcharges, known)?;
+            let unit = PointValue::with_soft_rules();
+            let sum = leaf_bound(alloc, unit, leaf, surcharges, known)?;
             Ok(rounded_up(leaf.case, sum))
         }
-        Rules::Hard => leaf_bound(alloc, 0, leaf, &[], known),
+        Rules::Hard => leaf_bound(alloc, PointValue::without_soft_rules(), leaf, &[], known),
     }
 }
 

@@ -20,4 +20,4 @@ returns-clause-stage c =
       charged = c.charge_totals-charged.result;
     } in
     first-is stage first (lent-at c.args.leaf.now weeks 0 c.index-leaf-0.result same c.index-leaf-0.is)
-    (subst IsLeaf c.leaf.view_is c.leaf.invariant) c.requires.unit_in c.requires.nurse_in c.charge_totals-charged.ensures
+    (subst IsLeaf c.leaf.view_is c.leaf.invariant) c.requires.nurse_in c.charge_totals-charged.ensures
