@@ -101,7 +101,7 @@ def form_markup(
 ) -> Markup:
     """A form of the page, with the stamp of the plan, these values in its fields, and this time of a search. With the choice `-` a field is
     left out. One without fields needs no plan."""
-    hidden = [element("input", type="hidden", name=STAMP, value=stamp)] * bool(form.writes)
+    hidden = [element("input", type="hidden", name=STAMP, value=stamp)] if form.writes else []
     usual = seconds or (WEEK_SECONDS * len(plan.weeks) if plan and form.verb == "plan" else CHANGE_SECONDS)
     fields = [_field(name, plan, kept.get(name, ""), usual) for name in form.fields if plan]
     button = element("button", form.button, name="verb", value=form.verb)
@@ -118,13 +118,13 @@ def sure_markup(fields: Fields, plan: Optional[WardPlan], address: str, lines: S
     form = _BY_VERB[fields["verb"]]
     hidden = [element("input", type="hidden", name=name, value=value) for name, value in {**fields, SURE: "yes"}.items()]
     yes = element("button", "Yes, write it", autofocus="")
-    return element(
-        "section",
-        element("h2", f"{_question(form, fields, plan)}?"),
-        *[element("pre", "\n".join(lines))] * bool(lines),
-        element("p", f"This writes {form.writes}." + " Undo takes it back." * (form.verb != "undo")),
-        element("form", *hidden, yes, " ", element("a", "No", href=address), method="post", action=address),
-    )
+    parts = [element("h2", f"{_question(form, fields, plan)}?")]
+    if lines:
+        parts.append(element("pre", "\n".join(lines)))
+    way_back = "" if form.verb == "undo" else " Undo takes it back."
+    parts.append(element("p", f"This writes {form.writes}.{way_back}"))
+    answers = element("form", *hidden, yes, " ", element("a", "No", href=address), method="post", action=address)
+    return element("section", *parts, answers)
 
 
 def _question(form: Form, fields: Fields, plan: Optional[WardPlan]) -> str:
@@ -138,7 +138,8 @@ def _question(form: Form, fields: Fields, plan: Optional[WardPlan]) -> str:
         if value and name not in ("verb", STAMP):
             label, text = _LABELS.get(name, name), _shown(plan, value) if plan else value
             named.append(readable(label if name in _CHECKS else f"{label} {text}"))
-    return f"{form.heading or form.button}{': ' * bool(named)}{', '.join(named)}"
+    heading = form.heading or form.button
+    return f"{heading}: {', '.join(named)}" if named else heading
 
 
 def _shown(plan: WardPlan, value: str) -> str:

@@ -8,7 +8,7 @@ from ..programs.interrupts import Interrupts
 from ..programs.progress import Progress
 from ..week.faults import FileFault, FileFaults, Misuse, ProgramFault, fault_line
 from . import render
-from .outcome import Event, Outcome, Status, Undoing, Undone, WeekOver
+from .outcome import Event, Outcome, Undoing, Undone, WeekOver
 from .store import Means, Reader, WardFolder
 from .verbs import Verbs
 from .words import PeriodOver
@@ -44,11 +44,6 @@ class Said(NamedTuple):
     runs: bool = False
 
     @property
-    def is_refused(self) -> bool:
-        """Whether nothing came of it: it had a fault, or cannot be."""
-        return self.fault is not None
-
-    @property
     def ends_period(self) -> bool:
         """Whether it says that a period is over."""
         return isinstance(self.fault, PeriodOver) or (isinstance(self.outcome, WeekOver) and self.outcome.next is None)
@@ -76,14 +71,12 @@ class Jobs:
         return Verbs(self.folder, Means(self._read, Progress(text), lambda line: print(line, file=text), ""))
 
     def asked(self, event: Event) -> Said:
-        """What an event comes to before it is done, as a question says it; it is a fault if nothing would be written."""
+        """What an event comes to before it is done, as a question says it, or the fault that it would have."""
         try:
             outcome = self.verbs().asked(event)
         except Exception as fault:
             return Said(fault_lines(fault), fault=fault)
-        lines = render.question_lines(outcome)
-        cannot_be = outcome is not None and not isinstance(outcome, Undoing) and outcome.status is not Status.DONE
-        return Said(lines, outcome=outcome, fault=Misuse("this cannot be") if cannot_be else None)
+        return Said(render.question_lines(outcome), outcome=outcome)
 
     def forget(self) -> None:
         """What the last event has said is said no more."""
@@ -113,7 +106,8 @@ class Jobs:
         with self._lock:
             self.check_free()
             self._spoken = io.StringIO()
-            self._said = Said(["this failed: the terminal of inrc2pb-plan says why"], fields, fault=Misuse("this failed"))
+            failed = Misuse("this failed: the terminal of inrc2pb-plan says why")
+            self._said = Said([str(failed)], fields, fault=failed)
             self._thread = threading.Thread(target=self._run, args=(event, stamp, self._spoken))
             self._thread.start()
 

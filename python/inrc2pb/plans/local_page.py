@@ -74,32 +74,34 @@ def page_markup(plan: Optional[WardPlan], shown: Shown, address: str) -> str:
     """The page. While a verb runs it loads itself again and again, and has no plan, which would take the time of the search."""
     name, said = shown.name, shown.said
     # A cell that was clicked, a question, and a form that was refused take the place of an older verb's answer.
-    is_old = bool(shown.asks) or (not said.runs and (bool(plan and shown.refused) or (shown.place is not None and not said.is_refused)))
+    is_old = bool(shown.asks) or (not said.runs and (bool(plan and shown.refused) or (shown.place is not None and not said.fault)))
     parts: List[Markup] = [element("h1", name), *_lines(shown.refused, True), *([] if is_old else _said(said, shown.kept, address))]
     if shown.asks:
         parts.append(sure_markup(shown.asks, plan, address, shown.lines))
     elif plan and not said.runs:
         if shown.place and plan.is_planned:
             parts.append(_cell(plan, shown.place, address, shown.stamp))
-        to_roster = [element("a", "To the roster", href=f"#{_ROSTER}")] * plan.is_planned
+        to_roster = [element("a", "To the roster", href=f"#{_ROSTER}")] if plan.is_planned else []
         parts.append(element("p", _GUIDE.format(shown.spreadsheet), *to_roster))
         clicked = {"nurse": shown.place.nurse, "first": plan.days.head(shown.place.day)} if shown.place else {}
         for form in FORMS:
             kept = shown.kept if form.verb == shown.kept.get("verb") and not clicked else clicked
-            parts += [form_markup(form, plan, address, shown.stamp, kept, shown.seconds)] * (plan.is_planned or not form.needs_plan)
+            if plan.is_planned or not form.needs_plan:
+                parts.append(form_markup(form, plan, address, shown.stamp, kept, shown.seconds))
     elif plan is None and not said.runs:
         parts += _without_plan(shown, address)
     if plan and (plan.is_planned and plan.weeks or shown.worked):
         parts.append(_roster(plan, shown, address))
-    refresh = [element("meta", http_equiv="refresh", content=str(REFRESH_SECONDS))] * said.runs
-    style = element("style", Markup(page_style() + STYLE))
-    return page_of(name, [*refresh, style], parts)
+    heads = [element("style", Markup(page_style() + STYLE))]
+    if said.runs:
+        heads.append(element("meta", http_equiv="refresh", content=str(REFRESH_SECONDS)))
+    return page_of(name, heads, parts)
 
 
 def _without_plan(shown: Shown, address: str) -> List[Markup]:
     """What there is if the spreadsheet has a fault, or not yet the days of the next period."""
     again = element("a", "load this page again", href=address)
-    begin = "Correct that in" if shown.said.is_refused else "Write the days of the next period into the sheet plan of"
+    begin = "Correct that in" if shown.said.fault else "Write the days of the next period into the sheet plan of"
     return [
         element("p", f"{begin} {shown.spreadsheet}, save it, and ", again, "."),
         *(form_markup(form, None, address, shown.stamp) for form in FORMS if not (form.needs_plan or form.fields)),
@@ -120,8 +122,12 @@ def _lines(lines: Sequence[str], is_fault: bool) -> List[Markup]:
     kind = "fault" if is_fault else None
     paragraphs = "\n".join(lines).split("\n\n")
     shown, folded = ("\n\n".join(part) for part in (paragraphs[:2], paragraphs[2:]))
-    rest = element("details", element("summary", "More"), element("pre", folded))
-    return [element("pre", shown, role="alert" if is_fault else "status", class_=kind), *[rest] * bool(folded)] if lines else []
+    if not lines:
+        return []
+    parts = [element("pre", shown, role="alert" if is_fault else "status", class_=kind)]
+    if folded:
+        parts.append(element("details", element("summary", "More"), element("pre", folded)))
+    return parts
 
 
 def _said(said: Said, kept: Fields, address: str) -> List[Markup]:
@@ -131,7 +137,7 @@ def _said(said: Said, kept: Fields, address: str) -> List[Markup]:
     is_look = isinstance(found, Swapped) and found.pages is None and not found.faults
     words = {name: value for name, value in kept.items() if value and name != "verb"}
     write = [swap_markup(words, "Write this swap", address)] if is_look else []
-    return [*_lines(said.lines, said.is_refused), *([stop] if said.runs else []), *write]
+    return [*_lines(said.lines, said.fault is not None), *([stop] if said.runs else []), *write]
 
 
 def _content(plan: WardPlan, address: str) -> Content:
@@ -153,7 +159,7 @@ def _roster(plan: WardPlan, shown: Shown, address: str) -> Markup:
     content = _content(plan, address)
     table, notes = RosterTable(content), [element("p", note) for note in content.notes]
     legend = element("ul", *(element("li", line) for line in table.legend()), class_="legend")
-    calendars = [("Calendars", CALENDARS)] * bool(plan.days.monday)
+    calendars = [("Calendars", CALENDARS)] if plan.days.monday else []
     links = [("Costs, totals and coverage", "roster"), ("Page for the wall", "wall"), *calendars, *links]
     hint = element("p", "Click a nurse's day: what her week costs, and who could take her shift.")
     cost = element("p", "" if plan.view().penalty is None else f"{plan.view().penalty} points. ", *_linked(links, address), class_="links")

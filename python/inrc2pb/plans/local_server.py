@@ -17,6 +17,7 @@ from ..week.faults import Misuse
 from .local_forms import STAMP, SURE, event_of, not_written, writes
 from .local_jobs import Busy, Changed, Fields, Jobs, Said, fault_lines
 from .local_page import Place, Shown, calendars_markup, page_markup
+from .outcome import Swapped
 from .pages import CALENDARS, own_calendars, roster_content
 from .ward import WardPlan
 from .words import PeriodOver
@@ -79,7 +80,7 @@ class Site:
             done = said.lines if said.is_undo else []
             self._had_fault = True
             return None, said if said.runs else Said([*fault_lines(fault), *done], said.fields, fault=fault)
-        if self._had_fault and said.is_refused:
+        if self._had_fault and said.fault:
             # The lines of a verb about the fault no longer hold.
             self.jobs.forget()
             said = self.jobs.said()
@@ -127,7 +128,8 @@ class Site:
             found = self.jobs.asked(event_of(form, self.jobs.seconds))
         except Misuse as fault:
             return Sent(form, fault_lines(fault), True)
-        return Sent(form, found.lines, found.is_refused) if found.is_refused or writes(form) else None
+        is_refused = found.fault is not None or (isinstance(found.outcome, Swapped) and bool(found.outcome.faults))
+        return Sent(form, found.lines, is_refused) if is_refused or writes(form) else None
 
 
 def _asked(fields: Fields) -> Dict[str, str]:
@@ -239,7 +241,7 @@ def _kept(said: Said, sent: Optional[Sent]) -> Fields:
     """The values that stay in the form that was sent last: of one that was refused, of a look for a swap, or of a verb that failed."""
     if sent:
         return sent.fields
-    return said.fields if said.is_refused or said.fields.get("verb") == "swap" else {}
+    return said.fields if said.fault or said.fields.get("verb") == "swap" else {}
 
 
 def _place(plan: Optional[WardPlan], query: Dict[str, str]) -> Optional[Place]:
@@ -251,7 +253,7 @@ def _place(plan: Optional[WardPlan], query: Dict[str, str]) -> Optional[Place]:
 
 def _looked(plan: Optional[WardPlan], kept: Fields, said: Said) -> Optional[Place]:
     """The nurse and the day of a look for all swaps, whose offers the page shows as buttons."""
-    if plan is None or kept.get("verb") != "swap" or kept.get("other") or said.is_refused or said.runs:
+    if plan is None or kept.get("verb") != "swap" or kept.get("other") or said.fault or said.runs:
         return None
     days = {plan.days.head(day): day for day in range(plan.first, plan.days.total)}
     nurse, day = kept.get("nurse", ""), days.get(kept.get("first", ""))

@@ -80,7 +80,7 @@ def calendars_taken_away(top: Path, nurses: Sequence[str], before: Mapping[str, 
     gone = taken_away(top / CALENDARS, list(names))
     if gone and not any((top / CALENDARS).iterdir()):
         (top / CALENDARS).rmdir()
-    return [top / CALENDARS] * bool(gone)
+    return [top / CALENDARS] if gone else []
 
 
 def worked_name(days: PlanDays, periods: int) -> str:

@@ -91,7 +91,7 @@ class State:
 
     def record(self, verb: str, time: datetime.datetime) -> Record:
         """What the folder of a plan says of itself that this verb has made."""
-        return Record(verb, time, self.days, self.open_week, self.published, self.absences, self.agreed)
+        return Record(verb, time, self.days, self.open_week, self.published, absences=self.absences, agreed=self.agreed)
 
 
 def in_week(cells: Iterable[Cell], week: int) -> Tuple[Cell, ...]:
@@ -231,7 +231,16 @@ def read_state(folder: Path) -> State:
     for week in range(planned):
         cells += [cell._replace(day=WEEK_DAYS * week + cell.day) for cell in read_solution(folder / roster_name(week)).cells]
     start = read_history(folder / START, read_scenario(folder / "ward.txt"))
-    return State(record.days, start, record.open_week, planned, tuple(cells), record.published, record.absences, record.agreed)
+    return State(
+        days=record.days,
+        start=start,
+        open_week=record.open_week,
+        planned=planned,
+        cells=tuple(cells),
+        published=record.published,
+        absences=record.absences,
+        agreed=record.agreed,
+    )
 
 
 def state_texts(state: State, record: Record, scenario: Scenario, histories: Sequence[History]) -> Dict[str, str]:

@@ -94,7 +94,7 @@ class WardFolder:
         return [path for path in folder.iterdir() if _NAME.fullmatch(path.name)] if folder.is_dir() else []
 
     def check_undo(self) -> Path:
-        """The folder of the plan that undo takes away; that there is none is a Misuse."""
+        """The folder of the plan that undo takes away. Raises Misuse if there is none."""
         last = self.last()
         if last is None:
             raise Misuse(f"{self.top}: there is nothing to undo")
@@ -186,14 +186,14 @@ class PlanStore:
         return continued(self.means.read(spreadsheet, state.start.scenario, state.absences), state)
 
     def planned(self) -> WardPlan:
-        """The same; that it has no rosters is a Misuse."""
+        """The same. Raises Misuse if it has no rosters."""
         plan = self.current()
         if not plan.is_planned:
             raise Misuse(f"{self.folder.top} has no plan yet: type inrc2pb-plan {shlex.quote(str(self.folder.top))} plan")
         return plan
 
     def fitting(self) -> WardPlan:
-        """The same; that the spreadsheet does not have its names any more is a Misuse."""
+        """The same. Raises Misuse if the spreadsheet does not have its names any more."""
         return fitted(self.planned())
 
     def save(self, verb: str, plan: WardPlan, old: Optional[WardPlan] = None) -> Pages:
@@ -258,7 +258,7 @@ class PlanStore:
 
 
 def fitted(plan: WardPlan) -> WardPlan:
-    """The plan; that the spreadsheet does not have its names any more is a Misuse."""
+    """The plan. Raises Misuse if the spreadsheet does not have its names any more."""
     if plan.unknown:
         row = plan.unknown[0]._replace(day=plan.unknown[0].day % WEEK_DAYS).row()
         names = f"the plan has '{row}', and the spreadsheet has not all of these names"

@@ -137,7 +137,7 @@ def _begun_return(store: PlanStore, event: Event) -> Away:
     same = [day for day in days if new.away.get(NurseDay(nurse, day)) == word]
     # The spreadsheet has the same absence.
     new = store.current(with_days(lifted, nurse, same, BACK)) if same else new
-    return Away(old, new, nurse, tuple(days), BACK, word)
+    return Away(old, new, nurse, tuple(days), BACK, was=word)
 
 
 def absence_from(plan: WardPlan, nurse: str, first: int) -> Tuple[str, List[int]]:
@@ -193,7 +193,17 @@ def _searched(store: PlanStore, verb: str, old: WardPlan, asked: Asked, absence:
         older = absence.old if absence else old
         seen = older if old.is_planned else None
         status = Status.NOT_KEPT if unkept(new) else Status.DONE
-        planned = Planned(seen, old, searched, new, penalties(new), found.bound, found.stopped, absence, status=status)
+        planned = Planned(
+            before=seen,
+            old=old,
+            asked=searched,
+            plan=new,
+            penalties=penalties(new),
+            bound=found.bound,
+            is_stopped=found.stopped,
+            absence=absence,
+            status=status,
+        )
         return _saved(planned, store.save(verb, new, seen))
 
 
