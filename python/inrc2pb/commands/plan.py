@@ -1,6 +1,7 @@
 """Plans a ward from one folder: its spreadsheet, and what verbs have made of it."""
 
 import argparse
+import functools
 import re
 import shlex
 import sys
@@ -21,7 +22,7 @@ from ..programs.interrupts import interrupts
 from ..programs.program import find_program
 from ..programs.progress import Progress
 from ..sheets.plan_sheets import AWAY, COUNTED, read_days
-from ..sheets.sheet_files import read_book
+from ..sheets.sheet_files import Book, read_book
 from ..sheets.ward_sheets import shift_times
 from ..week.faults import Misuse
 from ..week.slots import did_you_mean
@@ -84,14 +85,26 @@ def _options() -> argparse.ArgumentParser:
     return options
 
 
-def read_sheet(path: Path, name: Optional[str], written: Sequence[DayWord]) -> Ward:
-    """The files of a ward's spreadsheet, with these absences in its plan."""
-    book = read_book(path)
-    book = with_written(book, read_days(book), written)
+def read_sheet(path: Path, name: Optional[str], absences: Sequence[DayWord]) -> Ward:
+    """The ward of a spreadsheet, which has this name, if it has one, with these days away in its plan."""
+    return _ward_of(read_book(path), name or ward_name(path), absences)
+
+
+def _ward_of(sheets: Book, name: str, absences: Sequence[DayWord]) -> Ward:
+    """The ward of a spreadsheet that was read."""
+    book = with_written(sheets, read_days(sheets), absences)
     days = read_days(book)
-    files = ward_files(book, name or ward_name(path), days, days.weeks, COUNTED)
-    credit = {nurse: shifts for nurse, (_, shifts) in files.credit.items()}
-    return Ward(files.texts, files.warnings, PlanDays(days.monday, days.weeks), credit, shift_times(book), files.holidays, week_rows(book))
+    files = ward_files(book, name, days, days.weeks, COUNTED)
+    return Ward(
+        texts=files.texts,
+        warnings=files.warnings,
+        days=PlanDays(days.monday, days.weeks),
+        credit={nurse: shifts for nurse, (_, shifts) in files.credit.items()},
+        times=shift_times(book),
+        holidays=files.holidays,
+        week_rows=week_rows(book),
+        with_absences=functools.partial(_ward_of, sheets, name),
+    )
 
 
 def _check(given: argparse.Namespace) -> None:

@@ -11,14 +11,15 @@ from ..shown.markup import Markup, element, joined
 from ..shown.page import page_style
 from ..shown.page_tables import Content, RosterTable
 from ..week.dates import day_names
+from .events import offers_of
 from .local_forms import FORMS, STAMP, form_markup, sure_markup, swap_markup
 from .local_jobs import Fields, Said
 from .outcome import Swapped
 from .pages import CALENDARS, roster_content
-from .render import MOST_OFFERS, nobody_text, offer_text
+from .render import MOST_OFFERS, nobody_text
+from .sentences import offer_text
 from .state import NurseDay
 from .swaps import Swaps
-from .verbs import offers_of
 from .ward import WardPlan
 from .words import WEEK_DAYS
 

@@ -13,7 +13,7 @@ from ..week.dates import DAY, date_text
 from ..week.writing import write_text
 from .facts import unkept
 from .outcome import Pages
-from .render import beside_lines, days_away_lines, unkept_lines
+from .sentences import beside_lines, days_away_lines, unkept_lines
 from .ward import WardPlan
 from .words import WEEK_DAYS, PlanDays
 

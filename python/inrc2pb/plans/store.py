@@ -9,7 +9,6 @@ import shlex
 import shutil
 import tempfile
 import threading
-from dataclasses import replace
 from pathlib import Path
 from typing import Callable, Dict, Iterable, Iterator, List, NamedTuple, Optional, Sequence, Set, TextIO, Tuple
 
@@ -176,13 +175,12 @@ class PlanStore:
     def __init__(self, folder: WardFolder, means: Means) -> None:
         self.folder, self.means = folder, means
 
-    def current(self, absences: Sequence[DayWord] = ()) -> WardPlan:
-        """The plan that holds, with what the spreadsheet says now; with these absences, if there are some."""
+    def current(self) -> WardPlan:
+        """The plan that holds, with what the spreadsheet says now."""
         last, spreadsheet = self.folder.last(), self.folder.spreadsheet()
         if last is None:
-            return first_plan(self.means.read(spreadsheet, None, absences))
+            return first_plan(self.means.read(spreadsheet, None, ()))
         state = read_state(last)
-        state = replace(state, absences=tuple(absences or state.absences))
         return continued(self.means.read(spreadsheet, state.start.scenario, state.absences), state)
 
     def planned(self) -> WardPlan:

@@ -89,6 +89,11 @@ class Swap(NamedTuple):
     other: str
     days: Tuple[int, ...]
 
+    @property
+    def places(self) -> List[NurseDay]:
+        """The days of both nurses."""
+        return [NurseDay(nurse, day) for nurse in (self.one, self.other) for day in self.days]
+
 
 class Offer(NamedTuple):
     """A swap that has no fault, and what it adds to the penalty."""

@@ -2,7 +2,7 @@
 
 from dataclasses import dataclass, replace
 from functools import cached_property
-from typing import Dict, FrozenSet, Iterable, List, Mapping, Optional, Sequence, Tuple
+from typing import Callable, Dict, FrozenSet, Iterable, List, Mapping, Optional, Sequence, Tuple
 
 from ..judging.absences import absences_of, readable
 from ..judging.days_away import DaysAway
@@ -19,12 +19,13 @@ from ..week.files import read_history, read_scenario, read_solution, read_week
 from ..week.hints import plural
 from ..week.reasons import read_reasons
 from ..week.records import Absence, Cell, History, Place, Requirement, Scenario, Week, WeekData
-from .state import NurseDay, State, in_week
+from .state import DayWord, NurseDay, State, in_week
 from .ward_sheet import WeekRow
 from .words import PERIOD_IS_OVER, WEEK_DAYS, PeriodOver, PlanDays
 
 FACTS, REASONS = "facts.txt", "reasons.txt"
-ALWAYS_OFF = "off"
+# The word for a day without a shift, and for one on which a nurse never works.
+OFF = ALWAYS_OFF = "off"
 # The reasons to be away that are work in a row, and those before which nobody should have a night shift.
 _TRAINING, _FREE = ("training",), ("training", "leave", "unpaid")
 
@@ -40,8 +41,10 @@ class Ward:
     days: PlanDays
     credit: Mapping[str, int]
     times: Mapping[str, Times]
-    holidays: FrozenSet[int] = frozenset()
-    week_rows: Sequence[WeekRow] = ()
+    holidays: FrozenSet[int]
+    week_rows: Sequence[WeekRow]
+    # The ward of the same spreadsheet with other days away that verbs have written.
+    with_absences: Callable[[Sequence[DayWord]], "Ward"]
 
     @cached_property
     def scenario(self) -> Scenario:
@@ -119,9 +122,7 @@ def _planned(ward: Ward, state: State, end: int) -> List[str]:
     return [cell.nurse for cell in state.cells if cell.day < end and NurseDay(cell.nurse, cell.day) not in ward.reasons]
 
 
-def _with_more(
-    limits: Sequence[Claim], ward: Ward, state: State, planned: Sequence[str], more: Mapping[str, int]
-) -> Tuple[Claim, ...]:
+def _with_more(limits: Sequence[Claim], ward: Ward, state: State, planned: Sequence[str], more: Mapping[str, int]) -> Tuple[Claim, ...]:
     """The limits, with maxima that allow nurses these planned shifts, but by no more than `more` says for each."""
     before = credited(state.start, dict(ward.credit)).nurses
 
@@ -261,6 +262,10 @@ class WardPlan:
     def with_state(self, state: State) -> "WardPlan":
         """The same ward and limits with what verbs have made now."""
         return replace(self, state=state)
+
+    def with_absences(self, absences: Sequence[DayWord]) -> "WardPlan":
+        """The same with these days away that verbs have written, judged by the limits of a plan with them."""
+        return continued(self.ward.with_absences(absences), replace(self.state, absences=tuple(absences)))
 
     def view(self, shown: Optional[range] = None) -> RosterView:
         """Some weeks, or those that are not over, to be shown."""

@@ -9,7 +9,7 @@ from ward import HAS_CBC, run
 
 from inrc2pb.commands.plan import read_sheet
 from inrc2pb.plans.facts import unkept
-from inrc2pb.plans.render import days_away_lines, exceeded_lines, fault_text, unkept_lines
+from inrc2pb.plans.sentences import days_away_lines, exceeded_lines, fault_text, unkept_lines
 from inrc2pb.plans.state import read_state
 from inrc2pb.plans.swaps import Swap, Swaps
 from inrc2pb.plans.ward import continued, limits_of, plan_of

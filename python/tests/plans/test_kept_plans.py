@@ -16,8 +16,9 @@ from inrc2pb.commands.plan import read_sheet
 from inrc2pb.plans import pages, store
 from inrc2pb.plans.changes import days_off_beside_absences, shift_changes, with_few_changes, without_needless_changes
 from inrc2pb.plans.facts import unkept
-from inrc2pb.plans.render import beside_lines, bound_text, call_lines, change_lines, days_off_lines, part_lines, unkept_lines, wish_lines
+from inrc2pb.plans.render import bound_text, part_lines
 from inrc2pb.plans.searching import known_bound
+from inrc2pb.plans.sentences import beside_lines, call_lines, change_lines, days_off_lines, unkept_lines, wish_lines
 from inrc2pb.plans.state import DayWord, NurseDay, Record, read_record, read_state, record_text
 from inrc2pb.plans.ward import limits_for_leavers, plan_of
 from inrc2pb.plans.words import PlanDays

@@ -1,0 +1,199 @@
+"""What a user asks for, and what that makes of a plan before anything is searched or written.
+
+These are functions of the plan that holds and of the words after a verb: no file is read or written. They raise Misuse if what is asked
+for cannot be.
+"""
+
+from dataclasses import replace
+from typing import Dict, List, NamedTuple, Optional, Sequence, Set, Tuple, Union
+
+from ..judging.absences import joined, readable
+from ..sheets.plan_sheets import AWAY
+from ..week.faults import Misuse
+from ..week.records import Cell, Place
+from .outcome import Away, Event, Offers, Published, Status, Swapped, WeekOver
+from .state import BACK, NurseDay, State, with_days, without_last, words_of
+from .swaps import Swap, Swaps, swapped
+from .ward import ALWAYS_OFF, OFF, WardPlan, plan_of
+from .words import WEEK_DAYS, Wording
+
+
+def _wording(plan: WardPlan, event: Event, usage: str) -> Wording:
+    """The words of an event, of which `usage` is an example."""
+    return Wording(event.words, plan.scenario.nurses, plan.days, plan.first, usage)
+
+
+def first_day(plan: WardPlan, event: Event) -> int:
+    """The day from which on a plan is asked for."""
+    wording = _wording(plan, event, "plan, or plan 2026-12-09 to leave all days before it as they are")
+    first = plan.first if wording.is_over else wording.open_day()
+    wording.end()
+    return first
+
+
+# ---- absences
+
+
+def absence(old: WardPlan, event: Event) -> Away:
+    """A nurse is away on these days for the reason that is the verb."""
+    wording = _wording(old, event, f"{event.verb} {readable(next(iter(old.scenario.nurses)))} Fri Sun")
+    nurse, first = wording.nurse(), wording.open_day()
+    last = first if wording.is_over else wording.open_day(first)
+    wording.end()
+    if last < first:
+        raise Misuse(f"{old.days.text(last)} is before {old.days.text(first)}: give the first day first")
+    days = tuple(range(first, last + 1))
+    return Away(old, old.with_absences(with_days(old.state.absences, nurse, days, event.verb)), nurse, days, event.verb)
+
+
+def back(old: WardPlan, event: Event) -> Away:
+    """A nurse is back from a day on: the absence of that day ends, and later ones for other reasons stay."""
+    wording = _wording(old, event, f"back {readable(next(iter(old.scenario.nurses)))} Mon")
+    nurse, first = wording.nurse(), wording.open_day()
+    wording.end()
+    word, days = absence_from(old, nurse, first)
+    is_written = words_of(old.state.absences, nurse).get(first) == word
+    lifted = without_last(old.state.absences, nurse, days) if is_written else with_days(old.state.absences, nurse, days, BACK)
+    new = old.with_absences(lifted)
+    same = [day for day in days if new.away.get(NurseDay(nurse, day)) == word]
+    if same:
+        # The spreadsheet has the same absence.
+        new = old.with_absences(with_days(lifted, nurse, same, BACK))
+    return Away(old, new, nurse, tuple(days), BACK, was=word)
+
+
+def absence_from(plan: WardPlan, nurse: str, first: int) -> Tuple[str, List[int]]:
+    """The reason for which a nurse is away on a day, and the days from it on with the same reason, that a verb has written if it has
+    written this one, or that only the spreadsheet says. Raises Misuse if she is not away."""
+    word = plan.away.get(NurseDay(nurse, first), ALWAYS_OFF)
+    if word == ALWAYS_OFF:
+        always = ": she is always off on it" if NurseDay(nurse, first) in plan.away else ""
+        raise Misuse(f"{readable(nurse)} is not away on {plan.days.text(first)}{always}")
+    by_verbs = words_of(plan.state.absences, nurse)
+    is_of_verb, days = by_verbs.get(first) == word, [first]
+    for day in range(first + 1, plan.days.total):
+        if plan.away.get(NurseDay(nurse, day)) != word or (by_verbs.get(day) == word) != is_of_verb:
+            break
+        days.append(day)
+    return word, days
+
+
+# ---- swaps
+
+
+class Look(NamedTuple):
+    """A look at who could take a nurse's shift on a day."""
+
+    nurse: str
+    day: int
+
+
+def asked_swap(old: WardPlan, event: Event) -> Union[Look, Swap]:
+    """The swap of two nurses that is asked for, or the look at all swaps of a shift."""
+    names = [readable(nurse) for nurse in old.scenario.nurses][:2]
+    wording = _wording(old, event, f"swap {names[0]} Fri {names[-1]} Sat, or swap {names[0]} Fri for all who could")
+    nurse, day = wording.nurse(), wording.open_day()
+    if wording.is_over:
+        if event.do:
+            raise Misuse("a swap that is written is of two nurses: name the other one and her day")
+        return Look(nurse, day)
+    other = wording.nurse()
+    days = {day, day if wording.is_over else wording.open_day()}
+    wording.end()
+    if nurse == other:
+        raise Misuse(f"{readable(nurse)} cannot swap with herself: name another nurse")
+    return Swap(nurse, other, tuple(sorted(days)))
+
+
+def offers_of(swaps: Swaps, nurse: str, day: int) -> Offers:
+    """Who could take the nurse's shift on this day. Raises Misuse if she has none."""
+    if swaps.works(nurse, day) is None:
+        raise Misuse(f"{readable(nurse)} is off on {swaps.plan.days.text(day)}: name a day on which she works")
+    return Offers(swaps, nurse, day, tuple(swaps.offers(nurse, day)))
+
+
+def swap(old: WardPlan, asked: Swap, before: Optional[State], has_offers: bool) -> Swapped:
+    """What a swap makes of a plan. It takes the last swap of the same nurses and days back, if it gives them the shifts that they had
+    `before` that one."""
+    swaps, new = Swaps(old), old.with_cells(swapped(old.cells, asked))
+    if new.works == old.works:
+        days = joined(map(old.days.text, asked.days))
+        raise Misuse(f"{readable(asked.one)} and {readable(asked.other)} have the same on {days}: nothing would change")
+    faults = tuple(swaps.faults(asked))
+    # The first shift that one of the two gives away.
+    first = next((nurse, day) for nurse in (asked.one, asked.other) for day in asked.days if swaps.works(nurse, day))
+    offers = offers_of(swaps, *first) if faults or has_offers else None
+    if faults:
+        return Swapped(old, new, asked, faults, offers=offers, status=Status.NOT_KEPT)
+    takes_back = before is not None and _shifts(before.cells, asked) == _shifts(new.cells, asked)
+    kept = [one for one in old.state.agreed if one not in asked.places]
+    agreed = [one for one in before.agreed if one in asked.places] if before and takes_back else asked.places
+    new = new.with_state(replace(new.state, agreed=(*kept, *agreed)))
+    return Swapped(old, new, asked, takes_back=takes_back, offers=offers)
+
+
+def _shifts(cells: Sequence[Cell], swap: Swap) -> Set[Tuple[str, int, str]]:
+    """The shifts of the two nurses on the days of a swap."""
+    return {(cell.nurse, cell.day, cell.shift) for cell in cells if cell.nurse in (swap.one, swap.other) and cell.day in swap.days}
+
+
+# ---- the end of a week, and publishing
+
+
+class _Worked(NamedTuple):
+    """The shifts of nurses' days as they were worked, and why nurses were away on days on which they did not work, or that they were back
+    on days on which they did."""
+
+    cells: Dict[NurseDay, Cell]
+    away: Dict[NurseDay, str]
+
+
+def end_of_week(old: WardPlan, event: Event) -> WeekOver:
+    """The first week that is not over is over, as it was planned, or with the corrections that the words are."""
+    if not old.weeks:
+        raise Misuse("all weeks are over")
+    name = readable(next(iter(old.scenario.nurses)))
+    wording = _wording(old, event, f"over, or over {name} Fri off if {name} did not work on Friday, or over {name} Fri ill")
+    found = _Worked(dict(old.works), {})
+    while not wording.is_over:
+        _correct(old, wording, found)
+    absences = old.state.absences
+    for (nurse, day), word in found.away.items():
+        absences = with_days(absences, nurse, [day], word)
+    new = old.with_absences(absences) if found.away else old
+    worked = plan_of(new.ward, new.state.with_open(found.cells.values()))
+    state = replace(worked.state, open_week=old.state.open_week + 1)
+    ended = worked.with_state(replace(state, agreed=tuple(one for one in state.agreed if one.day >= state.first)))
+    return WeekOver(old, worked, ended if ended.weeks else None, found.away)
+
+
+def _correct(old: WardPlan, wording: Wording, found: _Worked) -> None:
+    """Takes one correction, such as `Bruno Mon Late` or `Bruno Mon ill`. The last one of a nurse's day counts."""
+    nurse, day = wording.nurse(), wording.open_day()
+    place = NurseDay(nurse, day)
+    if day >= old.first + WEEK_DAYS:
+        raise Misuse(f"{old.days.text(day)} is after the week that ends now: the verb swap, or ill, changes later days")
+    found.cells.pop(place, None)
+    found.away.pop(place, None)
+    word = wording.one_of(AWAY)
+    if word:
+        found.away[place] = word
+        return
+    shift, skill = wording.shift([*old.scenario.shift_types, OFF], old.scenario.nurses[nurse].skills)
+    if shift != OFF:
+        found.cells[place] = Cell(nurse, day, shift, skill or _skill(old, place, shift))
+        if old.away.get(place, ALWAYS_OFF) != ALWAYS_OFF:
+            found.away[place] = BACK
+
+
+def _skill(old: WardPlan, place: NurseDay, shift: str) -> str:
+    """The skill with which a nurse counts who worked another shift: her old one, or one that is asked for, if she has it."""
+    before = old.works.get(place)
+    skills = [*([before.skill] if before else []), *old.scenario.nurses[place.nurse].skills]
+    asked = [skill for skill in skills for need in [old.needs.get(Place(place.day, shift, skill))] if need and need.optimal]
+    return (asked or skills)[0]
+
+
+def published(old: WardPlan) -> Published:
+    """From now on the plan hangs on the wall."""
+    return Published(old.with_state(replace(old.state, published=True)))
