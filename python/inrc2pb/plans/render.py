@@ -52,7 +52,7 @@ def warning_lines(found: Checked) -> List[str]:
 
 
 @lines.register
-def _(found: Checked, write: str = "") -> List[str]:
+def _checked_lines(found: Checked, write: str = "") -> List[str]:
     plan = found.plan
     said = [f"warning: {line}" for line in (*warning_lines(found), *exceeded_lines(plan), *beside_lines(plan))]
     if plan.is_planned and plan.weeks:
@@ -109,7 +109,7 @@ def absence_lines(found: Away) -> List[str]:
 
 
 @lines.register
-def _(found: Away, write: str = "") -> List[str]:
+def _away_lines(found: Away, write: str = "") -> List[str]:
     begin = absence_lines(found) if found.word == BACK else []
     return [*begin, *_counts_now(found)]
 
@@ -135,7 +135,7 @@ def part_lines(old: WardPlan, new: WardPlan, nurse: str) -> List[str]:
 
 
 @lines.register
-def _(found: Planned, write: str = "") -> List[str]:
+def _planned_lines(found: Planned, write: str = "") -> List[str]:
     new, missing = found.plan, unkept(found.plan)
     said = _counts_now(found.absence) if found.absence else []
     said += unkept_lines(new, missing)
@@ -194,7 +194,7 @@ def bound_text(known: Optional[KnownBound]) -> str:
 
 
 @lines.register
-def _(found: NoPlan, write: str = "") -> List[str]:
+def _no_plan_lines(found: NoPlan, write: str = "") -> List[str]:
     plan, begin = found.plan, _counts_now(found.absence) if found.absence else []
     said = [f"week {found.week}: {shortage_head(found.shortage)}"]
     for short in found.shortage.places:
@@ -220,7 +220,7 @@ def nobody_text(found: Offers) -> str:
 
 
 @lines.register
-def _(found: Offers, write: str = "") -> List[str]:
+def _offers_lines(found: Offers, write: str = "") -> List[str]:
     cell, day = found.swaps.works(found.nurse, found.day), found.swaps.plan.days.text(found.day)
     shift = f"{readable(found.nurse)}'s {readable(cell.shift if cell else '')} on {day}"
     if not found.offers:
@@ -230,7 +230,7 @@ def _(found: Offers, write: str = "") -> List[str]:
 
 
 @lines.register
-def _(found: Swapped, write: str = "") -> List[str]:
+def _swapped_lines(found: Swapped, write: str = "") -> List[str]:
     offers = lines(found.offers) if found.offers else []
     if found.faults:
         return [*(f"not possible: {fault_text(found.old, fault)}" for fault in found.faults), "nothing is written", *offers]
@@ -271,7 +271,7 @@ def _charged(plan: WardPlan) -> List[Tuple[int, str]]:
 
 
 @lines.register
-def _(found: WeekOver, write: str = "") -> List[str]:
+def _week_over_lines(found: WeekOver, write: str = "") -> List[str]:
     old, worked = found.old, found.worked
     said: List[str] = []
     for (nurse, day), word in found.away.items():
@@ -307,7 +307,7 @@ def _period_over(found: WeekOver) -> List[str]:
 
 
 @lines.register
-def _(found: Published, write: str = "") -> List[str]:
+def _published_lines(found: Published, write: str = "") -> List[str]:
     return [*exceeded_lines(found.plan), *pages_lines(found.pages)]
 
 
@@ -317,7 +317,7 @@ def made_text(one: Undoing) -> str:
 
 
 @lines.register
-def _(found: Undone, write: str = "") -> List[str]:
+def _undone_lines(found: Undone, write: str = "") -> List[str]:
     undone, holds = made_text(found.undone), found.holds
     said = [f"undone: {undone}" if holds else f"undone: {undone}; there is no plan any more"]
     if holds:
