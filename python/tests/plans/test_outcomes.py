@@ -1,0 +1,117 @@
+"""Tests of events and outcomes as values: what a question shows is not written, and no status is read from words."""
+
+import unittest
+from unittest import mock
+
+from test_kept_plans import KeptTest
+from test_plans import DATES
+
+from inrc2pb.commands.plan import read_sheet
+from inrc2pb.plans import render, sentences
+from inrc2pb.plans.outcome import Away, Checked, Event, Offers, Published, Status, Swapped, Undoing, WeekOver
+from inrc2pb.plans.state import BACK, NurseDay
+from inrc2pb.plans.store import Means, WardFolder
+from inrc2pb.plans.swaps import Kind, Swap
+from inrc2pb.plans.verbs import Verbs
+from inrc2pb.programs.progress import Progress
+from inrc2pb.week.faults import Misuse
+
+
+class Outcomes(KeptTest):
+    def setUp(self):
+        super().setUp()
+        self.verbs = Verbs(WardFolder(self.ward), Means(read_sheet, Progress(None), lambda line: None))
+
+    def asked(self, verb, *words, **options):
+        return self.verbs.asked(Event(verb, words, **options))
+
+    def test_what_is_asked_is_not_written(self):
+        self.rows["plan"][3][1] = "leave"
+        self.write()
+        before = {path: path.read_bytes() for path in self.ward.rglob("*") if path.is_file()}
+        for kind, event in (
+            (type(None), Event("check")),
+            (type(None), Event("plan", ("Fri",))),
+            (Away, Event("ill", ("Grace", "Wed", "Fri"))),
+            (Away, Event("back", ("Chen", "Mon"))),
+            (Offers, Event("swap", ("Grace", "Mon"))),
+            (Swapped, Event("swap", ("Grace", "Tue", "Dilek"), do=True)),
+            (WeekOver, Event("over", ("Grace", "Fri", "ill"))),
+            (Published, Event("page")),
+            (Undoing, Event("undo")),
+        ):
+            with self.subTest(event):
+                self.assertIs(type(self.verbs.asked(event)), kind)
+        self.assertEqual({path: path.read_bytes() for path in self.ward.rglob("*") if path.is_file()}, before)
+
+    def test_what_cannot_be_asked_for_is_a_misuse(self):
+        for event in (
+            Event("plan", ("soon",)),
+            Event("ill", ("Grace", "Fri", DATES[0])),
+            Event("back", ("Grace", "Fri")),
+            Event("swap", ("Grace", "Mon"), do=True),
+            Event("over", ("Grace", "Mon 1", "off")),
+        ):
+            with self.subTest(event), self.assertRaises(Misuse):
+                self.verbs.asked(event)
+
+    def test_an_absence(self):
+        found = self.asked("ill", "Gra", "Wed", "Fri")
+        self.assertEqual((found.nurse, found.days, found.word), ("Grace", (2, 3, 4), "ill"))
+        self.assertEqual({one: word for one, word in found.new.away.items() if one not in found.old.away},
+                         {NurseDay("Grace", day): "ill" for day in found.days})  # fmt: skip
+        # No shift has changed yet.
+        self.assertEqual(found.new.works, found.old.works)
+
+    def test_who_is_back(self):
+        self.rows["plan"][3][1:4] = ["leave", "leave", "ill"]
+        self.write()
+        found = self.asked("back", "Chen", "Tue")
+        self.assertEqual((found.days, found.word, found.was), ((1,), BACK, "leave"))
+        self.assertEqual({one.day for one in found.new.away if one.nurse == "Chen"}, {0, 2})
+
+    def test_the_faults_of_a_swap(self):
+        self.rows["plan"][7][1] = "Day"
+        self.rows["plan"][1][2] = "ill"
+        self.write()
+        held, follows, never, away, skill = Kind.HELD, Kind.FOLLOWS, Kind.NEVER, Kind.AWAY, Kind.SKILL
+        for words, swap, faults in (
+            # The sheet fixes Grace's Monday. Dilek's Night is followed by no Day, and Grace works Day on Tuesday.
+            ("Grace Mon Dilek", Swap("Grace", "Dilek", (0,)), [(held, "Grace", 0), (follows, "Grace", 1), (follows, "Dilek", 0)]),
+            ("Dilek Mon Finn", Swap("Dilek", "Finn", (0,)), [(follows, "Dilek", 0), (never, "Finn", 0), (follows, "Finn", 1)]),
+            ("Bruno Tue Amara", Swap("Bruno", "Amara", (1,)), [(away, "Amara", 1)]),
+            ("Grace Thu Bruno", Swap("Grace", "Bruno", (3,)), [(skill, "Grace", 3)]),
+        ):
+            with self.subTest(words):
+                found = self.asked("swap", *words.split(), do=True)
+                self.assertEqual((found.swap, found.status), (swap, Status.NOT_KEPT))
+                self.assertEqual(sorted((one.kind.name, one.nurse, one.day) for one in found.faults),
+                                 sorted((kind.name, nurse, day) for kind, nurse, day in faults))  # fmt: skip
+
+    def test_the_end_of_the_last_week_ends_the_period(self):
+        found = self.verbs.done(Event("over"))
+        self.assertEqual((found.next.first, found.status), (7, Status.DONE))
+        self.assertIsNone(self.verbs.done(Event("over")).next)
+
+    def test_no_status_is_read_from_words(self):
+        # The same events with all sentences gone have the same statuses.
+        self.rows["plan"][1][1] = self.rows["plan"][2][1] = self.rows["plan"][5][1] = "leave"
+        self.write()
+        events = (Event("check"), Event("swap", ("Dilek", "Mon", "Finn"), do=True), Event("over"), Event("page"), Event("undo"))
+        statuses = [Status.NOT_KEPT, Status.NOT_KEPT, Status.DONE, Status.DONE, Status.DONE]
+        silent = {name: mock.Mock(return_value=[]) for name in dir(sentences) if name.endswith("_lines")}
+        with mock.patch.multiple(sentences, **silent), mock.patch.multiple(
+            render, **{name: one for name, one in silent.items() if hasattr(render, name)}
+        ):
+            self.assertEqual([self.verbs.done(event).status for event in events], statuses)
+
+    def test_the_status_of_check(self):
+        self.assertEqual(type(self.verbs.done(Event("check"))), Checked)
+        charge = next(row for row in self.rows["needs"] if row[1:3] == ["Day", "Charge"])
+        charge[5] = "4"
+        self.write()
+        self.assertEqual(self.verbs.done(Event("check")).status, Status.NO_PLAN)
+
+
+if __name__ == "__main__":
+    unittest.main()
