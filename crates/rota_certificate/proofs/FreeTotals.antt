@@ -9,8 +9,7 @@ use Rattle.rota_rules.specs.TotalAssignments.{assignment_weight}
 use Rattle.rota_certificate.specs.DayCharges.{day_cost, missing_total, past_after}
 use Rattle.rota_certificate.specs.Minimums.{least_below, not_allowed}
 use Rattle.rota_certificate.specs.NurseBounds.{LeafWeek, Terms, allowed_rebate, choice_value, is_barred, least_days, rest_after}
-use Rattle.rota_certificate.specs.Stages.{IsFreeOfTotals, IsStage, least_in, later_of, week_of}
-use Rattle.rota_certificate.specs.declared.stages.Stage.{Stage}
+use Rattle.rota_certificate.specs.Stages.{IsFreeOfTotals, IsStage, StageTables, later_of, least_in, week_of}
 use Rattle.rota_certificate.specs.declared.tariffs.Tariff.{Tariff}
 use Rattle.rota_certificate.proofs.Sums.{least-same}
 
@@ -67,7 +66,7 @@ module _ (unit : ℕ) (tariff : Tariff) where
       least_days (free_terms c) one n (rest_after (free_terms c) one.week later n) left past) (sym none)
       (days-free one n (rest_after (free_terms false) one.week later n) (rest-free n one.week later all.0 all.1) left past 0 0)
 
-pub stage-free : (stage : Stage) (left : ℕ) (past : Past) → IsStage stage → stage.charged ≡ false →
+pub stage-free : (stage : StageTables) (left : ℕ) (past : Past) → IsStage stage → stage.charged ≡ false →
     least_in stage left (with_totals past 0 0) ≡ least_in stage left past
 stage-free stage left past is none =
     left-free stage.unit stage.tariff stage.charged (week_of stage) (later_of stage) stage.nurse left past none (is.free none)

@@ -8,9 +8,8 @@ use Rattle.rota_certificate.specs.Facts.{Case}
 use Rattle.rota_certificate.specs.LeafBounds.{leaf_weeks, may_choose, nurse_count}
 use Rattle.rota_certificate.specs.LentLeaves.{AreFit, Fits, IsLeaf, LeafTables, prices_lent, week_lent, weeks_of}
 use Rattle.rota_certificate.specs.NurseBounds.{LeafWeek, charge_totals}
-use Rattle.rota_certificate.specs.Stages.{IsFreeOfTotals, IsStage, later_of, week_of}
+use Rattle.rota_certificate.specs.Stages.{IsFreeOfTotals, IsStage, StageTables, later_of, week_of}
 use Rattle.rota_certificate.specs.declared.stages.LentWeek.{LentWeek}
-use Rattle.rota_certificate.specs.declared.stages.Stage.{Stage}
 
 -- a property of each element holds for the element at an index
 pub all-at : {X : Type 0} (P : X → Type 0) (xs : List X) (i : ℕ) (d : X) → AllByRecursion P xs → i < length xs → P (slice_index_or xs i d)
@@ -97,16 +96,16 @@ fits-next other next one numbers limits contract fits = record {
 }
 
 -- the stage of the next week
-abbrev pub next_of : Stage → LentWeek → Stage
-next_of stage one = record stage { instance = one.instance; prices = one.prices; week = stage.week + 1 }
+abbrev pub next_of : StageTables → LentWeek → StageTables
+next_of stage one = record stage { instance = one.instance.now; prices = one.prices.now; week = stage.week + 1 }
 
-module _ (stage : Stage) (one : LentWeek) (at : one ≡ slice_index_or stage.leaf.now.weeks (stage.week + 1) one) (is : IsStage stage)
-    (more : stage.week + 1 < length stage.leaf.now.weeks) where
+module _ (stage : StageTables) (one : LentWeek) (at : one ≡ slice_index_or stage.leaf.weeks (stage.week + 1) one) (is : IsStage stage)
+    (more : stage.week + 1 < length stage.leaf.weeks) where
   next-fits : Fits (week_of stage).week one
-  next-fits = subst (Fits (week_of stage).week) (sym at) (all-at (Fits (week_of stage).week) stage.leaf.now.weeks (stage.week + 1) one is.fit more)
+  next-fits = subst (Fits (week_of stage).week) (sym at) (all-at (Fits (week_of stage).week) stage.leaf.weeks (stage.week + 1) one is.fit more)
 
   pub next-left : later_of stage ≡ (week_of (next_of stage one) ∷ later_of (next_of stage one))
-  next-left = drop-at stage.leaf.now (stage.week + 1) one more at
+  next-left = drop-at stage.leaf (stage.week + 1) one more at
 
   pub next-numbers : (week_lent one).numbers ≡ (week_of stage).week.numbers
   next-numbers = next-fits.numbers
@@ -118,7 +117,7 @@ module _ (stage : Stage) (one : LentWeek) (at : one ≡ slice_index_or stage.lea
     inside = more;
     count = is.count;
     shape = next-fits.shape;
-    fit = all-map (Fits (week_of stage).week) (Fits (week_lent one)) stage.leaf.now.weeks
+    fit = all-map (Fits (week_of stage).week) (Fits (week_lent one)) stage.leaf.weeks
         (λ x fits. fits-next (week_of stage).week (week_lent one) x next-fits.numbers next-fits.limits next-fits.contract fits) is.fit;
     free = λ none. subst (AllByRecursion IsFreeOfTotals) next-left (is.free none).1;
   }
@@ -141,24 +140,24 @@ pub count-first : (leaf : LeafTables) (d : LentWeek) → 0 < length leaf.weeks �
 count-first leaf d some = ap nurse_count (drop-lent leaf 0 d some)
 
 -- the stage of the first of its weeks
-abbrev pub first_of : Stage → LentWeek → Stage
-first_of stage one = record stage { instance = one.instance; prices = one.prices; week = 0 }
+abbrev pub first_of : StageTables → LentWeek → StageTables
+first_of stage one = record stage { instance = one.instance.now; prices = one.prices.now; week = 0 }
 
-pub first-is : (stage : Stage) (one : LentWeek) → one ≡ slice_index_or stage.leaf.now.weeks 0 one → IsLeaf stage.leaf.now →
-    stage.nurse < nurse_count (weeks_of stage.leaf.now) →
-    stage.charged ≡ charge_totals (weeks_of stage.leaf.now) → IsStage (first_of stage one)
+pub first-is : (stage : StageTables) (one : LentWeek) → one ≡ slice_index_or stage.leaf.weeks 0 one → IsLeaf stage.leaf →
+    stage.nurse < nurse_count (weeks_of stage.leaf) →
+    stage.charged ≡ charge_totals (weeks_of stage.leaf) → IsStage (first_of stage one)
 first-is stage one is leaf nurse charged =
-    let all = first-fit stage.leaf.now.weeks one leaf.some is leaf.fit in
-    let at = drop-at stage.leaf.now 0 one leaf.some is in
+    let all = first-fit stage.leaf.weeks one leaf.some is leaf.fit in
+    let at = drop-at stage.leaf 0 one leaf.some is in
     record {
       nurse = omega (arith, nurse, ap nurse_count at);
       at = at;
       inside = leaf.some;
       count = leaf.count;
       shape = subst (λ (week : LentWeek). IsForWeek (week_lent week) week.prices.now) (sym is)
-          (all-at (Fits (week_lent one)) stage.leaf.now.weeks 0 one all leaf.some).shape;
+          (all-at (Fits (week_lent one)) stage.leaf.weeks 0 one all leaf.some).shape;
       fit = all;
-      free = λ none. subst (AllByRecursion IsFreeOfTotals) at (free-all (weeks_of stage.leaf.now) (sym charged ∙ none));
+      free = λ none. subst (AllByRecursion IsFreeOfTotals) at (free-all (weeks_of stage.leaf) (sym charged ∙ none));
     }
 
 -- ---- loops over the weeks

@@ -9,9 +9,8 @@ use Rattle.rota_certificate.specs.Facts.{Case}
 use Rattle.rota_certificate.specs.LeafBounds.{leaf_weeks}
 use Rattle.rota_certificate.specs.LentLeaves.{Fits, prices_lent, week_lent}
 use Rattle.rota_certificate.specs.NurseBounds.{LeafWeek}
-use Rattle.rota_certificate.specs.Stages.{IsStage, all_of, least_after, least_in, later_of, terms_of, week_of}
+use Rattle.rota_certificate.specs.Stages.{IsStage, StageTables, all_of, later_of, least_after, least_in, terms_of, week_of}
 use Rattle.rota_certificate.specs.declared.stages.LentWeek.{LentWeek}
-use Rattle.rota_certificate.specs.declared.stages.Stage.{Stage}
 use Rattle.rota_certificate.proofs.EquivalentPasts.{least_days-equivalent, rest_after-equivalent}
 
 -- a property of each lent week holds for each week of the leaf
@@ -27,15 +26,15 @@ fits-limits problem [] all = tt
 fits-limits problem (one ∷ weeks) all =
     (record { limits = λ s. sym (all.0.limits s); contract = λ n. sym (all.0.contract n) }, fits-limits problem weeks all.1)
 
-module _ (stage : Stage) (is : IsStage stage) where
+module _ (stage : StageTables) (is : IsStage stage) where
   -- the week has the limits of the stage's week
   abbrev HasLimits : LeafWeek → Type 0
   HasLimits one = HaveSameLimits (week_of stage).week one.week
 
   later-limits : AllByRecursion HasLimits (later_of stage)
   later-limits =
-      let all = leaf-all (HaveSameLimits (week_of stage).week) stage.leaf.now.case 0 stage.leaf.now.weeks
-      (fits-limits (week_of stage).week stage.leaf.now.weeks is.fit) in
+      let all = leaf-all (HaveSameLimits (week_of stage).week) stage.leaf.case 0 stage.leaf.weeks
+      (fits-limits (week_of stage).week stage.leaf.weeks is.fit) in
       recursion_from_All HasLimits (later_of stage)
       (All-drop HasLimits (stage.week + 1) (all_of stage) (All-from_recursion HasLimits (all_of stage) all))
 

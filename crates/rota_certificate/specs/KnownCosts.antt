@@ -5,10 +5,9 @@ use Rattle.rota_core.specs.declared.values.Past.{Past}
 use Rattle.rota_certificate.specs.Minimums.{not_allowed}
 use Rattle.rota_certificate.specs.Nearness.{IsNear}
 use Rattle.rota_certificate.specs.NurseBounds.{LeafWeek, Terms, allowed_rebate, least_left}
-use Rattle.rota_certificate.specs.Stages.{IsStage, all_of, days_before, terms_of, week_of}
+use Rattle.rota_certificate.specs.Stages.{StageTables, all_of, days_before, terms_of, week_of}
 use Rattle.rota_certificate.specs.declared.known.KnownCost.{KnownCost}
 use Rattle.rota_certificate.specs.declared.known.KnownRebate.{KnownRebate}
-use Rattle.rota_certificate.specs.declared.stages.Stage.{Stage}
 
 -- the entries for costs and for rebates: each is free, or has a cost or a rebate that was computed before
 pub record KnownTables : Type 0 where
@@ -39,22 +38,17 @@ pub record AreRightFor (terms : Terms) (weeks : List LeafWeek) (nurse : ℕ) (kn
   pub rebates : All (λ one. IfSome one (IsRightRebate weeks nurse)) known.rebates
 
 -- the entries are right for the nurse of the stage
-abbrev pub AreRight : Stage → KnownTables → Type 0
+abbrev pub AreRight : StageTables → KnownTables → Type 0
 AreRight stage known = AreRightFor (terms_of stage) (all_of stage) stage.nurse known
 
--- the search is at a stage, and the entries are right for it
-pub record IsReady (stage : Stage) (known : KnownTables) : Type 0 where
-  pub at : IsStage stage
+-- the entries are right for a search before the last `left` days of the stage's week, after a past to which the days before them can lead
+pub record IsBefore (stage : StageTables) (known : KnownTables) (left : ℕ) (past : Past) : Type 0 where
   pub right : AreRight stage known
-
--- the search is before the last `left` days of the stage's week, after a past to which the days before them can lead
-pub record IsBefore (stage : Stage) (known : KnownTables) (left : ℕ) (past : Past) : Type 0 where
-  pub ready : IsReady stage known
   pub within : left ≤ DAYS
   pub near : IsNear (week_of stage).week.shifts (days_before stage (DAYS - left)) past
 
 -- the search has found this cost, and the entries stay right
-pub record Finds (stage : Stage) (known : KnownTables) (cost result : ℕ) : Type 0 where
+pub record Finds (stage : StageTables) (known : KnownTables) (cost result : ℕ) : Type 0 where
   pub found : result ≡ cost
   pub small : result ≤ not_allowed
   pub right : AreRight stage known

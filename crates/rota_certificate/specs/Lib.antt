@@ -20,5 +20,6 @@ pub mod PlaceCases
 pub mod Plans
 pub mod Evidence
 pub mod ShiftCharges
+pub mod StageFields
 pub mod Stages
 pub mod Tariffs

@@ -1,47 +1,58 @@
 -- A week of a leaf in the search for a nurse's minimum.
-use Rattle.std.specs.Prelude.{◌≡◌, ℕ, ◌+◌, ◌*◌, ◌≤◌, ◌<◌, false, Option, List, ◌∷◌, length, drop}
+use Rattle.std.specs.Prelude.{◌≡◌, ℕ, ◌+◌, ◌*◌, ◌≤◌, ◌<◌, Bool, false, Option, List, ◌∷◌, length, drop}
 use Rattle.std.specs.List.{AllByRecursion}
-use Rattle.rota_core.specs.InstanceTables.{problem_of}
+use Rattle.rota_core.specs.InstanceTables.{InstanceTables, problem_of}
 use Rattle.rota_core.specs.Limits.{max_weeks}
-use Rattle.rota_core.specs.PriceTables.{IsForWeek, prices_of}
+use Rattle.rota_core.specs.PriceTables.{IsForWeek, PriceTables, prices_of}
 use Rattle.rota_core.specs.Sizes.{DAYS}
 use Rattle.rota_core.specs.declared.values.Past.{Past}
 use Rattle.rota_certificate.specs.DayCharges.{day_cost}
 use Rattle.rota_certificate.specs.LeafBounds.{may_choose}
-use Rattle.rota_certificate.specs.LentLeaves.{Fits, weeks_of}
+use Rattle.rota_certificate.specs.LentLeaves.{Fits, LeafTables, weeks_of}
 use Rattle.rota_certificate.specs.NurseBounds.{LeafWeek, Terms, least_days, rest_after}
-use Rattle.rota_certificate.specs.declared.stages.Stage.{Stage}
+use Rattle.rota_certificate.specs.declared.tariffs.Tariff.{Tariff}
+
+-- a week of a leaf with its prices and its number, the value of a point, the nurse and her tariff, and whether totals are charged
+pub record StageTables : Type 0 where
+  pub instance : InstanceTables
+  pub prices : PriceTables
+  pub leaf : LeafTables
+  pub week : ℕ
+  pub unit : ℕ
+  pub nurse : ℕ
+  pub tariff : Tariff
+  pub charged : Bool
 
 -- the week of the stage, with its prices and the choices that the case allows in it
-abbrev pub week_of : Stage → LeafWeek
+abbrev pub week_of : StageTables → LeafWeek
 week_of stage = record {
-  week = problem_of stage.instance.now;
-  prices = prices_of stage.prices.now;
-  may_choose = may_choose stage.leaf.now.case stage.week;
+  week = problem_of stage.instance;
+  prices = prices_of stage.prices;
+  may_choose = may_choose stage.leaf.case stage.week;
 }
 
 -- all weeks
-abbrev pub all_of : Stage → List LeafWeek
-all_of stage = weeks_of stage.leaf.now
+abbrev pub all_of : StageTables → List LeafWeek
+all_of stage = weeks_of stage.leaf
 
 -- the weeks after the stage's
-abbrev pub later_of : Stage → List LeafWeek
+abbrev pub later_of : StageTables → List LeafWeek
 later_of stage = drop (stage.week + 1) (all_of stage)
 
 -- the terms of the nurse
-abbrev pub terms_of : Stage → Terms
+abbrev pub terms_of : StageTables → Terms
 terms_of stage = record { unit = stage.unit; tariff = stage.tariff; charged = stage.charged }
 
 -- the cost of the day for the nurse
-abbrev pub day_cost_in : Stage → (day : ℕ) → Past → Option ℕ → ℕ
+abbrev pub day_cost_in : StageTables → (day : ℕ) → Past → Option ℕ → ℕ
 day_cost_in stage d past choice = day_cost stage.unit stage.tariff stage.charged (week_of stage).week stage.nurse d past choice
 
 -- the minimum cost after the stage's week
-abbrev pub least_after : Stage → Past → ℕ
+abbrev pub least_after : StageTables → Past → ℕ
 least_after stage past = rest_after (terms_of stage) (week_of stage).week (later_of stage) stage.nurse past
 
 -- the minimum cost of the last days of the stage's week, and of the time after it
-abbrev pub least_in : Stage → (left : ℕ) → Past → ℕ
+abbrev pub least_in : StageTables → (left : ℕ) → Past → ℕ
 least_in stage left past = least_days (terms_of stage) (week_of stage) stage.nurse (least_after stage) left past
 
 -- the week is not the last of the scenario, so nothing is missing at its end
@@ -49,15 +60,15 @@ abbrev pub IsFreeOfTotals : LeafWeek → Type 0
 IsFreeOfTotals one = one.week.is_last ≡ false
 
 -- the stage's week has the stage's number, all weeks fit it, and if totals are not charged, neither it nor a later week is the last
-pub record IsStage (stage : Stage) : Type 0 where
+pub record IsStage (stage : StageTables) : Type 0 where
   pub nurse : stage.nurse < (week_of stage).week.nurses
   pub at : drop stage.week (all_of stage) ≡ (week_of stage ∷ later_of stage)
-  pub inside : stage.week < length stage.leaf.now.weeks
-  pub count : length stage.leaf.now.weeks ≤ max_weeks
-  pub shape : IsForWeek (week_of stage).week stage.prices.now
-  pub fit : AllByRecursion (Fits (week_of stage).week) stage.leaf.now.weeks
+  pub inside : stage.week < length stage.leaf.weeks
+  pub count : length stage.leaf.weeks ≤ max_weeks
+  pub shape : IsForWeek (week_of stage).week stage.prices
+  pub fit : AllByRecursion (Fits (week_of stage).week) stage.leaf.weeks
   pub free : stage.charged ≡ false → AllByRecursion IsFreeOfTotals (week_of stage ∷ later_of stage)
 
 -- the number of days of the period before a day of the stage's week
-abbrev pub days_before : Stage → (day : ℕ) → ℕ
+abbrev pub days_before : StageTables → (day : ℕ) → ℕ
 days_before stage d = DAYS * stage.week + d

@@ -2,7 +2,7 @@
 
 ghost use Rattle.std.specs.Prelude.{◌≡◌, ℕ, ◌-◌, ◌≤◌, ◌<◌};
 ghost use Rattle.rota_certificate.specs.Nearness.{IsNear};
-ghost use Rattle.rota_certificate.specs.Stages.{IsStage, days_before, least_in, week_of};
+ghost use Rattle.rota_certificate.specs.Stages.{days_before, least_in, week_of};
 
 use crate::capped::capped;
 use crate::stages::Stage;
@@ -11,8 +11,7 @@ use rota_core::{DAYS, Past};
 /// The past before the last `left` days of the week, with capped numbers, and without the totals if
 /// they are not charged. The minimum cost of the nurse after it is the same.
 pub fn charged_past(stage: &Stage<'_>, left: u8, past: Past) -> Past
-    requires stage { IsStage stage.now }
-    requires near { IsNear (week_of stage.now).week.shifts (days_before stage.now (DAYS - left)) past }
+    requires { IsNear (week_of stage.now).week.shifts (days_before stage.now (DAYS - left)) past }
     ensures same { least_in stage.now left result ≡ least_in stage.now left past }
     ensures near { IsNear (week_of stage.now).week.shifts (days_before stage.now (DAYS - left)) result }
 {

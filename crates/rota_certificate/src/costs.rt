@@ -5,7 +5,7 @@ ghost use Rattle.rota_core.specs.InstanceTables.{problem_of};
 ghost use Rattle.rota_certificate.specs.DayCharges.{start_cost, totals_cost, weighted};
 ghost use Rattle.rota_certificate.specs.Minimums.{not_allowed};
 ghost use Rattle.rota_certificate.specs.NurseBounds.{end_cost};
-ghost use Rattle.rota_certificate.specs.Stages.{IsStage, day_cost_in, terms_of, week_of};
+ghost use Rattle.rota_certificate.specs.Stages.{day_cost_in, terms_of, week_of};
 
 use crate::charges::{
     assignment_above, fixed_charge, missing_total, over_charge, shift_charges, weekend_above,
@@ -37,7 +37,6 @@ fn totals_cost(tariff: Tariff, contract: Contract, day: u8, past: Past, choice: 
 
 /// The cost of the day for the nurse with this past.
 pub fn day_cost(stage: &Stage<'_>, day: u8, past: Past, choice: Option<u8>) -> u64
-    requires stage { IsStage stage.now }
     requires day_in { day < DAYS }
     requires choice_in { IfSome choice (λ s. s < (week_of stage.now).week.shifts) }
     requires last_in { IfSome past.last (λ s. s < (week_of stage.now).week.shifts) }
@@ -72,7 +71,6 @@ pub fn start_cost(tariff: Tariff, contract: Contract, past: Past) -> u64
 
 /// The cost of the assignments that are missing at the end.
 pub fn end_cost(stage: &Stage<'_>, past: Past) -> u64
-    requires stage { IsStage stage.now }
     ensures cost { result ≡ end_cost (terms_of stage.now) (week_of stage.now).week stage.now.nurse past }
     ensures small { result ≤ not_allowed }
 {

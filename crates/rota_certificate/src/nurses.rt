@@ -2,12 +2,12 @@
 
 ghost use Rattle.std.specs.Prelude.{◌≡◌, ◌+◌, ◌-◌, ◌*◌, ◌≤◌, ◌<◌, IfSome};
 ghost use Rattle.rota_core.specs.InstanceTables.{problem_of};
-ghost use Rattle.rota_certificate.specs.KnownCosts.{AreRight, Finds, IsBefore, IsReady};
+ghost use Rattle.rota_certificate.specs.KnownCosts.{AreRight, Finds, IsBefore};
 ghost use Rattle.rota_certificate.specs.LeafBounds.{nurse_count};
 ghost use Rattle.rota_certificate.specs.LentLeaves.{weeks_of};
 ghost use Rattle.rota_certificate.specs.Minimums.{not_allowed};
 ghost use Rattle.rota_certificate.specs.NurseBounds.{allowed_rebate, choice_value, is_barred, least_choice, nurse_bound};
-ghost use Rattle.rota_certificate.specs.Stages.{IsStage, least_after, least_in, terms_of, week_of};
+ghost use Rattle.rota_certificate.specs.Stages.{least_after, least_in, terms_of, week_of};
 
 use crate::allowed::may_choose;
 use crate::charged_pasts::charged_past;
@@ -37,7 +37,6 @@ fn is_barred(instance: &Instance, past: Past, choice: Option<u8>) -> bool
 
 // The rebate of the choice, if the case allows it.
 fn allowed_rebate(stage: &Stage<'_>, day: u8, choice: Option<u8>) -> u64
-    requires stage { IsStage stage.now }
     requires day_in { day < DAYS }
     requires choice_in { IfSome choice (λ s. s < (week_of stage.now).week.shifts) }
     ensures rebate { result ≡ allowed_rebate (week_of stage.now) stage.now.nurse day choice }
@@ -53,7 +52,7 @@ fn allowed_rebate(stage: &Stage<'_>, day: u8, choice: Option<u8>) -> u64
 
 // The rebate of the choice, which is known from then on.
 fn known_rebate(stage: &Stage<'_>, known: &mut Known, day: u8, choice: Option<u8>) -> u64
-    requires ready { IsReady stage.now known.old }
+    requires right { AreRight stage.now known.old }
     requires day_in { day < DAYS }
     requires choice_in { IfSome choice (λ s. s < (week_of stage.now).week.shifts) }
     ensures { Finds stage.now known.new (allowed_rebate (week_of stage.now) stage.now.nurse day choice) result }

@@ -5,7 +5,6 @@ ghost use Rattle.rota_core.specs.InstanceTables.{problem_of};
 ghost use Rattle.rota_certificate.specs.LeafBounds.{nurse_count};
 ghost use Rattle.rota_certificate.specs.LentLeaves.{weeks_of};
 ghost use Rattle.rota_certificate.specs.NurseBounds.{charge_totals, pay_for_history};
-ghost use Rattle.rota_certificate.specs.Stages.{IsStage};
 
 use crate::points::PointValue;
 use crate::tariffs::Tariff;
@@ -42,7 +41,7 @@ impl<'a> Model for LentLeaf<'a> {
 
 /// A week of a leaf in the search for a nurse's minimum: the week with its prices and its number in
 /// the leaf, the value of a point, the nurse and her tariff, and whether totals are charged.
-#[derive(Clone, Copy)]
+#[derive(Drop)]
 pub struct Stage<'a> {
     pub instance: &'a Instance,
     pub prices: &'a Prices,
@@ -52,6 +51,18 @@ pub struct Stage<'a> {
     pub nurse: u16,
     pub tariff: Tariff,
     pub charged: bool,
+}
+
+impl<'a> Model for Stage<'a> {
+    ghost use Rattle.rota_certificate.specs.Stages.{IsStage, StageTables};
+
+    ghost Value = { StageTables };
+
+    ghost use Rattle.rota_certificate.specs.StageFields.{stage_of};
+
+    ghost view = { stage_of };
+
+    ghost invariant = { λ s. IsStage (stage_of s) };
 }
 
 // Whether the week charges totals.
@@ -95,9 +106,8 @@ pub fn pay_for_history(leaf: &LentLeaf<'_>) -> bool
 impl<'a> Stage<'a> {
     /// The first week of the leaf.
     pub fn first(leaf: &'a LentLeaf<'a>, unit: PointValue, tariff: Tariff, nurse: u16) -> Stage<'a>
-        requires nurse_in { nurse < nurse_count (weeks_of leaf.now) }
-        ensures stage { IsStage result }
-        ensures leaf { result.leaf.now ≡ leaf.now }
+        requires { nurse < nurse_count (weeks_of leaf.now) }
+        ensures leaf { result.leaf ≡ leaf.now }
         ensures week { result.week ≡ 0 }
         ensures unit { result.unit ≡ unit }
         ensures nurse { result.nurse ≡ nurse }

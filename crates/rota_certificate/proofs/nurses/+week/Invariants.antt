@@ -7,16 +7,16 @@ use Rattle.rota_certificate.specs.Stages.{least_in, terms_of, week_of}
 use Rattle.rota_certificate.proofs.nurses.+week.Given as goal
 
 abbrev pub decreases-value_in : goal.decreases-value_in
-decreases-value_in l = 32 * (length l.stage.now.leaf.now.weeks - l.stage.now.week) + 3 * l.left + 2
+decreases-value_in l = 32 * (length l.stage.now.leaf.weeks - l.stage.now.week) + 3 * l.left + 2
 
 abbrev pub decreases-least_choice_in : goal.decreases-least_choice_in
-decreases-least_choice_in l = 32 * (length l.stage.now.leaf.now.weeks - l.stage.now.week) + 3 * l.left + 3
+decreases-least_choice_in l = 32 * (length l.stage.now.leaf.weeks - l.stage.now.week) + 3 * l.left + 3
 
 abbrev pub decreases-least_in : goal.decreases-least_in
-decreases-least_in l = 32 * (length l.stage.now.leaf.now.weeks - l.stage.now.week) + 3 * l.left + 1
+decreases-least_in l = 32 * (length l.stage.now.leaf.weeks - l.stage.now.week) + 3 * l.left + 1
 
 abbrev pub decreases-least_after : goal.decreases-least_after
-decreases-least_after l = 32 * (length l.stage.now.leaf.now.weeks - l.stage.now.week)
+decreases-least_after l = 32 * (length l.stage.now.leaf.weeks - l.stage.now.week)
 
 abbrev pub invariant-least_choice_in-loop-shift : goal.invariant-least_choice_in-loop-shift
 invariant-least_choice_in-loop-shift l =

@@ -1,14 +1,17 @@
 use Rattle.std.proofs.Common.{arith}
 use Rattle.rota_certificate.specs.Stages.{all_of, days_before, terms_of, week_of}
+use Rattle.rota_certificate.specs.StageFields.{stage_of}
 use Rattle.rota_certificate.proofs.Tables.{history-near, near-more}
 use Rattle.rota_certificate.proofs.nurses.nurse_bound.Goals as goal
 
 pub least_in-requires : goal.least_in-requires
 least_in-requires c =
     let stage = c.first-stage.result in
+    let opened = stage_of c.stage.inside in
     record {
-      ready = record { at = c.first-stage.ensures.stage; right = c.forget.ensures (terms_of stage) (all_of stage) stage.nurse };
+      right = c.forget.ensures (terms_of stage) (all_of stage) stage.nurse;
       within = omega arith;
-      near = near-more (week_of stage).week.shifts 0 (days_before stage 0) c.past-past.result (omega arith)
-          (rw c.past-past.ensures.past (history-near stage.instance.now c.nurses-nurses.ensures.limits c.args.nurse));
+      near = rw (← c.stage.view_is)
+          (near-more (week_of opened).week.shifts 0 (days_before opened 0) c.past-past.result (omega arith)
+          (rw c.past-past.ensures.past (history-near opened.instance c.nurses-nurses.ensures.limits c.args.nurse)));
     }
