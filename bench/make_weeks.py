@@ -8,7 +8,7 @@ of the same ward. `eight` is the second of four weeks of eight nurses, and no ro
 HeadNurse, and it is asked for on Wednesday night and, on Thursday, early and late. Nobody may work early or late on the
 day after a night. With NURSES, 12 or more, it writes only a ward of that size, such as `ward60` for 60 nurses: its last
 week, like `thirty`, and the three weeks before it, with the history of the first one. With `--demand 75` the weeks
-ask for three quarters of that demand. Needs Python 3.8 or later.
+ask for three quarters of that demand. Needs Python 3.11 or later.
 """
 
 import argparse

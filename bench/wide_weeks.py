@@ -5,7 +5,7 @@ usage: wide_weeks.py FOLDER NURSES KINDS SEED [PERCENT]
 
 It has KINDS shift types and skills, and each nurse has one to five skills of her own. A made-up roster sets the minimums, so that they
 can nearly always be met. The optimal numbers ask for PERCENT (100) of what the nurses work in it, and for one nurse more at some
-places. Needs Python 3.8 or later.
+places. Needs Python 3.11 or later.
 """
 
 import sys

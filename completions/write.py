@@ -2,7 +2,7 @@
 """Writes the completions of the programs and helpers for bash, zsh and fish from one description of the commands and options.
 
 tests/program/manual.sh compares the files with the output of this script, and their words with those of the program's help and of the
-manual page. Needs Python 3.8 or later.
+manual page. Needs Python 3.11 or later.
 """
 
 import argparse

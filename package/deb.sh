@@ -58,9 +58,9 @@ Version: $version
 Architecture: amd64
 Maintainer: $maintainer
 Installed-Size: $kib
-Depends: libc6 (>= $libc), python3 (>= 3.8)
+Depends: libc6 (>= $libc), python3 (>= 3.11), python3-numpy
 Recommends: clasp, coinor-cbc
-Suggests: python3-numpy, minisat+, sat4j
+Suggests: minisat+, sat4j
 Section: math
 Priority: optional
 Description: nurse rostering as a pseudo-Boolean model

@@ -12,8 +12,8 @@ import sys
 if signal.getsignal(signal.SIGINT) == signal.default_int_handler:
     signal.signal(signal.SIGINT, signal.SIG_DFL)
 NAME = os.path.basename(sys.argv[0])
-if sys.version_info < (3, 8):
-    sys.exit(NAME + ": needs Python 3.8 or later")
+if sys.version_info < (3, 11):
+    sys.exit(NAME + ": needs Python 3.11 or later")
 HERE = os.path.dirname(os.path.realpath(__file__))
 for home in (HERE, os.path.join(HERE, "../share/inrc2pb"), os.path.join(HERE, "../lib/inrc2pb")):
     if os.path.exists(os.path.join(home, "inrc2pb/__init__.py")):

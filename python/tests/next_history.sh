@@ -3,7 +3,7 @@
 #
 #   python/tests/next_history.sh [llvm | rattle | PROGRAM]
 #
-# Needs Python 3.8; where clasp is installed, four weeks in a row go through it.
+# Needs Python 3.11; where clasp is installed, four weeks in a row go through it.
 . "$(dirname "$0")/../../tests/kit/kit.sh"
 
 begins_case 'the next history'

@@ -4,7 +4,7 @@
 #
 #   python/tests/roster_table.sh [llvm | rattle | PROGRAM]
 #
-# Needs Python 3.8; for colors `script`, of the usual tools of Linux.
+# Needs Python 3.11; for colors `script`, of the usual tools of Linux.
 . "$(dirname "$0")/../../tests/kit/kit.sh"
 table=$PWD/python/inrc2pb-table
 cp examples/n005w4/*.txt "$room"

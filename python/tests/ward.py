@@ -15,7 +15,7 @@ HELPERS = ROOT / "python"
 sys.path.insert(0, str(HELPERS))
 
 from inrc2pb.programs import program  # noqa: E402
-from inrc2pb.week import files, records, writing  # noqa: E402
+from inrc2pb.week import files, records, writing  # noqa: E402, F401
 from inrc2pb.commands.launch import launch  # noqa: E402
 
 WARD = ROOT / "examples" / "ward"

@@ -4,7 +4,7 @@
 #
 #   tests/pages/build.sh [llvm | rattle | PROGRAM]
 #
-# Needs bash, the usual tools of a shell and Python 3.9.
+# Needs bash, the usual tools of a shell and Python 3.11.
 . "$(dirname "$0")/../kit/kit.sh"
 . "$(dirname "$0")/../kit/stand_ins.sh"
 

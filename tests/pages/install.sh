@@ -4,7 +4,7 @@
 #
 #   tests/pages/install.sh [llvm | rattle | PROGRAM]
 #
-# Nothing is proved. Needs bash, the usual tools of a shell, make and Python 3.8; the commands that search for rosters need cbc or
+# Nothing is proved. Needs bash, the usual tools of a shell, make and Python 3.11; the commands that search for rosters need cbc or
 # clasp.
 . "$(dirname "$0")/../kit/kit.sh"
 needs crates/who_fits/out/who_fits

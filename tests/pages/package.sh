@@ -6,7 +6,7 @@
 #   tests/pages/package.sh [llvm | rattle | PROGRAM]
 #
 # Nothing is proved. Without dpkg, strip or lintian the package is not tried; without clasp its stored answer is used. Needs
-# bash, the usual tools of a shell, make and Python 3.8.
+# bash, the usual tools of a shell, make and Python 3.11.
 . "$(dirname "$0")/../kit/kit.sh"
 needs crates/who_fits/out/who_fits
 needs_bound
@@ -141,7 +141,7 @@ installs_package() {
     starts "$room/root/usr"
     begins_case 'what the package needs'
     dpkg-deb --field "$1" Depends Recommends > "$out"
-    has_line "Depends: libc6 (>= $(sed -n 's/^libc: \([0-9.]*\).*/\1/p' "$pages/PROVED")), python3 (>= 3.8)"
+    has_line "Depends: libc6 (>= $(sed -n 's/^libc: \([0-9.]*\).*/\1/p' "$pages/PROVED")), python3 (>= 3.11), python3-numpy"
     has_line 'Recommends: clasp, coinor-cbc'
     begins_case 'dpkg --remove'
     mkdir -p "$room"/root/usr/share/inrc2pb/inrc2pb/{,week/}__pycache__

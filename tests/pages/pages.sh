@@ -6,7 +6,7 @@
 #   tests/pages/pages.sh [llvm | rattle | PROGRAM]
 #
 # Nothing is proved: a stand-in for `rt` gives the program. If clasp is not installed, a stand-in gives its stored answers. Needs
-# bash, the usual tools of a shell, make and Python 3.8.
+# bash, the usual tools of a shell, make and Python 3.11.
 . "$(dirname "$0")/../kit/kit.sh"
 needs crates/who_fits/out/who_fits
 needs_bound

@@ -5,7 +5,7 @@
 #
 #   tests/pages/repository.sh [llvm | rattle | PROGRAM]
 #
-# Needs bash, the usual tools of a shell and Python 3.8.
+# Needs bash, the usual tools of a shell and Python 3.11.
 . "$(dirname "$0")/../kit/kit.sh"
 
 version_is_in_preparation() {

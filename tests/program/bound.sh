@@ -4,7 +4,7 @@
 #
 #   tests/program/bound.sh [llvm | rattle | PROGRAM]
 #
-# Needs bash, the usual tools of a shell and Python 3.8.
+# Needs bash, the usual tools of a shell and Python 3.11.
 . "$(dirname "$0")/../kit/kit.sh"
 encoder=$program
 needs_bound

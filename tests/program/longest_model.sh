@@ -6,7 +6,7 @@
 #
 #   tests/program/longest_model.sh [llvm | rattle | PROGRAM]
 #
-# Needs bash, the usual tools of a shell, and Python 3.8.
+# Needs bash, the usual tools of a shell, and Python 3.11.
 . "$(dirname "$0")/../kit/kit.sh"
 
 python3 bench/weeks.py files greatest "$room" || exit 2

@@ -3,7 +3,7 @@
 #
 #   tests/program/manual.sh [llvm | rattle | PROGRAM]
 #
-# Needs bash, the usual tools of a shell and Python 3.8; where mandoc or man is installed, all manual pages are checked by it
+# Needs bash, the usual tools of a shell and Python 3.11; where mandoc or man is installed, all manual pages are checked by it
 # too, and where zsh or fish is, the completion for it.
 . "$(dirname "$0")/../kit/kit.sh"
 # shellcheck source=completions/inrc2pb.bash

@@ -5,7 +5,7 @@
 #
 #   tests/program/wiring.sh [llvm | rattle | PROGRAM]
 #
-# Needs bash, the usual tools of a shell, and Python 3.8 for a terminal.
+# Needs bash, the usual tools of a shell, and Python 3.11 for a terminal.
 . "$(dirname "$0")/../kit/kit.sh"
 
 # The week of five nurses: its model and an answer to it are many buffers long.

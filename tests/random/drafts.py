@@ -28,8 +28,11 @@ def week_of(draft):
         for name, one in draft.contracts.items()}
     nurses = {name: records.Nurse(name, one.contract, tuple(one.skills)) for name, one in draft.nurses.items()}
     history = {
-        name: records.NurseHistory(name, one.assignments, one.weekends, None if one.last == "None" else one.last, one.same, one.work, one.off)
-        for name, one in draft.history.items()}
+        name: records.NurseHistory(
+            name, one.assignments, one.weekends, None if one.last == "None" else one.last, one.same, one.work, one.off
+        )
+        for name, one in draft.history.items()
+    }
     required = {records.Place(*place): records.Requirement(*pair) for place, pair in draft.required.items()}
     requests = tuple(records.Request(nurse, None if shift == "Any" else shift, day) for nurse, shift, day in draft.requests)
     return records.Week(

@@ -7,7 +7,7 @@ from typing import Dict, List, Sequence
 import plain_plans
 from drafts import DAYS, files_of, solution_text
 from plain_bounds import Certificate, leaf_bound, leaves
-from plain_plans import POINTS, Period, chains, choices
+from plain_plans import POINTS, Period, choices
 from random_weeks import any_cell, legal_roster, random_requirements, random_week
 
 MAX_PRICE = 999_999_999

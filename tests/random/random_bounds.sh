@@ -4,7 +4,7 @@
 #
 #   tests/random/random_bounds.sh [llvm | rattle | PROGRAM]
 #
-# Needs Python 3.8.
+# Needs Python 3.11.
 . "$(dirname "$0")/../kit/kit.sh"
 needs_bound
 

@@ -4,7 +4,7 @@
 #
 #   tests/random/random_weeks.sh [llvm | rattle | PROGRAM]
 #
-# Needs Python 3.8; if clasp is installed, it has to prove the optima of the small weeks.
+# Needs Python 3.11; if clasp is installed, it has to prove the optima of the small weeks.
 . "$(dirname "$0")/../kit/kit.sh"
 
 begins_case 'rosters made at random'

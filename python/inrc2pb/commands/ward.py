@@ -5,7 +5,7 @@ import contextlib
 import re
 import shlex
 from pathlib import Path
-from typing import Dict, FrozenSet, Iterator, List, NamedTuple, Optional, Sequence, TextIO, Tuple
+from typing import Dict, FrozenSet, Iterator, List, NamedTuple, Sequence, TextIO, Tuple
 
 from ..judging.absences import NO_SKILL, TooMany, joined, readable, with_requests
 from .command import parser

@@ -33,6 +33,8 @@ def reach_of(warnings: Iterable[str]) -> Reach:
         if UNKEPT in line or ABOVE_LIMITS in line:
             found = Reach.NOT_ALL
     return found
+
+
 # For each week, from the week of a history on, the number of each nurse's days away that count as work. The history has their shifts.
 Paid = Sequence[Mapping[str, int]]
 

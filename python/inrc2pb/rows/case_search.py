@@ -11,7 +11,7 @@ from .case_program import CaseProgram, CaseSolution
 from .case_splits import Rated, best_split, suggested
 from .certificate import Case
 from .plan import POINT, STEP, Points, Thousandths
-from .pricing import Crews, NurseWeek, Prices
+from .pricing import Crews, Prices
 from .row_generation import EXACT, SMOOTHING, WORTH
 from .row_graph import Check
 from .row_search import Known, Take

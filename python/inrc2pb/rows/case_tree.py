@@ -9,7 +9,7 @@ from dataclasses import dataclass, field
 from typing import Callable, FrozenSet, Iterable, List, Optional, Sequence, Tuple
 
 from ..judging.runs import NEVER
-from ..programs.clock import Clock, TimeIsOver
+from ..programs.clock import Clock
 from ..solvers.answers import SolverFault
 from ..week.facts import Claim, Even, Fact
 from .case_limits import CaseLimits

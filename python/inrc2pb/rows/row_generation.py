@@ -4,7 +4,7 @@ The program's prices of places find better rows, until none is left; the same pr
 """
 
 import math
-from typing import Callable, Dict, Iterable, List, Optional, Sequence
+from typing import Callable, Dict, List, Optional, Sequence
 
 from ..programs.clock import Clock
 from ..solvers.linear_solvers import LinearSolver

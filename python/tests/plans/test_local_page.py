@@ -87,7 +87,9 @@ class Page(ServedPage):
                 time.sleep(0.01)
         while threading.active_count() > threads and time.monotonic() < limit:
             time.sleep(0.05)
-        self.assertEqual((threading.active_count(), self.asks()[0]), (threads, 200))
+        # A thread of an earlier request may have ended too.
+        self.assertLessEqual(threading.active_count(), threads)
+        self.assertEqual(self.asks()[0], 200)
 
     def test_what_no_form_sends_is_a_sentence_on_the_page(self):
         for says, fields in (

@@ -1,5 +1,6 @@
 """Tests of `inrc2pb-plan` and of the plans of a ward's folder, on the example of `inrc2pb-ward` with two weeks."""
 
+import contextlib
 import csv
 import datetime
 import fcntl
@@ -12,7 +13,6 @@ import tempfile
 import time
 import unittest
 from dataclasses import replace
-from pathlib import Path
 from unittest import mock
 
 from ward import HAS_CBC, HELPERS, ROSTER, HelperTest, files, program, run
@@ -635,19 +635,19 @@ class Refused(FolderTest):
 
     @unittest.skipUnless(HAS_CBC, "cbc is not installed")
     def test_the_time_of_a_search_begins_after_the_wait(self):
-        (self.ward / "plans").mkdir()
-        with open(self.ward / "plans" / "lock", "w") as lock, tempfile.TemporaryFile("w+") as said:
-            fcntl.flock(lock, fcntl.LOCK_EX)
-            second = self.begun("plan", said)
-            time.sleep(3)
-            fcntl.flock(lock, fcntl.LOCK_UN)
-            limit = time.monotonic() + 60
-            while time.monotonic() < limit and "penalty" not in (text := Path(f"/proc/self/fd/{said.fileno()}").read_text()):
-                time.sleep(0.05)
-            second.send_signal(signal.SIGINT)
-            second.wait(timeout=60)
-            # The first line of the search has the seconds since its begin.
-            self.assertLess(float(re.search(r"([0-9.]+) s  penalty", text)[1]), 3)
+        real, locked, waited = time.monotonic, WardFolder.locked, [0.0]
+
+        @contextlib.contextmanager
+        def locked_after_a_day(folder, *words):
+            with locked(folder, *words):
+                waited[0] = 86_400.0
+                yield
+
+        with mock.patch.object(time, "monotonic", lambda: real() + waited[0]), mock.patch.object(WardFolder, "locked", locked_after_a_day):
+            status, printed, said = run("plan", self.ward, "plan", "--time", "5")
+        self.assertEqual(status, 0, printed + said)
+        # The first line of the search has the seconds since its begin.
+        self.assertLess(float(re.search(r"([0-9.]+) s  penalty", said)[1]), 86_400)
 
 
 if __name__ == "__main__":

@@ -208,5 +208,6 @@ class Parts(HelperTest):
                 parts.run(Clock(1.0))
             self.assertEqual(parts._sizes[7] > first, grows)
 
+
 if __name__ == "__main__":
     unittest.main()

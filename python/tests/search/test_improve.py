@@ -12,13 +12,12 @@ import unittest
 from types import SimpleNamespace
 from unittest import mock
 
-from ward import EARLY_ANSWER, HAS_CBC, HELPERS, HISTORY, ROOT, ROSTER, SCENARIO, THIRTY_FILES, WEEK, WEEK_FILES, WEEK_OPTIONS
-from ward import HelperTest, files, program, run
+from ward import EARLY_ANSWER, HAS_CBC, HELPERS, ROOT, ROSTER, SCENARIO, THIRTY_FILES, WEEK, WEEK_FILES, WEEK_OPTIONS
+from ward import HelperTest, program, run
 
 from inrc2pb.search import bounds
 from inrc2pb.search.bounds import PLAIN, PROVER, Bound
 from inrc2pb.search.improving import SearchResult, improve, search
-from inrc2pb.rows.plan import Plan
 from inrc2pb.rows.pricing import Pricing
 from inrc2pb.rows.row_search import WrongBound
 from inrc2pb.programs.progress import Progress
@@ -48,7 +47,7 @@ class Searches(HelperTest):
         status, report, progress = run("improve", *WEEK_OPTIONS, "--sol", self.target, "--proof", proof)
         self.assertEqual(status, 0)
         self.assertIn("status OPTIMUM FOUND\nobjective 20\npenalty 20\n", report)
-        self.assertRegex(report, f"\nlower bound 20 \(({PROVER}|{PLAIN})\\)\nno roster costs less(, proved)?\n$")
+        self.assertRegex(report, f"\nlower bound 20 \\(({PROVER}|{PLAIN})\\)\nno roster costs less(, proved)?\n$")
         self.assertIn("penalty 20", progress)
         self.assertEqual(program.penalty_of(WEEK_FILES, self.target), 20)
         self.assertTrue(proof.read_text().startswith("CERTIFICATE ward\nWEEKS = 1\nPRICES = 1\nROWS = "))

@@ -1,36 +1,54 @@
 #!/usr/bin/env bash
-# Runs the tests of the helpers, python/tests, on the program. Checks the types of their library, and of the programs that use
-# it, by mypy. Compares the options in their manual page with their help, but for --help and --version, and the fault texts of
-# docs/answers.md with those that docs/your_ward.md explains.
+# Checks the Python programs: pytest runs their tests on the program, mypy checks the types of the library and of the programs that
+# use it, flake8 finds what nothing uses, and the imports between packages go one way. Compares the options in their manual page with
+# their help, but for --help and --version, and the fault texts of docs/answers.md with those that docs/your_ward.md explains.
 #
-#   python/tests/helpers.sh [llvm | rattle | PROGRAM]
+#   python/tests/checks.sh [llvm | rattle | PROGRAM]
 #
-# Needs Python 3.8. The script says which tests it skipped.
+# Needs Python 3.11 with NumPy. The script says which tests it skipped.
 . "$(dirname "$0")/../../tests/kit/kit.sh"
+settings=python/pyproject.toml
+python_files=(build.py bench completions python tests)
 
-# One case for each test of Python.
+# One case for each test of Python; two of them run at a time, if pytest-xdist is installed.
 run_tests() {
-    local good bad left
-    what='python/tests'
-    INRC2PB=$program timeout 1500 python3 -B -W error::SyntaxWarning python/tests/run.py > "$out" 2> "$err" ||
-        complain "$(grep -A 25 -m 3 -E '^(FAIL|ERROR): ' "$err" | head -n 60)"
-    grep '^skipped: ' "$out"
-    read -r good bad left < <(tail -n 1 "$out" | tr -cd '0-9 \n') || complain "no test ran: $(tail -n 3 "$err")"
-    checked=$((checked + ${good:-0} + ${bad:-0}))
-    skipped=$((skipped + ${left:-0}))
+    local told good bad left workers=()
+    has pytest || return
+    ! pytest --version -p xdist > /dev/null 2>&1 || workers=(-n 2)
+    what='the tests of python/tests'
+    INRC2PB=$program timeout 1500 pytest -q -rs --tb=short "${workers[@]}" python/tests > "$out" 2>&1 || complain "$(grep -v '^[.sFE]* *\[' "$out" | tail -n 60)"
+    sed -n 's/^SKIPPED \[\([0-9]*\)\] [^:]*\(:[0-9]*\)\?: \(.*\)/skipped: python\/tests: \3 (\1)/p' "$out"
+    told=$(tail -n 1 "$out")
+    good=$(number_of passed) bad=$(($(number_of failed) + $(number_of 'errors\?'))) left=$(number_of skipped)
+    [ "$good" != 0 ] || complain "no test ran: $told"
+    checked=$((checked + good + bad))
+    skipped=$((skipped + left))
+}
+
+# number_of WORD: the number before this word in the last line of pytest, such as `1 failed, 601 passed, 3 skipped in 90.12s`.
+number_of() {
+    local number
+    number=$(grep -o "[0-9]* $1\b" <<< "$told" | grep -o '[0-9]*')
+    echo "${number:-0}"
 }
 
 # types_hold FILE..: mypy finds no mistake, and no function without types.
 types_hold() {
-    MYPYPATH=python mypy --cache-dir "$room/types" --strict "$@" > "$out" 2>&1
+    MYPYPATH=python mypy --config-file $settings --cache-dir "$room/types" "$@" > "$out" 2>&1
 }
 
 checks_types() {
     has mypy || return
-    begins_case 'the types of the helpers'
+    begins_case 'the types of the Python programs'
     {
         types_hold python/inrc2pb && types_hold bench/*.py build.py
     } || complain "$(head -n 20 "$out")"
+}
+
+nothing_is_unused() {
+    has flake8 || return
+    begins_case 'names that nothing uses, and lines over 140 columns, in Python'
+    flake8 --config python/.flake8 "${python_files[@]}" > "$out" 2>&1 || complain "$(head -n 20 "$out")"
 }
 
 # The options on standard input, one a line.
@@ -77,14 +95,8 @@ explains_each_fault() {
 }
 
 imports_go_one_way() {
-    begins_case 'the imports of the helpers'
+    begins_case 'the imports of the Python packages'
     python/tests/packages.py > "$out" || complain "$(head -n 20 "$out")"
-}
-
-lines_are_short() {
-    begins_case 'lines of Python of at most 140 columns'
-    find build.py bench completions python -path python/tests -prune -o -name '*.py' -exec awk 'length($0) > 140 { print FILENAME ":" FNR }' {} + > "$out"
-    [ ! -s "$out" ] || complain "$(head -n 20 "$out")"
 }
 
 variables_have_names() {
@@ -96,7 +108,7 @@ run_tests
 checks_types
 imports_go_one_way
 variables_have_names
-lines_are_short
+nothing_is_unused
 begins_case 'the readers find the same faults in changed files'
 tests/random/changed_tokens.py > "$room/out" || complain "$(cat "$room/out")"
 manual_has_each_option
