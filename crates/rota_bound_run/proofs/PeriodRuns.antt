@@ -19,7 +19,7 @@ use Rattle.rota_pb.specs.declared.period_fault.PeriodFault.TheVariants.{Run}
 use Rattle.rota_pb.proofs.Steps.{is_fault}
 use Rattle.rota_bound_run.specs.CertificateRead.{read_proof}
 use Rattle.rota_bound_run.specs.Judging.{history_before, judge_week}
-use Rattle.rota_bound_run.specs.PeriodFiles.{SameWeeks, each_of, reader_if, week_readers}
+use Rattle.rota_bound_run.specs.PeriodFiles.{each_of, reader_if, week_readers}
 use Rattle.rota_bound_run.specs.PeriodRead.{read_given, read_next, read_weeks}
 use Rattle.rota_bound_run.specs.PeriodSteps.{PeriodStep, for_all, for_week}
 use Rattle.rota_bound_run.specs.PlanJudged.{for_some, judge_all, judge_next, judge_plan, meet_given}
@@ -27,7 +27,7 @@ use Rattle.rota_bound_run.specs.declared.files.WeekFiles.{WeekFiles}
 use Rattle.rota_bound_run.specs.declared.judged.Judged.{Judged}
 use Rattle.rota_bound_run.specs.declared.ward.Ward.{Ward}
 use Rattle.rota_bound_run.proofs.InTurn.{none-touched}
-use Rattle.rota_bound_run.proofs.WeekSteps.{reads-no-week, same-length}
+use Rattle.rota_bound_run.proofs.WeekSteps.{reads-no-week}
 
 -- the run ends with the fault of a step for all weeks
 pub stopped_for_all : {A B : Type 0} (step : Step A) {next : A → PeriodStep B} (result : Result B PeriodFault) (fault : Fault) →
@@ -170,17 +170,3 @@ pub slice-back : {X : Type 0} (olds slice new now : List X) (len : ℕ) → slic
     now ≡ take len (new ++ drop (length new) olds) → now ≡ olds
 slice-back olds slice new now len same long as_before is =
     is ∙ settled olds new len (ap length as_before ∙ ap length same) (sym (ap length same) ∙ long) ∙ as_before ∙ same
-
-pub same-weeks-back : {S : Type 0} (olds slice new : List (WeekFiles S)) (len : ℕ) → slice ≡ olds → length slice ≡ len → SameWeeks slice
-    new →
-    SameWeeks olds (take len (new ++ drop (length new) olds))
-same-weeks-back {S} olds slice new len same long weeks =
-    let lengths : length new ≡ length olds = same-length slice new weeks ∙ ap length same in
-    subst (λ (now : List (WeekFiles S)). SameWeeks olds now) (sym (settled olds new len lengths (sym (ap length same) ∙ long)))
-    (subst (λ (was : List (WeekFiles S)). SameWeeks was new) same weeks)
-
-pub length-back : {X : Type 0} (olds slice new : List X) (len : ℕ) → slice ≡ olds → length slice ≡ len → length new ≡ length slice →
-    length (take len (new ++ drop (length new) olds)) ≡ length olds
-length-back olds slice new len same long count =
-    let lengths : length new ≡ length olds = count ∙ ap length same in
-    ap length (settled olds new len lengths (sym (ap length same) ∙ long)) ∙ lengths

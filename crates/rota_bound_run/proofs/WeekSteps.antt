@@ -1,7 +1,6 @@
 -- Steps for a week that were not started.
-use Rattle.std.proofs.Common.{◌≡◌, ℕ, zero, suc, ◌<◌, refl, ap, sym, ◌∙◌, subst, arith, List, [], ◌∷◌, ◌++◌, length, get_or, Result, Ok, Err, IfOk}
-use Rattle.std.specs.Prelude.{Bool, Option, Some, None, is_some}
-use Rattle.std.proofs.Math.ListN.{set}
+use Rattle.std.proofs.Common.{◌≡◌, ℕ, refl, ap, sym, ◌∙◌, subst, List, [], ◌∷◌, ◌++◌, length, Result, Ok, Err, IfOk}
+use Rattle.std.specs.Prelude.{Bool, Option, Some, None}
 use Rattle.rota_core.specs.InstanceTables.{InstanceTables}
 use Rattle.rota_core.specs.WeekTables.{WeekTables}
 use Rattle.byte_ports.specs.declared.ports.Source.{Ghosts}
@@ -10,7 +9,7 @@ use Rattle.rota_pb.specs.declared.fault.Fault.{Fault}
 use Rattle.rota_pb.specs.declared.fault.Fault.TheVariants.{Memory}
 use Rattle.rota_pb.specs.declared.period_fault.PeriodFault.TheVariants.{Run}
 use Rattle.rota_pb.specs.Steps.{stopped, went_on}
-use Rattle.rota_bound_run.specs.PeriodFiles.{SameWeek, SameWeeks, reader_if, week_readers}
+use Rattle.rota_bound_run.specs.PeriodFiles.{reader_if, week_readers}
 use Rattle.rota_bound_run.specs.PeriodRead.{read_next}
 use Rattle.rota_bound_run.specs.WeeksRead.{IsLike, IsWeekAt, hold_cells, read_week, week_at}
 use Rattle.rota_bound_run.specs.declared.files.WeekFiles.{WeekFiles}
@@ -66,27 +65,3 @@ module _ {S : Type 0} (port : Ghosts S) (early : Bool) (ward : Ward) (count : �
         ap (λ (n : ℕ). fault_in_week count n fault) (sym number),
         subst (λ (n : ℕ). (read_week early ward n (week_readers port old new)).ends (Err fault)) (sym number) ends,
       ) (λ week. tt)
-
--- ---- no file comes or goes
-
-pub same-weeks : {S : Type 0} (files : List (WeekFiles S)) → SameWeeks files files
-unfolding SameWeeks
-same-weeks [] = tt
-same-weeks (file ∷ files) = (refl, same-weeks files)
-
-pub same-more : {S : Type 0} (olds now : List (WeekFiles S)) (i : ℕ) (old new : WeekFiles S) → SameWeeks olds now → i < length now →
-    old ≡ get_or now i old → SameWeek old new → SameWeeks olds (set now i new)
-unfolding SameWeeks
-same-more [] [] i old new same inside is week = absurd (omega (arith, inside))
-same-more [] (n ∷ now) i old new same inside is week = absurd same
-same-more (o ∷ olds) [] i old new same inside is week = absurd same
-same-more (o ∷ olds) (n ∷ now) zero old new same inside is week = (week ∙ ap (λ one. is_some one.fix) is ∙ same.0, same.1)
-same-more (o ∷ olds) (n ∷ now) (suc i) old new same inside is week =
-    (same.0, same-more olds now i old new same.1 (omega (arith, inside)) is week)
-
-pub same-length : {S : Type 0} (olds now : List (WeekFiles S)) → SameWeeks olds now → length now ≡ length olds
-unfolding SameWeeks
-same-length [] [] same = refl
-same-length [] (n ∷ now) same = absurd same
-same-length (o ∷ olds) [] same = absurd same
-same-length (o ∷ olds) (n ∷ now) same = ap suc (same-length olds now same.1)

@@ -1,5 +1,5 @@
 -- The readers of a period's files.
-use Rattle.std.specs.Prelude.{◌≡◌, ℕ, ◌<◌, ◌⊎◌, ⊤, List, [], ◌∷◌, length, Option, Some, None, is_some, unwrap_or}
+use Rattle.std.specs.Prelude.{◌≡◌, ℕ, ◌<◌, ◌⊎◌, List, [], ◌∷◌, length, Option, Some, None, unwrap_or}
 use Rattle.byte_ports.specs.declared.ports.Source.{Ghosts as SourceGhosts}
 use Rattle.rota_pb.specs.RunPorts.{Reader, reader_of}
 use Rattle.rota_bound_run.specs.declared.files.PeriodFiles.{PeriodFiles}
@@ -63,21 +63,3 @@ readers_of port old new = record {
   proof = reader_if port old.proof new.proof;
   rosters = each_of (reader_of port) old.rosters.items new.rosters.items;
 }
-
--- the week has a file of held cells if and only if it had one before
-abbrev pub SameWeek : {S : Type 0} → WeekFiles S → WeekFiles S → Type 0
-SameWeek old new = is_some new.fix ≡ is_some old.fix
-
--- the same of each week
-unfoldable pub SameWeeks : {S : Type 0} → List (WeekFiles S) → List (WeekFiles S) → Type 0
-SameWeeks [] [] = ⊤
-SameWeeks [] (new ∷ news) = ⊥
-SameWeeks (old ∷ olds) [] = ⊥
-SameWeeks (old ∷ olds) (new ∷ news) = SameWeek old new × SameWeeks olds news
-
--- no file came or went
-pub record SameFiles {S : Type 0} (old new : PeriodFiles S) : Type 0 where
-  pub weeks : SameWeeks old.weeks.items new.weeks.items
-  pub given : is_some new.given ≡ is_some old.given
-  pub proof : is_some new.proof ≡ is_some old.proof
-  pub rosters : length new.rosters.items ≡ length old.rosters.items

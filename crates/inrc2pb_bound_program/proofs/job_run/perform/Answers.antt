@@ -23,4 +23,4 @@ run_bound-requires g c =
 pub returns : goal.returns
 returns g c =
     ran c.in_ok-opened.ensures.opened.all c.in_ok-opened.opened c.run_bound.new.files c.in_ok-opened.ensures.opened.are_open
-    (search (c.run_bound.ensures.outcome))
+    (search (c.run_bound.ensures))

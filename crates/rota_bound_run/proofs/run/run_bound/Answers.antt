@@ -9,14 +9,13 @@ use Rattle.rota_bound_run.specs.CertificateRead.{read_proof}
 use Rattle.rota_bound_run.specs.PeriodRead.{read_given}
 use Rattle.rota_bound_run.specs.Wards.{read_ward}
 use Rattle.rota_pb.proofs.Steps.{stopped_by}
-use Rattle.rota_bound_run.proofs.PeriodRuns.{gives-none, judges-none, length-back, proves-none, reads-no-weeks, rosters-back, same-weeks-back, slice-back, stopped_for_all, weeks-back}
+use Rattle.rota_bound_run.proofs.PeriodRuns.{gives-none, judges-none, proves-none, reads-no-weeks, rosters-back, slice-back, stopped_for_all, weeks-back}
 use Rattle.rota_bound_run.proofs.PeriodWeeks.{for-weeks, given-for, is-period}
-use Rattle.rota_bound_run.proofs.WeekSteps.{same-length, same-weeks}
 use Rattle.rota_bound_run.proofs.run.run_bound.Goals as goal
 
-pub returns-in_err-ward-clause-outcome : goal.returns-in_err-ward-clause-outcome
+pub returns-in_err-ward : goal.returns-in_err-ward
 unfolding bound_run
-returns-in_err-ward-clause-outcome g c =
+returns-in_err-ward g c =
     let files = c.args.files.now in
     stopped_for_all (read_ward (reader_of g.S.Source files.scenario c.read_ward.new.scenario_file) (reader_of g.S.Source files.history
     c.read_ward.new.history_file))
@@ -36,15 +35,14 @@ returns-in_err-ward-clause-outcome g c =
       ),
     ))
 
-pub returns-in_err-weeks-clause-outcome : goal.returns-in_err-weeks-clause-outcome
+pub returns-in_err-weeks : goal.returns-in_err-weeks
 unfolding bound_run
-returns-in_err-weeks-clause-outcome g c =
+returns-in_err-weeks g c =
     let files = c.args.files.now in
     went_on c.in_ok-ward.ward c.in_ok-ward.ensures.reads
     (stopped_by _ _ c.from_residual-in_err-weeks.ensures.1 (weeks-back g.S.Source c.args.question.early c.in_ok-ward.ward
     files.weeks.items c.deref_mut.result.now c.read_weeks.new.files files.weeks.len
-    c.deref_mut.ensures.value c.deref_mut.ensures.len (same-length c.deref_mut.result.now c.read_weeks.new.files
-    c.in_err-weeks.ensures.same) _ c.in_err-weeks.ensures.reads)
+    c.deref_mut.ensures.value c.deref_mut.ensures.len c.in_err-weeks.ensures.files _ c.in_err-weeks.ensures.reads)
     (λ weeks. (
       gives-none g.S.Source _ _ files.given,
       λ given. (
@@ -54,17 +52,16 @@ returns-in_err-weeks-clause-outcome g c =
       ),
     )))
 
-pub returns-in_err-given-clause-outcome : goal.returns-in_err-given-clause-outcome
+pub returns-in_err-given : goal.returns-in_err-given
 unfolding bound_run
-returns-in_err-given-clause-outcome g c =
+returns-in_err-given g c =
     let files = c.args.files.now in
     let weeks = c.in_ok-weeks.weeks.items in
     let count : c.len-count.result ≡ length weeks = c.len-count.ensures ∙ c.in_ok-weeks.weeks.ok.0 in
     went_on c.in_ok-ward.ward c.in_ok-ward.ensures.reads
     (went_on c.in_ok-weeks.weeks.items (weeks-back g.S.Source c.args.question.early c.in_ok-ward.ward files.weeks.items
     c.deref_mut.result.now c.read_weeks.new.files files.weeks.len
-    c.deref_mut.ensures.value c.deref_mut.ensures.len (same-length c.deref_mut.result.now c.read_weeks.new.files
-    c.in_ok-weeks.ensures.same) _ c.in_ok-weeks.ensures.reads)
+    c.deref_mut.ensures.value c.deref_mut.ensures.len c.in_ok-weeks.ensures.files _ c.in_ok-weeks.ensures.reads)
     (stopped_for_all (read_given c.in_ok-ward.ward.scenario (length weeks) (reader_if g.S.Source files.given c.read_given.new.file)) _ _
     c.from_residual-in_err-given.ensures.1 (subst (λ (n : ℕ). (read_given c.in_ok-ward.ward.scenario n (reader_if g.S.Source files.given
     c.read_given.new.file)).ends (Err c.in_err-given.field-0.0)) count c.in_err-given.ensures.reads)
@@ -77,9 +74,9 @@ returns-in_err-given-clause-outcome g c =
       ),
     ))))
 
-pub returns-in_err-certificate-clause-outcome : goal.returns-in_err-certificate-clause-outcome
+pub returns-in_err-certificate : goal.returns-in_err-certificate
 unfolding bound_run
-returns-in_err-certificate-clause-outcome g c =
+returns-in_err-certificate g c =
     let files = c.args.files.now in
     let weeks = c.in_ok-weeks.weeks.items in
     let count : c.len-count.result ≡ length weeks = c.len-count.ensures ∙ c.in_ok-weeks.weeks.ok.0 in
@@ -87,8 +84,7 @@ returns-in_err-certificate-clause-outcome g c =
     went_on c.in_ok-ward.ward c.in_ok-ward.ensures.reads
     (went_on c.in_ok-weeks.weeks.items (weeks-back g.S.Source c.args.question.early c.in_ok-ward.ward files.weeks.items
     c.deref_mut.result.now c.read_weeks.new.files files.weeks.len
-    c.deref_mut.ensures.value c.deref_mut.ensures.len (same-length c.deref_mut.result.now c.read_weeks.new.files
-    c.in_ok-weeks.ensures.same) _ c.in_ok-weeks.ensures.reads)
+    c.deref_mut.ensures.value c.deref_mut.ensures.len c.in_ok-weeks.ensures.files _ c.in_ok-weeks.ensures.reads)
     (went_on given (subst (λ (n : ℕ). (read_given c.in_ok-ward.ward.scenario n (reader_if g.S.Source files.given
     c.read_given.new.file)).ends (Ok given)) count c.in_ok-given.ensures.reads)
     (stopped_for_all (read_proof c.in_ok-ward.ward.scenario (length weeks) (reader_if g.S.Source files.proof c.read_proof.new.file)) _ _
@@ -96,9 +92,9 @@ returns-in_err-certificate-clause-outcome g c =
     files.proof c.read_proof.new.file)).ends (Err c.in_err-certificate.field-0.0)) count c.in_err-certificate.ensures.reads)
     (λ certificate. (judges-none g.S.Source weeks given files.rosters.items, λ judged. (tt, λ answer. refl))))))
 
-pub returns-in_err-judged-clause-outcome : goal.returns-in_err-judged-clause-outcome
+pub returns-in_err-judged : goal.returns-in_err-judged
 unfolding bound_run
-returns-in_err-judged-clause-outcome g c =
+returns-in_err-judged g c =
     let files = c.args.files.now in
     let weeks = c.in_ok-weeks.weeks.items in
     let count : c.len-count.result ≡ length weeks = c.len-count.ensures ∙ c.in_ok-weeks.weeks.ok.0 in
@@ -106,8 +102,7 @@ returns-in_err-judged-clause-outcome g c =
     went_on c.in_ok-ward.ward c.in_ok-ward.ensures.reads
     (went_on c.in_ok-weeks.weeks.items (weeks-back g.S.Source c.args.question.early c.in_ok-ward.ward files.weeks.items
     c.deref_mut.result.now c.read_weeks.new.files files.weeks.len
-    c.deref_mut.ensures.value c.deref_mut.ensures.len (same-length c.deref_mut.result.now c.read_weeks.new.files
-    c.in_ok-weeks.ensures.same) _ c.in_ok-weeks.ensures.reads)
+    c.deref_mut.ensures.value c.deref_mut.ensures.len c.in_ok-weeks.ensures.files _ c.in_ok-weeks.ensures.reads)
     (went_on given (subst (λ (n : ℕ). (read_given c.in_ok-ward.ward.scenario n (reader_if g.S.Source files.given
     c.read_given.new.file)).ends (Ok given)) count c.in_ok-given.ensures.reads)
     (went_on c.in_ok-certificate.certificate (subst (λ (n : ℕ). (read_proof c.in_ok-ward.ward.scenario n (reader_if g.S.Source
@@ -118,9 +113,9 @@ returns-in_err-judged-clause-outcome g c =
     c.deref_mut-2.ensures.value at c.in_err-judged.ensures.reads))
     (λ judged. (tt, λ answer. refl))))))
 
-pub returns-in_err-answer-clause-outcome : goal.returns-in_err-answer-clause-outcome
+pub returns-in_err-answer : goal.returns-in_err-answer
 unfolding bound_run
-returns-in_err-answer-clause-outcome g c =
+returns-in_err-answer g c =
     let files = c.args.files.now in
     let weeks = c.in_ok-weeks.weeks.items in
     let count : c.len-count.result ≡ length weeks = c.len-count.ensures ∙ c.in_ok-weeks.weeks.ok.0 in
@@ -128,8 +123,7 @@ returns-in_err-answer-clause-outcome g c =
     went_on c.in_ok-ward.ward c.in_ok-ward.ensures.reads
     (went_on c.in_ok-weeks.weeks.items (weeks-back g.S.Source c.args.question.early c.in_ok-ward.ward files.weeks.items
     c.deref_mut.result.now c.read_weeks.new.files files.weeks.len
-    c.deref_mut.ensures.value c.deref_mut.ensures.len (same-length c.deref_mut.result.now c.read_weeks.new.files
-    c.in_ok-weeks.ensures.same) _ c.in_ok-weeks.ensures.reads)
+    c.deref_mut.ensures.value c.deref_mut.ensures.len c.in_ok-weeks.ensures.files _ c.in_ok-weeks.ensures.reads)
     (went_on given (subst (λ (n : ℕ). (read_given c.in_ok-ward.ward.scenario n (reader_if g.S.Source files.given
     c.read_given.new.file)).ends (Ok given)) count c.in_ok-given.ensures.reads)
     (went_on c.in_ok-certificate.certificate (subst (λ (n : ℕ). (read_proof c.in_ok-ward.ward.scenario n (reader_if g.S.Source
@@ -140,9 +134,9 @@ returns-in_err-answer-clause-outcome g c =
     c.deref_mut-2.ensures.value at c.in_ok-judged.ensures.reads))
     (stopped_by _ _ c.from_residual-in_err-answer.ensures.1 refl (λ answer. refl))))))
 
-pub returns-in_err-write_answer-clause-outcome : goal.returns-in_err-write_answer-clause-outcome
+pub returns-in_err-write_answer : goal.returns-in_err-write_answer
 unfolding bound_run
-returns-in_err-write_answer-clause-outcome g c =
+returns-in_err-write_answer g c =
     let files = c.args.files.now in
     let weeks = c.in_ok-weeks.weeks.items in
     let count : c.len-count.result ≡ length weeks = c.len-count.ensures ∙ c.in_ok-weeks.weeks.ok.0 in
@@ -156,8 +150,7 @@ returns-in_err-write_answer-clause-outcome g c =
     (went_on c.in_ok-ward.ward c.in_ok-ward.ensures.reads
     (went_on c.in_ok-weeks.weeks.items (weeks-back g.S.Source c.args.question.early c.in_ok-ward.ward files.weeks.items
     c.deref_mut.result.now c.read_weeks.new.files files.weeks.len
-    c.deref_mut.ensures.value c.deref_mut.ensures.len (same-length c.deref_mut.result.now c.read_weeks.new.files
-    c.in_ok-weeks.ensures.same) _ c.in_ok-weeks.ensures.reads)
+    c.deref_mut.ensures.value c.deref_mut.ensures.len c.in_ok-weeks.ensures.files _ c.in_ok-weeks.ensures.reads)
     (went_on given (subst (λ (n : ℕ). (read_given c.in_ok-ward.ward.scenario n (reader_if g.S.Source files.given
     c.read_given.new.file)).ends (Ok given)) count c.in_ok-given.ensures.reads)
     (went_on c.in_ok-certificate.certificate (subst (λ (n : ℕ). (read_proof c.in_ok-ward.ward.scenario n (reader_if g.S.Source
@@ -172,9 +165,9 @@ returns-in_err-write_answer-clause-outcome g c =
       c.in_err-write_answer.ensures,
     )))))))
 
-pub returns-clause-outcome : goal.returns-clause-outcome
+pub returns : goal.returns
 unfolding bound_run
-returns-clause-outcome g c =
+returns g c =
     let files = c.args.files.now in
     let weeks = c.in_ok-weeks.weeks.items in
     let count : c.len-count.result ≡ length weeks = c.len-count.ensures ∙ c.in_ok-weeks.weeks.ok.0 in
@@ -186,8 +179,7 @@ returns-clause-outcome g c =
     went_on c.in_ok-ward.ward c.in_ok-ward.ensures.reads
     (went_on c.in_ok-weeks.weeks.items (weeks-back g.S.Source c.args.question.early c.in_ok-ward.ward files.weeks.items
     c.deref_mut.result.now c.read_weeks.new.files files.weeks.len
-    c.deref_mut.ensures.value c.deref_mut.ensures.len (same-length c.deref_mut.result.now c.read_weeks.new.files
-    c.in_ok-weeks.ensures.same) _ c.in_ok-weeks.ensures.reads)
+    c.deref_mut.ensures.value c.deref_mut.ensures.len c.in_ok-weeks.ensures.files _ c.in_ok-weeks.ensures.reads)
     (went_on given (subst (λ (n : ℕ). (read_given c.in_ok-ward.ward.scenario n (reader_if g.S.Source files.given
     c.read_given.new.file)).ends (Ok given)) count c.in_ok-given.ensures.reads)
     (went_on c.in_ok-certificate.certificate (subst (λ (n : ℕ). (read_proof c.in_ok-ward.ward.scenario n (reader_if g.S.Source
@@ -197,108 +189,6 @@ returns-clause-outcome g c =
     c.deref_mut-3.ensures.value c.deref_mut-3.ensures.len c.in_ok-judged.ensures.count _ (rw
     c.deref_mut-2.ensures.value at c.in_ok-judged.ensures.reads))
     (went_on c.in_ok-answer.answer (rw (now, c.deref-2.ensures.value) at c.in_ok-answer.ensures) c.in_ok-write_answer.ensures)))))
-
-pub returns-in_err-ward-clause-same : goal.returns-in_err-ward-clause-same
-returns-in_err-ward-clause-same g c =
-    let files = c.args.files.now in
-    record {
-      weeks = same-weeks files.weeks.items;
-      given = refl;
-      proof = refl;
-      rosters = refl;
-    }
-
-pub returns-in_err-weeks-clause-same : goal.returns-in_err-weeks-clause-same
-returns-in_err-weeks-clause-same g c =
-    let files = c.args.files.now in
-    record {
-      weeks = same-weeks-back files.weeks.items c.deref_mut.result.now c.read_weeks.new.files files.weeks.len c.deref_mut.ensures.value
-          c.deref_mut.ensures.len
-          c.in_err-weeks.ensures.same;
-      given = refl;
-      proof = refl;
-      rosters = refl;
-    }
-
-pub returns-in_err-given-clause-same : goal.returns-in_err-given-clause-same
-returns-in_err-given-clause-same g c =
-    let files = c.args.files.now in
-    record {
-      weeks = same-weeks-back files.weeks.items c.deref_mut.result.now c.read_weeks.new.files files.weeks.len c.deref_mut.ensures.value
-          c.deref_mut.ensures.len
-          c.in_ok-weeks.ensures.same;
-      given = c.in_err-given.ensures.same;
-      proof = refl;
-      rosters = refl;
-    }
-
-pub returns-in_err-certificate-clause-same : goal.returns-in_err-certificate-clause-same
-returns-in_err-certificate-clause-same g c =
-    let files = c.args.files.now in
-    record {
-      weeks = same-weeks-back files.weeks.items c.deref_mut.result.now c.read_weeks.new.files files.weeks.len c.deref_mut.ensures.value
-          c.deref_mut.ensures.len
-          c.in_ok-weeks.ensures.same;
-      given = c.in_ok-given.ensures.same;
-      proof = c.in_err-certificate.ensures.same;
-      rosters = refl;
-    }
-
-pub returns-in_err-judged-clause-same : goal.returns-in_err-judged-clause-same
-returns-in_err-judged-clause-same g c =
-    let files = c.args.files.now in
-    record {
-      weeks = same-weeks-back files.weeks.items c.deref_mut.result.now c.read_weeks.new.files files.weeks.len c.deref_mut.ensures.value
-          c.deref_mut.ensures.len
-          c.in_ok-weeks.ensures.same;
-      given = c.in_ok-given.ensures.same;
-      proof = c.in_ok-certificate.ensures.same;
-      rosters = length-back files.rosters.items c.deref_mut-3.result.now c.judge_plan.new.files files.rosters.len
-          c.deref_mut-3.ensures.value
-          c.deref_mut-3.ensures.len c.in_err-judged.ensures.count;
-    }
-
-pub returns-in_err-answer-clause-same : goal.returns-in_err-answer-clause-same
-returns-in_err-answer-clause-same g c =
-    let files = c.args.files.now in
-    record {
-      weeks = same-weeks-back files.weeks.items c.deref_mut.result.now c.read_weeks.new.files files.weeks.len c.deref_mut.ensures.value
-          c.deref_mut.ensures.len
-          c.in_ok-weeks.ensures.same;
-      given = c.in_ok-given.ensures.same;
-      proof = c.in_ok-certificate.ensures.same;
-      rosters = length-back files.rosters.items c.deref_mut-3.result.now c.judge_plan.new.files files.rosters.len
-          c.deref_mut-3.ensures.value
-          c.deref_mut-3.ensures.len c.in_ok-judged.ensures.count;
-    }
-
-pub returns-in_err-write_answer-clause-same : goal.returns-in_err-write_answer-clause-same
-returns-in_err-write_answer-clause-same g c =
-    let files = c.args.files.now in
-    record {
-      weeks = same-weeks-back files.weeks.items c.deref_mut.result.now c.read_weeks.new.files files.weeks.len c.deref_mut.ensures.value
-          c.deref_mut.ensures.len
-          c.in_ok-weeks.ensures.same;
-      given = c.in_ok-given.ensures.same;
-      proof = c.in_ok-certificate.ensures.same;
-      rosters = length-back files.rosters.items c.deref_mut-3.result.now c.judge_plan.new.files files.rosters.len
-          c.deref_mut-3.ensures.value
-          c.deref_mut-3.ensures.len c.in_ok-judged.ensures.count;
-    }
-
-pub returns-clause-same : goal.returns-clause-same
-returns-clause-same g c =
-    let files = c.args.files.now in
-    record {
-      weeks = same-weeks-back files.weeks.items c.deref_mut.result.now c.read_weeks.new.files files.weeks.len c.deref_mut.ensures.value
-          c.deref_mut.ensures.len
-          c.in_ok-weeks.ensures.same;
-      given = c.in_ok-given.ensures.same;
-      proof = c.in_ok-certificate.ensures.same;
-      rosters = length-back files.rosters.items c.deref_mut-3.result.now c.judge_plan.new.files files.rosters.len
-          c.deref_mut-3.ensures.value
-          c.deref_mut-3.ensures.len c.in_ok-judged.ensures.count;
-    }
 
 pub overflow_cast-count : goal.overflow_cast-count
 overflow_cast-count g c =

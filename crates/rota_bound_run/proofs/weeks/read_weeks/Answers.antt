@@ -12,7 +12,7 @@ use Rattle.rota_bound_run.specs.declared.files.WeekFiles.{WeekFiles}
 use Rattle.rota_bound_run.specs.declared.ward.Ward.{Ward}
 use Rattle.rota_bound_run.proofs.InTurn.{length-each, reads-all, reads-more, reads-none, stops-at}
 use Rattle.rota_bound_run.proofs.PeriodWeeks.{weeks-more}
-use Rattle.rota_bound_run.proofs.WeekSteps.{lacks-memory, reads-no-week, reads-week, same-length, same-more, same-weeks, stops-week}
+use Rattle.rota_bound_run.proofs.WeekSteps.{lacks-memory, reads-no-week, reads-week, stops-week}
 use Rattle.rota_bound_run.proofs.weeks.read_weeks.Goals as goal
 
 -- there is a week for each file
@@ -31,18 +31,7 @@ loop-index-init g c = record {
       (week_readers g.S.Source) [] c.args.files.now);
   weeks = rw c.new-weeks.ensures.items tt;
   number = ap length c.new-weeks.ensures.items;
-  same = same-weeks c.args.files.now;
 }
-
-pub returns-in_err-push-in-Ok-clause-same : goal.returns-in_err-push-in-Ok-clause-same
-returns-in_err-push-in-Ok-clause-same g c =
-    same-more c.args.files.now c.loop-index.files c.loop-index.index c.index-files-index.result c.read_week.new.files
-    c.loop-index.invariant.same (omega (
-      arith,
-      same-length c.args.files.now c.loop-index.files c.loop-index.invariant.same,
-      c.loop-index-test.true,
-    ))
-    c.index-files-index.is (rw (← c.index-files-index.is) at c.in-Ok.ensures.same)
 
 pub returns-in_err-push-in-Ok-clause-reads : goal.returns-in_err-push-in-Ok-clause-reads
 returns-in_err-push-in-Ok-clause-reads g c =
@@ -58,16 +47,6 @@ returns-in_err-push-in-Ok-clause-reads g c =
     (reads-no-week g.S.Source c.args.early c.args.ward.now (length c.args.files.now)) _
     (lacks-memory g.S.Source c.args.early c.args.ward.now (length c.args.files.now) c.loop-index.weeks.items i inv.number
     c.index-files-index.result c.read_week.new.files c.in-Ok.week (rw (← c.index-files-index.is) at c.in-Ok.ensures.reads))))
-
-pub returns-in-Err-clause-same : goal.returns-in-Err-clause-same
-returns-in-Err-clause-same g c =
-    same-more c.args.files.now c.loop-index.files c.loop-index.index c.index-files-index.result c.read_week.new.files
-    c.loop-index.invariant.same (omega (
-      arith,
-      same-length c.args.files.now c.loop-index.files c.loop-index.invariant.same,
-      c.loop-index-test.true,
-    ))
-    c.index-files-index.is (rw (← c.index-files-index.is) at c.in-Err.ensures.same)
 
 pub returns-in-Err-clause-reads : goal.returns-in-Err-clause-reads
 returns-in-Err-clause-reads g c =
@@ -102,10 +81,6 @@ loop-index-preserved g c =
           rw pushed (weeks-more c.args.early c.args.ward.now 0 c.loop-index.weeks.items c.in-Ok.week inv.weeks
           (subst (λ (n : ℕ). IsWeekAt c.args.early c.args.ward.now n c.in-Ok.week) there c.in-Ok.ensures.week));
       number = ap length pushed ∙ length-append c.loop-index.weeks.items (c.in-Ok.week ∷ []) ∙ ap (λ (n : ℕ). n + 1) inv.number;
-      same =
-          same-more c.args.files.now c.loop-index.files i c.index-files-index.result c.read_week.new.files
-          inv.same (omega (arith, same-length c.args.files.now c.loop-index.files inv.same, c.loop-index-test.true))
-          c.index-files-index.is (rw (← c.index-files-index.is) at c.in-Ok.ensures.same);
     }
 
 pub returns-clause-reads : goal.returns-clause-reads
