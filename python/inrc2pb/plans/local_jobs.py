@@ -2,13 +2,13 @@
 
 import io
 import threading
-from typing import List, Mapping, NamedTuple, Optional, Union
+from typing import List, Mapping, NamedTuple, Optional
 
 from ..programs.interrupts import Interrupts
 from ..programs.progress import Progress
 from ..week.faults import FileFault, FileFaults, Misuse, ProgramFault, fault_line
 from . import render
-from .outcome import Event, Outcome, Undoing, Undone, WeekOver
+from .outcome import Event, Outcome, Undone, WeekOver
 from .store import Means, Reader, WardFolder
 from .verbs import Verbs
 from .words import PeriodOver
@@ -39,7 +39,7 @@ class Said(NamedTuple):
 
     lines: List[str]
     fields: Fields = {}
-    outcome: Union[Outcome, Undoing, None] = None
+    outcome: Optional[Outcome] = None
     fault: Optional[Exception] = None
     runs: bool = False
 

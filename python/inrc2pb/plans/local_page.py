@@ -135,7 +135,7 @@ def _said(said: Said, kept: Fields, address: str) -> List[Markup]:
     """The lines of the last verb, and a button that stops it, or that writes the swap of which it tells."""
     stop = element("form", element("button", "Stop, and keep the best plan", name="verb", value="stop"), method="post", action=address)
     found = said.outcome
-    is_look = isinstance(found, Swapped) and found.pages is None and not found.faults
+    is_look = isinstance(found, Swapped) and not found.is_written and not found.faults
     words = {name: value for name, value in kept.items() if value and name != "verb"}
     write = [swap_markup(words, "Write this swap", address)] if is_look else []
     return [*_lines(said.lines, said.fault is not None), *([stop] if said.runs else []), *write]

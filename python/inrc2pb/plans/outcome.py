@@ -4,9 +4,9 @@ A question of the page is an outcome before anything is searched or written; the
 """
 
 import enum
-from dataclasses import dataclass, field
+from dataclasses import dataclass
 from pathlib import Path
-from typing import Dict, Mapping, NamedTuple, Optional, Tuple, Union
+from typing import Mapping, NamedTuple, Optional, Tuple, Union
 
 from ..programs.program import BROKEN_RULE, NO_ROSTER, READ_OR_WRITE
 from ..search.bounds import PLAIN, Bound
@@ -70,18 +70,26 @@ class KnownBound(NamedTuple):
         return self.bound.by != PLAIN
 
 
+@dataclass(frozen=True, kw_only=True)
+class Outcome:
+    """What comes of an event: how it ends, whether something was written, and the pages of the folder that were."""
+
+    status: Status = Status.DONE
+    is_written: bool = False
+    pages: Pages = Pages()
+
+
 @dataclass(frozen=True)
-class Checked:
+class Checked(Outcome):
     """The spreadsheet was read: its plan, the pages that show another plan, and the rows of needs that are as they were last period."""
 
     plan: WardPlan
-    status: Status = Status.DONE
     other_pages: Tuple[str, ...] = ()
     anew: Tuple[WeekRow, ...] = ()
 
 
 @dataclass(frozen=True)
-class Away:
+class Away(Outcome):
     """A nurse is away on these days for a reason, or, for the reason `back`, she is not any more: the plans before and with this, and for
     who is back the reason that she had."""
 
@@ -91,11 +99,10 @@ class Away:
     days: Tuple[int, ...]
     word: str
     was: str = ""
-    status: Status = Status.DONE
 
 
 @dataclass(frozen=True)
-class Planned:
+class Planned(Outcome):
     """A search has found a plan: the plan before it, with its absences, if there is one; the same with the absences of now; what was asked;
     the new plan; the penalty of its weeks; the bound, if it speaks of such plans; whether the user stopped the search."""
 
@@ -107,36 +114,32 @@ class Planned:
     bound: Optional[KnownBound]
     is_stopped: bool
     absence: Optional[Away] = None
-    pages: Pages = Pages()
-    status: Status = Status.DONE
 
 
 @dataclass(frozen=True)
-class NoPlan:
+class NoPlan(Outcome):
     """No plan was found: the week that has no roster, and why."""
 
     plan: WardPlan
     week: int
     shortage: Shortage
     absence: Optional[Away] = None
-    status: Status = Status.NO_PLAN
 
 
 @dataclass(frozen=True)
-class Offers:
+class Offers(Outcome):
     """Who could take a nurse's shift on a day."""
 
     swaps: Swaps
     nurse: str
     day: int
     offers: Tuple[Offer, ...]
-    status: Status = Status.DONE
 
 
 @dataclass(frozen=True)
-class Swapped:
+class Swapped(Outcome):
     """A swap of two nurses: the plan before and after it, its faults, whether it takes a swap of theirs back, and who else could take the
-    first shift. It is written, or only looked at."""
+    first shift."""
 
     old: WardPlan
     new: WardPlan
@@ -144,33 +147,27 @@ class Swapped:
     faults: Tuple[Fault, ...] = ()
     takes_back: bool = False
     offers: Optional[Offers] = None
-    pages: Optional[Pages] = None
-    status: Status = Status.DONE
 
 
 @dataclass(frozen=True)
-class WeekOver:
+class WeekOver(Outcome):
     """A week is over: the plan before it, the plan with the week as it was worked, the plan that goes on, which is None after the last week
     of a period, and the days on which nurses were away or back by the corrections."""
 
     old: WardPlan
     worked: WardPlan
     next: Optional[WardPlan]
-    away: Dict[NurseDay, str] = field(default_factory=dict)
-    pages: Pages = Pages()
-    status: Status = Status.DONE
+    away: Mapping[NurseDay, str]
 
 
 @dataclass(frozen=True)
-class Published:
+class Published(Outcome):
     """The plan hangs on the wall now."""
 
     plan: WardPlan
-    pages: Pages = Pages()
-    status: Status = Status.DONE
 
 
-class Undoing(NamedTuple):
+class Made(NamedTuple):
     """A plan's folder and its record, if it is not damaged."""
 
     folder: Path
@@ -178,15 +175,10 @@ class Undoing(NamedTuple):
 
 
 @dataclass(frozen=True)
-class Undone:
-    """A plan was undone, and another one holds now, if there is one. `plan` is None if the spreadsheet has a fault."""
+class Undone(Outcome):
+    """A plan is undone, and another one holds now, if there is one. `plan` is None if the spreadsheet has a fault."""
 
-    undone: Undoing
-    holds: Optional[Undoing] = None
+    undone: Made
+    holds: Optional[Made] = None
     plan: Optional[WardPlan] = None
     fault: Union[FileFault, Misuse, OSError, None] = None
-    pages: Pages = Pages()
-    status: Status = Status.DONE
-
-
-Outcome = Union[Checked, Away, Planned, NoPlan, Offers, Swapped, WeekOver, Published, Undone]

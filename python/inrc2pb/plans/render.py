@@ -1,7 +1,7 @@
 """The words of outcomes: with `sentences`, which has those of facts, the only module of this package that writes sentences about plans."""
 
 from functools import singledispatch
-from typing import Dict, Iterator, List, Mapping, Optional, Tuple, Union
+from typing import Dict, Iterator, List, Mapping, Optional, Tuple
 
 from ..judging.absences import readable
 from ..judging.leave import paid_days
@@ -16,14 +16,10 @@ from ..week.faults import fault_line
 from ..week.hints import plural
 from .changes import BESIDE_POINTS, CALL_POINTS, POINTS, shift_changes
 from .facts import beside_days_away, broken, broken_agreements, unkept
-
-from .outcome import (
-    Away, Checked, KnownBound, NoPlan, Offers, Outcome, Planned, Published, Searched, Status, Swapped, Undoing, Undone, WeekOver,
-)  # fmt: skip
-from .sentences import (
-    anew_lines, beside_lines, beside_text, broken_text, call_lines, cell_text, change_lines, days_away_lines, days_off_lines,
-    exceeded_lines, fault_text, offer_text, pages_lines, unkept_lines, wish_lines,
-)  # fmt: skip
+from .outcome import Away, Checked, KnownBound, Made, NoPlan, Offers, Outcome, Planned, Published, Searched, Status, Swapped, Undone
+from .outcome import WeekOver
+from .sentences import anew_lines, beside_lines, beside_text, broken_text, call_lines, cell_text, change_lines, days_away_lines
+from .sentences import days_off_lines, exceeded_lines, fault_text, offer_text, pages_lines, unkept_lines, wish_lines
 from .state import BACK, NurseDay, in_week
 from .ward import ALWAYS_OFF, WardPlan, for_leavers
 from .words import PERIOD_IS_OVER, WEEK_DAYS
@@ -235,7 +231,7 @@ def _swapped_lines(found: Swapped, write: str = "") -> List[str]:
     if found.faults:
         return [*(f"not possible: {fault_text(found.old, fault)}" for fault in found.faults), "nothing is written", *offers]
     said = swap_lines(found)
-    if found.pages is None:
+    if not found.is_written:
         return [*said, f"nothing is written: {write}", *offers] if write else said
     kept = [] if found.takes_back else ["later plans keep this swap"]
     return [*said, *exceeded_lines(found.new), *kept, *pages_lines(found.pages)]
@@ -311,26 +307,24 @@ def _published_lines(found: Published, write: str = "") -> List[str]:
     return [*exceeded_lines(found.plan), *pages_lines(found.pages)]
 
 
-def made_text(one: Undoing) -> str:
+def _made_text(one: Made) -> str:
     """The verb and the time of a plan; the name of its folder if it is damaged."""
     return readable(one.record.made) if one.record else one.folder.name
 
 
 @lines.register
 def _undone_lines(found: Undone, write: str = "") -> List[str]:
-    undone, holds = made_text(found.undone), found.holds
+    undone, holds = _made_text(found.undone), found.holds
+    if not found.is_written:
+        return [f"this takes back: {undone}"]
     said = [f"undone: {undone}" if holds else f"undone: {undone}; there is no plan any more"]
     if holds:
         is_same = found.undone.record is not None and found.undone.record.verb == "page"
-        said.append(f"the plan of {made_text(holds)} holds again{', with the same shifts' if is_same else ''}")
+        said.append(f"the plan of {_made_text(holds)} holds again{', with the same shifts' if is_same else ''}")
     said += [*(exceeded_lines(found.plan) if found.plan else []), *pages_lines(found.pages)]
     return [*said, f"its pages are not written: {fault_line(found.fault)}"] if found.fault and holds else said
 
 
-def question_lines(found: Union[Outcome, Undoing, None]) -> List[str]:
+def question_lines(found: Optional[Outcome]) -> List[str]:
     """What a question says of an event that is not done yet; why it cannot be, if that is known."""
-    if isinstance(found, Undoing):
-        return [f"this takes back: {made_text(found)}"]
-    if isinstance(found, (Away, Swapped)):
-        return lines(found)
-    return []
+    return lines(found) if isinstance(found, (Away, Swapped, Undone)) else []

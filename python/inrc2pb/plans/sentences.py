@@ -9,11 +9,8 @@ from ..week.faults import fault_line
 from ..week.hints import plural, quoted
 from ..week.records import Cell, Request
 from .changes import ShiftChange, called
-
-from .facts import (
-    Beside, Broken, TooMany, Unkept, beside_days_away, charged_days_off, exceeded_in_weeks, lost_wishes, too_many_by_days_away,
-    too_many_shifts,
-)  # fmt: skip
+from .facts import Beside, Broken, TooMany, Unkept, beside_days_away, charged_days_off, exceeded_in_weeks, lost_wishes
+from .facts import too_many_by_days_away, too_many_shifts
 from .outcome import Pages
 from .state import NurseDay
 from .swaps import Fault, Kind, Offer, Swaps

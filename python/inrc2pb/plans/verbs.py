@@ -5,6 +5,7 @@ question shows it, and `done` does it. Both raise Misuse if what is asked for ca
 """
 
 from dataclasses import replace
+from pathlib import Path
 from typing import Callable, Dict, Optional, Sequence, TypeVar, Union
 
 from ..judging.absences import readable
@@ -17,10 +18,8 @@ from ..week.faults import FileFault, Misuse, ProgramFault, Stopped
 from . import events, render
 from .changes import without_needless_changes
 from .facts import unkept
-
-from .outcome import (
-    Away, Checked, Event, NoPlan, Offers, Outcome, Pages, Planned, Published, Searched, Status, Swapped, Undoing, Undone, WeekOver,
-)  # fmt: skip
+from .outcome import Away, Checked, Event, Made, NoPlan, Offers, Outcome, Pages, Planned, Published, Searched, Status, Swapped, Undone
+from .outcome import WeekOver
 from .searching import MOST, NONE, Asked, Found, search_plan, why_no_plan
 from .state import State, read_state
 from .store import Means, PlanStore, WardFolder, fitted, known_record, penalties
@@ -45,15 +44,15 @@ class Verbs:
         """The pages of weeks that are over, with this plan, if there is one, and their texts."""
         return self._store.worked_pages(plan)
 
-    def asked(self, event: Event) -> Union[Outcome, Undoing, None]:
-        """What an event comes to before it searches or writes, as far as that is known."""
+    def asked(self, event: Event) -> Optional[Outcome]:
+        """What comes of an event before anything is searched or written, as far as that is known."""
         store = self._store
         if event.verb == "check":
             return None
         if event.verb == "plan":
             events.first_day(store.current(), event)
             return None
-        begun: Dict[str, Callable[[], Union[Outcome, Undoing]]] = {
+        begun: Dict[str, Callable[[], Outcome]] = {
             **{word: lambda: events.absence(store.planned(), event) for word in AWAY},
             "back": lambda: events.back(store.planned(), event),
             "swap": lambda: _judged_swap(store, event),
@@ -82,7 +81,7 @@ def _check(store: PlanStore, event: Event) -> Checked:
     """Reads the spreadsheet. The status is that which a plan would have, as far as the warnings show it."""
     plan = store.current()
     status = {Reach.NONE: Status.NO_PLAN, Reach.NOT_ALL: Status.NOT_KEPT, Reach.ALL: Status.DONE}[reach_of(plan.ward.warnings)]
-    return Checked(plan, status, store.other_pages(), store.anew(plan))
+    return Checked(plan, store.other_pages(), store.anew(plan), status=status)
 
 
 # ---- verbs that search
@@ -158,12 +157,13 @@ def _searched(store: PlanStore, verb: str, old: WardPlan, asked: Asked, absence:
         return _saved(planned, store.save(verb, new, seen))
 
 
-_WithPages = TypeVar("_WithPages", Planned, Swapped, WeekOver, Published, Undone)
+_AnOutcome = TypeVar("_AnOutcome", bound=Outcome)
 
 
-def _saved(outcome: _WithPages, pages: Pages) -> _WithPages:
-    """The outcome with the pages that were written; that they could not be is its status."""
-    return replace(outcome, pages=pages, status=Status.PAGES_NOT_WRITTEN if pages.fault else outcome.status)
+def _saved(outcome: _AnOutcome, pages: Pages) -> _AnOutcome:
+    """The outcome that was written, with its pages; that they could not be is its status."""
+    status = Status.PAGES_NOT_WRITTEN if pages.fault else outcome.status
+    return replace(outcome, is_written=True, pages=pages, status=status)
 
 
 def _found(store: PlanStore, old: WardPlan, asked: Asked) -> Found:
@@ -193,7 +193,7 @@ def _no_plan(store: PlanStore, old: WardPlan, fault: ProgramFault, absence: Opti
     why = why_no_plan(old)
     if why is None:
         raise fault
-    return NoPlan(old, *why, absence)
+    return NoPlan(old, *why, absence, status=Status.NO_PLAN)
 
 
 # ---- verbs that do not search
@@ -255,17 +255,20 @@ def _page(store: PlanStore, event: Event) -> Published:
     return _saved(found, store.save("page", found.plan))
 
 
-def _undoing(store: PlanStore) -> Undoing:
-    """The plan that undo takes back. Raises Misuse if there is none."""
-    folder = store.folder.check_undo()
-    return Undoing(folder, known_record(folder))
+def _undoing(store: PlanStore) -> Undone:
+    """What undo takes back. Raises Misuse if there is nothing."""
+    return Undone(_made(store.folder.check_undo()))
+
+
+def _made(folder: Path) -> Made:
+    return Made(folder, known_record(folder))
 
 
 def _undo(store: PlanStore, event: Event) -> Undone:
     """The plan before the last verb holds again."""
     path = store.folder.undo()
-    undone, last = Undoing(path, known_record(path)), store.folder.last()
-    holds = Undoing(last, known_record(last)) if last else None
+    undone, last = _made(path), store.folder.last()
+    holds = _made(last) if last else None
     try:
         plan = fitted(store.current())
         return _saved(Undone(undone, holds, plan), store.pages(plan))

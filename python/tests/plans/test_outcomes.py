@@ -8,7 +8,7 @@ from test_plans import DATES
 
 from inrc2pb.commands.plan import read_sheet
 from inrc2pb.plans import render, sentences
-from inrc2pb.plans.outcome import Away, Checked, Event, Offers, Published, Status, Swapped, Undoing, WeekOver
+from inrc2pb.plans.outcome import Away, Checked, Event, Offers, Published, Status, Swapped, Undone, WeekOver
 from inrc2pb.plans.state import BACK, NurseDay
 from inrc2pb.plans.store import Means, WardFolder
 from inrc2pb.plans.swaps import Kind, Swap
@@ -38,7 +38,7 @@ class Outcomes(KeptTest):
             (Swapped, Event("swap", ("Grace", "Tue", "Dilek"), do=True)),
             (WeekOver, Event("over", ("Grace", "Fri", "ill"))),
             (Published, Event("page")),
-            (Undoing, Event("undo")),
+            (Undone, Event("undo")),
         ):
             with self.subTest(event):
                 self.assertIs(type(self.verbs.asked(event)), kind)
