@@ -45,13 +45,6 @@ td a { display: block; color: inherit; text-decoration: none; min-height: 1.4em 
 """
 
 
-class Place(NamedTuple):
-    """A nurse and a day of the plan, whose cell was clicked."""
-
-    nurse: str
-    day: int
-
-
 class Shown(NamedTuple):
     """What a page shows beside the plan: what was said, the cell that was clicked, the form that asks whether to write, the fields of the
     last form, the path of the spreadsheet, the pages of weeks that are over with their texts, the name of the ward, the seconds of a
@@ -59,7 +52,7 @@ class Shown(NamedTuple):
     of this page was refused."""
 
     said: Said
-    place: Optional[Place] = None
+    place: Optional[NurseDay] = None
     asks: Fields = {}
     kept: Fields = {}
     spreadsheet: str = ""
@@ -182,7 +175,7 @@ def calendars_markup(plan: WardPlan, address: str, there: Collection[str]) -> st
     return page_of("Calendars", [style], [element("h1", "Calendars"), element("p", text), element("ul", *items), back])
 
 
-def _cell(plan: WardPlan, place: Place, address: str, stamp: str) -> Markup:
+def _cell(plan: WardPlan, place: NurseDay, address: str, stamp: str) -> Markup:
     """What a nurse is charged in the week of a day, and who could take her shift on it."""
     nurse, day = place
     week = plan.view().weeks[day // WEEK_DAYS - plan.state.open_week]

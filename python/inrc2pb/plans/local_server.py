@@ -16,9 +16,10 @@ from ..shown.page import page_text
 from ..week.faults import Misuse
 from .local_forms import STAMP, SURE, event_of, not_written, writes
 from .local_jobs import Busy, Changed, Fields, Jobs, Said, fault_lines
-from .local_page import Place, Shown, calendars_markup, page_markup
+from .local_page import Shown, calendars_markup, page_markup
 from .outcome import Swapped
 from .pages import CALENDARS, own_calendars, roster_content
+from .state import NurseDay
 from .ward import WardPlan
 from .words import PeriodOver
 
@@ -244,20 +245,20 @@ def _kept(said: Said, sent: Optional[Sent]) -> Fields:
     return said.fields if said.fault or said.fields.get("verb") == "swap" else {}
 
 
-def _place(plan: Optional[WardPlan], query: Dict[str, str]) -> Optional[Place]:
+def _place(plan: Optional[WardPlan], query: Dict[str, str]) -> Optional[NurseDay]:
     """The cell that an address names, if the plan has it."""
     nurse, day = query.get("nurse", ""), query.get("day", "")
     known = plan and nurse in plan.scenario.nurses and day.isdecimal() and len(day) < 4 and plan.first <= int(day) < plan.days.total
-    return Place(nurse, int(day)) if known else None
+    return NurseDay(nurse, int(day)) if known else None
 
 
-def _looked(plan: Optional[WardPlan], kept: Fields, said: Said) -> Optional[Place]:
+def _looked(plan: Optional[WardPlan], kept: Fields, said: Said) -> Optional[NurseDay]:
     """The nurse and the day of a look for all swaps, whose offers the page shows as buttons."""
     if plan is None or kept.get("verb") != "swap" or kept.get("other") or said.fault or said.runs:
         return None
     days = {plan.days.head(day): day for day in range(plan.first, plan.days.total)}
     nurse, day = kept.get("nurse", ""), days.get(kept.get("first", ""))
-    return Place(nurse, day) if day is not None and nurse in plan.scenario.nurses else None
+    return NurseDay(nurse, day) if day is not None and nurse in plan.scenario.nurses else None
 
 
 def _length(text: str) -> Optional[int]:

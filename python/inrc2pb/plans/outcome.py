@@ -48,12 +48,22 @@ class Pages(NamedTuple):
     fault: Optional[OSError] = None
 
 
-class Searched(NamedTuple):
-    """What a search was asked for: its first day, whether few shifts may change, and its seconds."""
+class Keep(enum.Enum):
+    """How a search keeps agreed days: not at all, as far as that costs little, or all of them."""
+
+    NONE = enum.auto()
+    MOST = enum.auto()
+    ALL = enum.auto()
+
+
+class Asked(NamedTuple):
+    """What a search is asked for: the first day that may change, whether few shifts may change, how many seconds it has, and how it keeps
+    agreed days."""
 
     first: int
     few_changes: bool
     seconds: float
+    agreed: Keep = Keep.ALL
 
 
 class KnownBound(NamedTuple):
@@ -108,7 +118,7 @@ class Planned(Outcome):
 
     before: Optional[WardPlan]
     old: WardPlan
-    asked: Searched
+    asked: Asked
     plan: WardPlan
     penalties: Mapping[int, int]
     bound: Optional[KnownBound]

@@ -16,7 +16,7 @@ from ..week.faults import fault_line
 from ..week.hints import plural
 from .changes import BESIDE_POINTS, CALL_POINTS, POINTS, shift_changes
 from .facts import beside_days_away, broken, broken_agreements, unkept
-from .outcome import Away, Checked, KnownBound, Made, NoPlan, Offers, Outcome, Planned, Published, Searched, Status, Swapped, Undone
+from .outcome import Asked, Away, Checked, KnownBound, Made, NoPlan, Offers, Outcome, Planned, Published, Status, Swapped, Undone
 from .outcome import WeekOver
 from .sentences import anew_lines, beside_lines, beside_text, broken_text, call_lines, cell_text, change_lines, days_away_lines
 from .sentences import days_off_lines, exceeded_lines, fault_text, offer_text, pages_lines, unkept_lines, wish_lines
@@ -80,7 +80,7 @@ def _supplies(plan: WardPlan) -> Iterator[str]:
 # ---- a search
 
 
-def search_lines(plan: WardPlan, asked: Searched, end: str) -> List[str]:
+def search_lines(plan: WardPlan, asked: Asked, end: str) -> List[str]:
     """What a search begins with; `end` says how a user ends it."""
     days = plan.days.span([asked.first, plan.days.total - 1])
     said = [f"{days}, at most {asked.seconds:g} s{f'; {end}' if end else ''}"]

@@ -22,23 +22,10 @@ from ..week.files import history_text, solution_text, week_text
 from ..week.records import Cell, Solution, Week, WeekData
 from ..week.writing import write_text
 from .changes import CALL_POINTS, days_off_beside_absences, with_few_changes, with_old_skills
-from .outcome import KnownBound
+from .outcome import Asked, Keep, KnownBound
 from .state import NurseDay, in_week
 from .ward import FACTS, WardPlan, limits_for_leavers
 from .words import WEEK_DAYS
-
-# How a search keeps agreed days.
-NONE, MOST, ALL = "none", "most", "all"
-
-
-class Asked(NamedTuple):
-    """What a search is asked for: the first day that may change, whether few shifts may change, how many seconds it has, and how it keeps
-    agreed days: not at all, as far as that costs little, or all of them."""
-
-    first: int
-    few_changes: bool
-    seconds: float
-    agreed: str = ALL
 
 
 class Found(NamedTuple):
@@ -68,7 +55,7 @@ def search_plan(old: WardPlan, asked: Asked, progress: Progress) -> Found:
     cells = [cell._replace(day=cell.day + old.first) for cell in kept[-1]]
     labelled = with_old_skills(old.scenario, cells, [*old.cells, *old.held.values()])
     # The search may have counted points that a plan has not.
-    bound = None if asked.few_changes or asked.agreed == MOST else known_bound(search)
+    bound = None if asked.few_changes or asked.agreed is Keep.MOST else known_bound(search)
     return Found(old.with_cells(labelled), bound, clock.stopped)
 
 
@@ -103,17 +90,17 @@ def _files(old: WardPlan, asked: Asked, folder: Path) -> PeriodFiles:
     history, given = folder / history_name(old.state.open_week), folder / FACTS
     agreed = _kept_agreed(old, asked)
     claims = [*_later_claims(old, asked.first), *_past_claims(old, asked.first)]
-    claims += _agreed_off(old, agreed) if asked.agreed == ALL else []
+    claims += _agreed_off(old, agreed) if asked.agreed is Keep.ALL else []
     write_text(folder / "ward.txt", old.ward.texts["ward.txt"])
     write_text(history, history_text(old.past))
     write_text(given, facts_text(old.scenario.name, claims))
     held = [cell for cell in old.held.values() if cell.day >= asked.first] + [cell for cell in old.cells if cell.day < asked.first]
-    if asked.agreed == ALL:
+    if asked.agreed is Keep.ALL:
         held += [old.works[one] for one in agreed if one in old.works]
     weeks, fixes = [], {}
     for number in old.weeks:
         path, fixes[number] = folder / f"week-{number}.txt", folder / f"fix-{number}.txt"
-        write_text(path, week_text(_week(old, number, asked, agreed if asked.agreed == MOST else ())))
+        write_text(path, week_text(_week(old, number, asked, agreed if asked.agreed is Keep.MOST else ())))
         write_text(fixes[number], solution_text(Solution(number, old.scenario.name, in_week(held, number))))
         weeks.append(path)
     return PeriodFiles(folder / "ward.txt", history, weeks, fixes, given=given)
@@ -140,7 +127,7 @@ def _kept_agreed(old: WardPlan, asked: Asked) -> List[NurseDay]:
         is_away = cell is not None and is_broken_by(old.absences, cell)
         return one.day >= asked.first and one not in old.held and not is_away
 
-    return [one for one in old.state.agreed if asked.agreed != NONE and old.is_planned and can_be_kept(one)]
+    return [one for one in old.state.agreed if asked.agreed is not Keep.NONE and old.is_planned and can_be_kept(one)]
 
 
 def _agreed_off(old: WardPlan, agreed: Sequence[NurseDay]) -> List[Claim]:

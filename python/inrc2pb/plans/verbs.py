@@ -18,9 +18,9 @@ from ..week.faults import FileFault, Misuse, ProgramFault, Stopped
 from . import events, render
 from .changes import without_needless_changes
 from .facts import unkept
-from .outcome import Away, Checked, Event, Made, NoPlan, Offers, Outcome, Pages, Planned, Published, Searched, Status, Swapped, Undone
-from .outcome import WeekOver
-from .searching import MOST, NONE, Asked, Found, search_plan, why_no_plan
+from .outcome import Asked, Away, Checked, Event, Keep, Made, NoPlan, Offers, Outcome, Pages, Planned, Published, Status, Swapped
+from .outcome import Undone, WeekOver
+from .searching import Found, search_plan, why_no_plan
 from .state import State, read_state
 from .store import Means, PlanStore, WardFolder, fitted, known_record, penalties
 from .swaps import Swap, Swaps
@@ -96,7 +96,7 @@ def _plan(store: PlanStore, event: Event) -> Outcome:
     few = old.state.published and old.is_planned and not event.free
     asked = Asked(first, few, event.seconds or WEEK_SECONDS * len(old.weeks))
     keeping = replace(old, limits=limits_of(old.ward, old.state, first))
-    return _searched(store, "plan", keeping, asked._replace(agreed=NONE) if event.free else asked)
+    return _searched(store, "plan", keeping, asked._replace(agreed=Keep.NONE) if event.free else asked)
 
 
 def _away(store: PlanStore, event: Event) -> Outcome:
@@ -125,8 +125,7 @@ def _say(store: PlanStore, said: Sequence[str]) -> None:
 
 def _searched(store: PlanStore, verb: str, old: WardPlan, asked: Asked, absence: Optional[Away] = None) -> Outcome:
     """Searches, and writes the plan. `absence` has the older plan with the absences that it had, if these are other ones now."""
-    searched = Searched(asked.first, asked.few_changes, asked.seconds)
-    _say(store, render.search_lines(old, searched, store.means.end))
+    _say(store, render.search_lines(old, asked, store.means.end))
     # A second Ctrl-C does not end it before the plan is written.
     with interrupts():
         try:
@@ -146,7 +145,7 @@ def _searched(store: PlanStore, verb: str, old: WardPlan, asked: Asked, absence:
         planned = Planned(
             before=seen,
             old=old,
-            asked=searched,
+            asked=asked,
             plan=new,
             penalties=penalties(new),
             bound=found.bound,
@@ -168,7 +167,7 @@ def _saved(outcome: _AnOutcome, pages: Pages) -> _AnOutcome:
 
 def _found(store: PlanStore, old: WardPlan, asked: Asked) -> Found:
     """The best plan that keeps the agreed days, or, if it would keep less of the absences and limits, one that keeps most of them."""
-    if not old.state.agreed or asked.agreed == NONE:
+    if not old.state.agreed or asked.agreed is Keep.NONE:
         return search_plan(old, asked, store.means.progress)
     firm: Optional[Found] = None
     try:
@@ -181,7 +180,7 @@ def _found(store: PlanStore, old: WardPlan, asked: Asked) -> Found:
         if fault.status != NO_ROSTER:
             raise
     store.means.say("no plan was found that keeps all agreed swaps: a search for one that may break them")
-    free = search_plan(old, asked._replace(agreed=MOST), store.means.progress)
+    free = search_plan(old, asked._replace(agreed=Keep.MOST), store.means.progress)
     return firm if firm and len(unkept(firm.plan)) <= len(unkept(free.plan)) else free
 
 

@@ -11,8 +11,8 @@ from ward import run
 
 from inrc2pb.commands.plan import read_sheet
 from inrc2pb.plans import verbs
-from inrc2pb.plans.outcome import Event
-from inrc2pb.plans.searching import ALL, MOST, Found
+from inrc2pb.plans.outcome import Event, Keep
+from inrc2pb.plans.searching import Found
 from inrc2pb.plans.state import NurseDay
 from inrc2pb.plans.store import Means, WardFolder, plan_texts
 from inrc2pb.programs.program import BROKEN_RULE, NO_ROSTER
@@ -71,14 +71,14 @@ class WithoutPlan(KeptTest):
 
         def search(old, wanted, _):
             asked.append(wanted.agreed)
-            if wanted.agreed == ALL:
+            if wanted.agreed is Keep.ALL:
                 raise ProgramFault(NO_ROSTER, LATE)
             return Found(old)
 
         with mock.patch.object(verbs, "search_plan", search):
             means = Means(read_sheet, Progress(None), lambda line: None)
             verbs.Verbs(WardFolder(self.ward), means).done(Event("plan"))
-        self.assertEqual(asked, [ALL, MOST])
+        self.assertEqual(asked, [Keep.ALL, Keep.MOST])
 
     def test_why_there_is_no_plan_in_dates(self):
         owners = (Owner("Amara", True, "is away"), Owner("Bruno", False, "works Late on this day"), Owner("Ewa", True, "is away"),
