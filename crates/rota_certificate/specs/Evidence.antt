@@ -5,6 +5,7 @@ use Rattle.rota_core.specs.InstanceTables.{InstanceTables, problem_of}
 use Rattle.rota_core.specs.PriceTables.{PriceTables}
 use Rattle.rota_core.specs.Prices.{Prices}
 use Rattle.rota_core.specs.Problem.{Problem}
+use Rattle.rota_core.specs.declared.certificate.Certificate.{Certificate}
 use Rattle.rota_core.specs.declared.certificate.Condition.{Condition}
 use Rattle.rota_core.specs.declared.certificate.Leaf.{Leaf}
 use Rattle.rota_certificate.specs.CaseLimits.{IsLimited}
@@ -14,13 +15,19 @@ use Rattle.rota_certificate.specs.Facts.{Case}
 use Rattle.rota_certificate.specs.LeafBounds.{leaf_bound}
 use Rattle.rota_certificate.specs.PeriodBounds.{AreEvidence}
 use Rattle.rota_certificate.specs.declared.stages.LentWeek.{LentWeek}
-use Rattle.rota_certificate.specs.declared.tree.Evidence.{Evidence}
 use Rattle.rota_certificate.specs.declared.tree.Rules.{Rules}
 use Rattle.rota_certificate.specs.declared.tree.Rules.TheVariants as rules
 
+-- the weeks, the conditions that their plans are asked to meet, the certificate for them, and the rules
+pub record EvidenceTables : Type 0 where
+  pub weeks : List InstanceTables
+  pub given : Case
+  pub certificate : Certificate
+  pub rules : Rules
+
 -- the weeks make a period, and the given conditions and the certificate are for them
-abbrev pub IsEvidence : Evidence → Type 0
-IsEvidence evidence = AreEvidence evidence.weeks.now evidence.given.now evidence.certificate.now
+abbrev pub IsEvidence : EvidenceTables → Type 0
+IsEvidence evidence = AreEvidence evidence.weeks evidence.given evidence.certificate
 
 -- the path has at most this number of conditions, and their numbers are within the limits of files
 pub record IsShortPath (most : ℕ) (path : List Condition) : Type 0 where
@@ -38,7 +45,7 @@ bound_by rules.All weeks case prices surcharges = rounded_up case (leaf_bound th
 bound_by rules.Hard weeks case prices surcharges = leaf_bound 0 weeks case prices []
 
 -- the bound of a leaf of the certificate
-abbrev pub bound_asked : Evidence → CasePath → Leaf → ℕ
+abbrev pub bound_asked : EvidenceTables → CasePath → Leaf → ℕ
 bound_asked evidence path leaf =
-    bound_by evidence.rules (map problem_of evidence.weeks.now) (case_of path evidence.given.now)
-    (prices_of_leaf evidence.certificate.now leaf) leaf.surcharges.items
+    bound_by evidence.rules (map problem_of evidence.weeks) (case_of path evidence.given)
+    (prices_of_leaf evidence.certificate leaf) leaf.surcharges.items

@@ -19,6 +19,7 @@ pub mod PlaceBounds
 pub mod PlaceCases
 pub mod Plans
 pub mod Evidence
+pub mod EvidenceFields
 pub mod ShiftCharges
 pub mod StageFields
 pub mod Stages

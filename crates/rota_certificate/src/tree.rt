@@ -11,7 +11,7 @@ ghost use Rattle.rota_certificate.specs.CertificateBounds.{HaveTables, least_bou
 ghost use Rattle.rota_certificate.specs.LeafBounds.{most_bound};
 ghost use Rattle.rota_certificate.specs.LentLeaves.{prices_lent, week_lent};
 ghost use Rattle.rota_certificate.specs.PeriodBounds.{AreEvidence, AreOptimalAt, HaveNoPlan, NoneCostLess};
-ghost use Rattle.rota_certificate.specs.Evidence.{AreLent, IsShortPath, IsEvidence, bound_asked, bound_by};
+ghost use Rattle.rota_certificate.specs.Evidence.{AreLent, IsShortPath, bound_asked, bound_by};
 
 use crate::known::Known;
 use crate::leaves::leaf_bound;
@@ -21,6 +21,7 @@ use crate::stages::{LentLeaf, LentWeek};
 use rota_core::{Certificate, Condition, Fact, Instance, Leaf, Node, POINT, Prices};
 use rota_rules::STEP;
 use std::alloc::{AllocError, Global};
+use std::marker::Model;
 
 // A step of the penalty, and two, in thousandths of a point.
 const ONE_STEP: u64 = STEP * POINT;
@@ -37,7 +38,7 @@ pub enum Rules {
 }
 
 /// The evidence for a bound of the plans of some weeks by some rules.
-#[derive(Clone, Copy)]
+#[derive(Drop)]
 pub struct Evidence<'a> {
     /// The weeks.
     pub weeks: &'a [Instance],
@@ -47,6 +48,18 @@ pub struct Evidence<'a> {
     pub certificate: &'a Certificate,
     /// The rules.
     pub rules: Rules,
+}
+
+impl<'a> Model for Evidence<'a> {
+    ghost use Rattle.rota_certificate.specs.Evidence.{EvidenceTables, IsEvidence};
+
+    ghost Value = { EvidenceTables };
+
+    ghost use Rattle.rota_certificate.specs.EvidenceFields.{evidence_of};
+
+    ghost view = { evidence_of };
+
+    ghost invariant = { λ e. IsEvidence (evidence_of e) };
 }
 
 // No price of these tables is above the maximum.
@@ -160,9 +173,8 @@ fn bound_at(
     leaf: &Leaf,
     known: &mut Known,
 ) -> Result<u64, AllocError>
-    requires evidence { IsEvidence evidence.now }
     requires path { IsShortPath (2 * max_number) path.now }
-    requires leaf { IsLeafFor (length evidence.now.certificate.now.prices.items) leaf.now }
+    requires leaf { IsLeafFor (length evidence.now.certificate.prices.items) leaf.now }
     ensures bound { IfOk result (λ bound. bound ≡ bound_asked evidence.now (reverse path.now) leaf.now) }
     ensures small { IfOk result (λ bound. bound ≤ most_bound) }
 {
@@ -178,8 +190,7 @@ fn bound_at(
 
 // The minimum of the bounds of all leaves.
 fn least_bound(alloc: Global, evidence: &Evidence<'_>) -> Result<u64, AllocError>
-    requires { IsEvidence evidence.now }
-    ensures { IfOk result (λ least. least ≡ least_bound (bound_asked evidence.now) [] evidence.now.certificate.now.nodes.items) }
+    ensures { IfOk result (λ least. least ≡ least_bound (bound_asked evidence.now) [] evidence.now.certificate.nodes.items) }
 {
     let mut known = Known::for_weeks(alloc, evidence.weeks.len())?;
     let mut path = Vec::new(alloc);

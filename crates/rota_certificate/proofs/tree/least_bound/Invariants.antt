@@ -3,4 +3,4 @@ use Rattle.rota_certificate.proofs.TreePaths.{IsSearched}
 use Rattle.rota_certificate.proofs.tree.least_bound.Given as goal
 
 abbrev pub invariant-loop-node : goal.invariant-loop-node
-invariant-loop-node l = IsSearched (bound_asked l.evidence) l.evidence.certificate.now.nodes.items l.node-index l.least l.path.items
+invariant-loop-node l = IsSearched (bound_asked l.evidence) l.evidence.certificate.nodes.items l.node-index l.least l.path.items
