@@ -9,7 +9,7 @@ SHARE = $(DESTDIR)$(PREFIX)/share
 # build.py uses all processors, and rt lets one command at a time into a crate.
 .NOTPARALLEL:
 
-.PHONY: all build try example tour solvers test programs bench fuzz dist deb install uninstall clean
+.PHONY: all build try example tour solvers test edits programs bench fuzz dist deb install uninstall clean
 
 # The programs that `make` builds, each with its crate.
 CRATES = inrc2pb=inrc2pb inrc2pb-bound=inrc2pb_bound
@@ -39,6 +39,11 @@ solvers: build
 
 test:
 	.ci/run
+
+# Tries all edits of must-fail/, in rounds and one by one, and writes the record of what refused them: takes an hour or more.
+edits: build
+	tests/edits/main.py --both
+	tests/edits/main.py write
 
 # Builds the programs for the scripts of tests/, without the gate: the program by LLVM and by Rattle's own compiler, and the
 # programs that look into the libraries.

@@ -107,15 +107,20 @@ def chains(crates: Dict[str, Crate]) -> Dict[str, int]:
     return lengths
 
 
-def sums_of_sources(crates: Dict[str, Crate]) -> Dict[str, str]:
-    """For each crate a checksum of all that its proofs depend on."""
+def kit() -> str:
+    """What `rt version` prints."""
     try:
-        kit = subprocess.run(["rt", "version"], stdout=subprocess.PIPE, check=True).stdout
+        return subprocess.run(["rt", "version"], stdout=subprocess.PIPE, text=True, check=True).stdout
     except FileNotFoundError:
         raise Failed(NO_KIT) from None
+
+
+def sums_of_sources(crates: Dict[str, Crate]) -> Dict[str, str]:
+    """For each crate a checksum of all that its proofs depend on."""
+    version = kit().encode()
     sums: Dict[str, str] = {}
     for name, crate in crates.items():
-        whole = hashlib.sha256(kit + (ROOT / "HANDLES").read_bytes() + crate.line.encode())
+        whole = hashlib.sha256(version + (ROOT / "HANDLES").read_bytes() + crate.line.encode())
         for path in crate.sources():
             whole.update(repr((str(path.relative_to(crate.home)), path.read_bytes())).encode())
         for other in sorted(crate.below):

@@ -1,11 +1,12 @@
 #!/usr/bin/env bash
-# Prints the commit, the kit, and whether the gate passed on that commit with that kit and these programs: the file PROVED of an
-# archive or a package.
+# Prints the commit, the kit, whether the gate passed on that commit with that kit and these programs, and whether each edit of must-fail/ was
+# refused there when it was tried alone: the file PROVED of an archive or a package.
 #
 #   package/proved.sh
 #
 # The gate leaves in out/gate its commit, its last line, its kit and the checksum of the programs that it tested; GATE names another
 # file. PROGRAM, BOUND and FITS name other programs than inrc2pb, inrc2pb-bound and inrc2pb-fits of out.
+# `make edits` leaves in out/edits/alone its commit, its last line and its kit; EDITS names another file.
 set -u
 cd "$(dirname "$0")/.." || exit 2
 . package/commit.sh
@@ -21,6 +22,14 @@ if [ -r "${GATE:-out/gate}" ]; then
             gate='passed on this commit, but with another build of the programs'
     fi
 fi
+edits='have not been tried one by one on this commit on the machine that built this'
+if [ -r "${EDITS:-out/edits/alone}" ]; then
+    { read -r edits_commit; read -r edits_line; read -r edits_kit; } < "${EDITS:-out/edits/alone}"
+    if [ "$edits_commit" = "$commit" ] && [ "$edits_kit" = "$kit" ] && is_committed && [[ $edits_line == *' passed, 0 failed' ]]; then
+        edits="refused one by one on this commit: $edits_line"
+    fi
+fi
 echo "commit: $commit"
 echo "kit: $kit"
 echo "proofs and tests: $gate"
+echo "edits: $edits"

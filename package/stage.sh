@@ -31,7 +31,7 @@ install_to() {
         DESTDIR="$1" PREFIX="$2" "${@:3}" || exit
     package/proved.sh > "$1$2/share/doc/inrc2pb/PROVED"
     printf 'libc: %s or later\n' "$libc" >> "$1$2/share/doc/inrc2pb/PROVED"
-    grep '^proofs and tests' "$1$2/share/doc/inrc2pb/PROVED" >&2
+    grep -E '^(proofs and tests|edits):' "$1$2/share/doc/inrc2pb/PROVED" >&2
 }
 
 # set_times FOLDER: every file has the time of the commit.

@@ -41,7 +41,7 @@ checks_types() {
     has mypy || return
     begins_case 'the types of the Python programs'
     {
-        types_hold python/inrc2pb && types_hold bench/*.py build.py
+        types_hold python/inrc2pb && types_hold bench/*.py build.py tests/edits/*.py
     } || complain "$(head -n 20 "$out")"
 }
 

@@ -1,11 +1,12 @@
 #!/usr/bin/env python3
-"""Runs the gate and prints the time of its parts: proofs, tests and edits of each crate, and the scripts.
+"""Runs the gate and prints the time of its parts: proofs, tests and edits of each crate, and the scripts. The proofs with which the
+edits of a crate begin are counted with these.
 
 usage: gate.py [--anew] [--processors LIST] [COMMAND..]
 
   --anew             prove everything from nothing: take no result of an earlier run on this machine (some kits keep none)
   --processors LIST  run on these processors only, for example 0,1
-  COMMAND            measure this command in place of .ci/run, for example `rt must-fail opb_text`
+  COMMAND            measure this command in place of .ci/run, for example `tests/edits/main.py --anew opb_text`
 
 The processor time is sampled: twice a second, each process that the gate started is assigned to the part that its command
 line names. Processes that ended between two samples are in the row `short processes`. The wall time of a part is the time from its
@@ -80,7 +81,7 @@ def own_part(pid: int) -> str:
     if "--crate-name" not in words:
         return ""
     crate = words[words.index("--crate-name") + 1]
-    if "/rt-edit-" in folder:
+    if re.search(r"/rt-edit-|/out/(edits/)?rooms/", folder):
         return f"edits {crate}"
     return f"tests {crate}" if "--test" in words else f"proof {crate}"
 
@@ -135,24 +136,21 @@ def from_nothing() -> List[str]:
     return ["--anew"] if "--anew" in guide.stdout else []
 
 
-def row(name: str, wall: float, seconds: float, edits: int = 0) -> None:
+def row(name: str, wall: float, seconds: float) -> None:
     """Prints one row of the table."""
-    each = f"{seconds / edits:8.1f}" if edits else ""
-    print(f"{name:32} {wall:8.0f} {seconds:12.0f} {each:>9}")
+    print(f"{name:32} {wall:8.0f} {seconds:12.0f}")
 
 
 def report(wall: float, parts: Dict[str, Part], loops: List[float]) -> None:
     """Prints the parts, the sums of each kind, the whole, and the speed of the machine."""
     used = resource.getrusage(resource.RUSAGE_CHILDREN)
     whole = used.ru_utime + used.ru_stime
-    print(f"\n{'part':32} {'wall s':>8} {'processor s':>12} {'each':>9}")
+    print(f"\n{'part':32} {'wall s':>8} {'processor s':>12}")
     kinds: Dict[str, float] = defaultdict(float)
     for name in sorted(parts):
-        kind, _, crate = name.partition(" ")
-        part = parts[name]
-        edits = len(list(Path("crates", crate, "must-fail").glob("*.edit"))) if kind == "edits" else 0
+        kind, part = name.partition(" ")[0], parts[name]
         kinds[kind] += part.total()
-        row(name, part.last - part.first, part.total(), edits)
+        row(name, part.last - part.first, part.total())
     row("short processes", wall, max(0.0, whole - sum(kinds.values())))
     for kind in sorted(kinds):
         row(f"all: {kind}", wall, kinds[kind])

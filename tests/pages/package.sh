@@ -87,6 +87,25 @@ gates_are_told_apart() {
     says_of_gate 'a gate of another kit' "$commit" '9 passed, 0 failed, 2 skipped' "$kit, changed" "$sum" "$not"
 }
 
+# says_of_edits WHAT COMMIT LINE KIT WANTED: the line of PROVED for the edits that were tried one by one with this commit, last line and kit.
+says_of_edits() {
+    begins_case "PROVED after $1"
+    printf '%s\n' "$2" "$3" "$4" > "$room/alone"
+    EDITS=$room/alone package/proved.sh | grep -qxF "edits: $5" || complain "not '$5'"
+}
+
+edits_are_told_apart() {
+    local commit kit not='have not been tried one by one on this commit on the machine that built this'
+    commit=$(package/proved.sh | sed -n 's/^commit: //p')
+    kit=$(package/proved.sh | sed -n 's/^kit: //p')
+    case $commit in
+        unknown | *-dirty) says_of_edits 'edits of other files' "$commit" '9 passed, 0 failed' "$kit" "$not" ;;
+        *) says_of_edits 'edits of this commit' "$commit" '9 passed, 0 failed' "$kit" 'refused one by one on this commit: 9 passed, 0 failed' ;;
+    esac
+    says_of_edits 'an edit that is not refused' "$commit" '8 passed, 1 failed' "$kit" "$not"
+    says_of_edits 'edits of another commit' "0$commit" '9 passed, 0 failed' "$kit" "$not"
+}
+
 # Every command that is installed runs.
 starts() {
     local command
@@ -151,6 +170,7 @@ installs_package() {
 }
 
 gates_are_told_apart
+edits_are_told_apart
 built_twice 'the archive' archive.sh "$archive.tar.gz"
 begins_case 'the checksums'
 mkdir "$room/unpacked"

@@ -1,0 +1,185 @@
+#!/usr/bin/env python3
+"""Tries the edits of crates/*/must-fail, each of which the prover has to refuse, and keeps what refused them.
+
+usage: main.py [--anew] [--alone] [--both] [CRATE..]
+       main.py write
+
+  --anew   try all edits, and take nothing from the record
+  --alone  try each edit in a check of its own
+  --both   try all edits, and then each by `rt must-fail` too, which has to say the same; leave that result in out/edits/alone
+  CRATE    only the edits of these crates
+  write    write the record of the last run into crates/*/edits.txt
+
+An edit is tried unless the record, crates/*/edits.txt, has it with its present checksum. First the crates with edits to try are proved as
+they are, by build.py; what is proved already is not proved again. Edits of different functions are tried in one check (rounds.py), several
+checks side by side. The run leaves the new record in out/edits, and prints an edit that is not refused. The last line is
+`N passed, M failed`, with one for each edit.
+"""
+
+import shutil
+import subprocess
+import sys
+from pathlib import Path
+from typing import Dict, List, NamedTuple, Tuple
+
+sys.path.insert(0, str(Path(__file__).resolve().parents[2]))
+
+import build
+import one_by_one
+import record
+from edit import Edit, edits_of
+from record import Entry
+from trial import ROOMS, Outcome, Trials
+
+NEW = build.OUT / "edits"
+
+
+class Plan(NamedTuple):
+    """The edits of some crates: those whose refusal is in the record, and those to try; and the checksum of each."""
+
+    recorded: Dict[Edit, Entry]
+    untried: List[Edit]
+    checksums: Dict[Edit, str]
+
+
+def crates_with_edits(names: List[str]) -> Tuple[Dict[str, build.Crate], List[str]]:
+    """These crates, or all if none is named, with those below them; and the names of those that have edits."""
+    listed = [line.partition("#")[0].partition(":")[0].split() for line in (build.ROOT / "crates.txt").read_text().splitlines()]
+    crates = build.crates_below(names or [words[0] for words in listed if words])
+    return crates, [name for name in crates if (not names or name in names) and (crates[name].home / "must-fail").exists()]
+
+
+def plan(crates: Dict[str, build.Crate], names: List[str], anew: bool) -> Plan:
+    """Which edits of the crates of these names are to be tried."""
+    sums = build.sums_of_sources(crates)
+    made = Plan({}, [], {})
+    for name in names:
+        known = {} if anew else record.read(crates[name].home / "edits.txt")
+        for edit in edits_of(name, crates[name].home):
+            checksum = made.checksums[edit] = record.checksum(edit, sums[name])
+            entry = known.get(edit.name)
+            if entry is not None and entry.checksum == checksum:
+                made.recorded[edit] = entry
+            else:
+                made.untried.append(edit)
+    return made
+
+
+def stale_of(crates: Dict[str, build.Crate], names: List[str]) -> List[str]:
+    """The edits that a record has, and that are not there any more."""
+    return [
+        f"{name}/{edit}"
+        for name in names
+        for edit in record.read(crates[name].home / "edits.txt")
+        if not (crates[name].home / "must-fail" / f"{edit}.edit").exists()
+    ]
+
+
+def prove(names: List[str]) -> bool:
+    """Proves these crates as they are, and says whether that succeeded."""
+    return not names or subprocess.run([build.ROOT / "build.py", *names]).returncode == 0
+
+
+def tried(crates: Dict[str, build.Crate], untried: List[Edit], each_alone: bool) -> Dict[Edit, Outcome]:
+    """Tries these edits."""
+    by_crate: Dict[str, List[Edit]] = {}
+    for edit in untried:
+        by_crate.setdefault(edit.crate, []).append(edit)
+    trials = Trials(crates, by_crate, each_alone)
+    try:
+        outcomes = trials.run()
+    finally:
+        shutil.rmtree(ROOMS, ignore_errors=True)
+    if untried:
+        print(f"edits: {len(untried)} edits in {trials.checks} checks, {trials.processor:.0f} s of processor time")
+    return outcomes
+
+
+def leave(names: List[str], entries: Dict[Edit, Entry]) -> None:
+    """Leaves the new record of these crates in `out/edits`."""
+    NEW.mkdir(parents=True, exist_ok=True)
+    for name in names:
+        own = {edit.name: one for edit, one in entries.items() if edit.crate == name}
+        (NEW / f"{name}.txt").write_text(record.text_of(own), encoding="utf-8")
+
+
+def write() -> None:
+    """Writes the record of the last run into the tree."""
+    for file in sorted(NEW.glob("*.txt")):
+        home = build.ROOT / "crates" / file.stem / "edits.txt"
+        if home.parent.exists() and (not home.exists() or home.read_bytes() != file.read_bytes()):
+            shutil.copy(file, home)
+            print(f"written: {home.relative_to(build.ROOT)}")
+
+
+def tell(made: Plan, outcomes: Dict[Edit, Outcome], entries: Dict[Edit, Entry], names: List[str]) -> int:
+    """Prints what is wrong, and the counts; the number of edits that failed."""
+    failed = {edit: outcome for edit, outcome in outcomes.items() if not outcome.goals}
+    for edit, outcome in failed.items():
+        print(f"edits: {edit.crate}/{edit.name}: {outcome.fault}")
+    for edit, entry in entries.items():
+        if record.rests_on_answers(entry):
+            print(f"edits: note: {edit.crate}/{edit.name} is refused only by answers that no longer fit: it shows nothing of a contract")
+    print(f"edits: {len(outcomes)} tried, {len(made.recorded)} taken from the record")
+    if names:
+        print(f"edits: the record differs from that of the tree for {', '.join(names)}: 'tests/edits/main.py write' writes it there")
+    return len(failed)
+
+
+def differing(names: List[str]) -> List[str]:
+    """The crates whose new record is not that of the tree."""
+    return [name for name in names if record.read(NEW / f"{name}.txt") != record.read(build.ROOT / "crates" / name / "edits.txt")]
+
+
+def commit() -> str:
+    """The commit of the tree, as package/commit.sh has it."""
+    words = ["bash", "-c", ". package/commit.sh && echo $commit"]
+    return subprocess.run(words, cwd=build.ROOT, stdout=subprocess.PIPE, text=True, check=True).stdout.strip()
+
+
+def run(words: List[str]) -> int:
+    """Tries the edits; the exit status."""
+    crates, names = crates_with_edits([word for word in words if not word.startswith("--")])
+    stale = stale_of(crates, names)
+    for one in stale:
+        print(f"edits: STALE: the record has {one}, and there is no such edit any more")
+    both = "--both" in words
+    made = plan(crates, names, both or "--anew" in words)
+    if made.untried and not prove(sorted({edit.crate for edit in made.untried})):
+        print("edits: a crate is not proved as it is, so its edits were not tried\n0 passed, 1 failed")
+        return 1
+    outcomes = tried(crates, made.untried, "--alone" in words)
+    if made.checksums != plan(crates, names, True).checksums:
+        print("edits: files changed while the edits were tried: try them again\n0 passed, 1 failed")
+        return 1
+    entries = {**made.recorded, **{edit: Entry(made.checksums[edit], one.goals) for edit, one in outcomes.items() if one.goals}}
+    leave(names, entries)
+    differ = one_by_one.differences(entries, one_by_one.must_fail(names)) if both else {}
+    for edit, why in differ.items():
+        print(f"edits: {edit.crate}/{edit.name}: {why}")
+        del entries[edit]
+    failed = len(differ) + tell(made, outcomes, entries, differing(names))
+    count = f"{len(entries)} passed, {failed + len(stale)} failed"
+    if both:
+        (NEW / "alone").write_text(f"{commit()}\n{count}\n{build.kit()}", encoding="utf-8")
+    print(count)
+    return int(failed + len(stale) > 0)
+
+
+def main(words: List[str]) -> int:
+    """Reads the command line; the exit status."""
+    if words == ["write"]:
+        write()
+        return 0
+    if any(word.startswith("--") and word not in ("--anew", "--alone", "--both") for word in words):
+        print(__doc__, file=sys.stderr)
+        return 2
+    try:
+        return run(words)
+    except build.Failed as fault:
+        print(f"edits: {fault}", file=sys.stderr)
+        return 1
+
+
+if __name__ == "__main__":
+    sys.exit(main(sys.argv[1:]))

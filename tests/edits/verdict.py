@@ -1,0 +1,146 @@
+"""What the output of `rt check` says of each function: which of its own goals are open.
+
+A function that only calls one without a proof has no open goal of its own. `rt check` prints, for each function in turn, a note for each
+goal that its search left open, with the place in the source, and then the function's line:
+
+    note: src/slots.rt:80:5: it is not proved that what the function ensures holds when it returns (`returns`)
+    fn rota_layout::cursor::Cursor::exactly: no proof: expected answers in ..; `search` did not prove `returns`; it calls `..`, which ..
+
+An answer that does not prove its goal has an error line of its own, which names the proof file; that names the function.
+"""
+
+import re
+from typing import Dict, FrozenSet, List, NamedTuple, Optional, Set, Tuple
+
+FUNCTION_LINE = re.compile(r"fn (\S+): (.*)")
+NOTE = re.compile(r"note: (src/\S+?):(\d+):\d+: .*?\(`([^`]+)`\)")
+ERROR = re.compile(r"(?:note: )?(?:\./)?(\S+?\.(?:rt|antt)):\d+:\d+: error: (.*)")
+GOAL = re.compile(r"`([^`]+)`: (.*)")
+UNPROVED = re.compile(r"did not prove ((?:`[^`]+`(?:, | and )?)+)")
+# The error names what the edit took away, or has its type no longer: the answer was not tried on the goal.
+NO_LONGER_FITS = re.compile(r"expected type|has no field|is not in scope|has no `|was not admitted|is no name")
+# Errors of reading, which say nothing of a goal.
+UNREADABLE = re.compile(r"is not in scope|has no field|is no name|operand is missing|expected the end|cannot continue")
+COMPILER_ERROR = re.compile(r"^error(\[|:)|\berror\[[\w-]+\]", re.M)
+
+
+class Goal(NamedTuple):
+    """A goal that refused an edit: the function's path, `crate::module::function`, the goal's name, and whether the only reason is an
+    answer that no longer fits."""
+
+    function: str
+    name: str
+    only_answer: bool
+
+
+class Function(NamedTuple):
+    """A function without a proof: its path, its own open goals, and where they stand in the source; both are empty if it only waits for
+    a function that it calls."""
+
+    path: str
+    goals: FrozenSet[Goal]
+    lines: FrozenSet[Tuple[str, int]]
+
+
+class Verdict(NamedTuple):
+    """What a check said: whether the crate is proved, None if it did not come to that; the functions with open goals of their own; and
+    the errors that belong to no function, or are no goal's."""
+
+    proved: Optional[bool]
+    functions: Tuple[Function, ...]
+    others: Tuple[str, ...]
+
+
+def function_of(path: str) -> str:
+    """The path of the function whose body has the closure of this path; of another function the path itself."""
+    head, closure, rest = path.partition("::fn::")
+    if not closure:
+        return path
+    # A method's type begins with a capital.
+    names = rest.split("::")
+    return "::".join([head, *names[:2 if names[0][:1].isupper() else 1]])
+
+
+def proof_folder(function: str) -> str:
+    """The folder of the function's proof files below the crate's folder."""
+    return "proofs/" + function.partition("::")[2].replace("::", "/") + "/"
+
+
+def goal_of(message: str) -> Tuple[str, bool]:
+    """The goal that an error of an answer names, and whether the answer no longer fits."""
+    found = GOAL.match(message)
+    name, told = (found[1], found[2]) if found else ("answer", message)
+    return name, bool(NO_LONGER_FITS.search(told.partition(". ")[0]))
+
+
+class Reader:
+    """Reads the output of a check, line by line."""
+
+    def __init__(self) -> None:
+        self.errors: List[Tuple[str, str]] = []
+        self.notes: List[Tuple[str, int, str]] = []
+        # For each function its goals, each with whether an answer alone refuses it.
+        self.goals: Dict[str, Dict[str, bool]] = {}
+        self.lines: Dict[str, Set[Tuple[str, int]]] = {}
+        self.unexplained: Set[str] = set()
+        self.proved: Optional[bool] = None
+
+    def read(self, line: str) -> None:
+        """Reads the next line."""
+        note, function, error = NOTE.match(line), FUNCTION_LINE.match(line), ERROR.match(line)
+        if note:
+            self.notes.append((note[1], int(note[2]), note[3]))
+        elif function:
+            self.read_function(function[1], function[2])
+        elif error:
+            self.errors.append((error[1], error[2]))
+        elif line.startswith("logic="):
+            self.proved = line.startswith("logic=proved")
+
+    def read_function(self, path: str, told: str) -> None:
+        """Reads a function's line; the notes before it are the function's."""
+        notes, self.notes = self.notes, []
+        if told == "proved" or told.startswith("assumed"):
+            return
+        name = function_of(path)
+        unproved = UNPROVED.search(told)
+        goals = {goal for _, _, goal in notes} | set(re.findall(r"`([^`]+)`", unproved[1]) if unproved else ())
+        self.goals.setdefault(name, {}).update({goal: False for goal in goals})
+        self.lines.setdefault(name, set()).update((file, line) for file, line, _ in notes)
+        if not goals and "it calls" not in told:
+            self.unexplained.add(name)
+
+    def verdict(self) -> Verdict:
+        """What was read."""
+        others = []
+        folders = {proof_folder(name): name for name in self.goals}
+        for file, message in self.errors:
+            owner = next((name for folder, name in folders.items() if file.startswith(folder)), None)
+            if owner is None:
+                others.append(f"{file}: {message}")
+                continue
+            goal, only_answer = goal_of(message)
+            self.goals[owner].setdefault(goal, only_answer)
+        for name in self.unexplained:
+            if not self.goals[name]:
+                self.goals[name]["proof"] = True
+        found = [
+            Function(name, frozenset(Goal(name, goal, bad) for goal, bad in goals.items()), frozenset(self.lines[name]))
+            for name, goals in self.goals.items()
+            if goals
+        ]
+        return Verdict(self.proved, tuple(found), tuple(others))
+
+
+def verdict_of(output: str) -> Verdict:
+    """What the output of a check says."""
+    reader = Reader()
+    for line in output.splitlines():
+        reader.read(line)
+    return reader.verdict()
+
+
+def is_readable(verdict: Verdict) -> bool:
+    """Whether the prover could read and compile all that it was given."""
+    unread = [one for one in verdict.others if one.startswith(("src/", "specs/")) and UNREADABLE.search(one)]
+    return verdict.proved is not None and not unread

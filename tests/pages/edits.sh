@@ -1,0 +1,196 @@
+#!/usr/bin/env bash
+# Runs tests/edits/main.py on small crates with a stand-in for `rt`, and checks which edits it tries, in which rounds, what it says of edits
+# that are not refused, and what it leaves in the record and takes from it.
+#
+#   tests/pages/edits.sh [llvm | rattle | PROGRAM]
+#
+# Needs bash, the usual tools of a shell and Python 3.9.
+. "$(dirname "$0")/../kit/kit.sh"
+. "$(dirname "$0")/../kit/stand_ins.sh"
+
+# A prover for the test. A function is proved unless a line of it is `wrong`, or it calls one that is not proved; `nonsense` does not compile;
+# a definition that is `wrong` leaves a lemma without a proof. Each check is a line of `checks`: the crate, and the lines that are wrong.
+stand_in rt << 'END_OF_RT'
+#!/usr/bin/env python3
+import os, re, sys
+from pathlib import Path
+
+name = Path.cwd().name
+if sys.argv[1] == "version":
+    sys.exit(print("kit of the test"))
+if sys.argv[1] == "must-fail":
+    sys.exit(print(Path(os.environ["CALLS"], "must-fail").read_text(), end=""))
+if sys.argv[1] == "lib":
+    for file in ("rlib/stamp", "incremental/proofs.oantt"):
+        Path("out", file).parent.mkdir(parents=True, exist_ok=True)
+        Path("out", file).write_text(name)
+    sys.exit()
+text, definition = Path("src/lib.rt").read_text(), Path("specs/Words.antt").read_text()
+with Path(os.environ["CALLS"], "checks").open("a") as file:
+    print(name, *re.findall(r"wrong (\w+)|same (\w+)", text + definition), Path("out/incremental/proofs.oantt").read_text(), file=file)
+if "nonsense" in text:
+    sys.exit("error[syntax]: src/lib.rt")
+if "wrong" in definition:
+    print("./proofs/Lemmas.antt:3:1: error: `lemma`: `search` found no proof")
+lost = set()
+for found in re.finditer(r"fn (\w+)(.*?)^}", text, re.M | re.S):
+    function, body = found[1], found[2]
+    line = text.count("\n", 0, found.start()) + 1
+    own, waits = "wrong" in body, lost.intersection(re.findall(r"call (\w+)", body))
+    lost |= {function} if own or waits else set()
+    if own:
+        print(f"note: src/lib.rt:{line}:5: it is not proved that what the function ensures holds when it returns (`returns`)")
+    told = ["expected answers in ./proofs; `search` did not prove `returns`"] * own + [f"it calls `{one}`, which is not proved" for one in waits]
+    print(f"fn {name}::lib::{function}: {'no proof: ' + '; '.join(told) if told else 'proved'}")
+failed = lost or "wrong" in definition
+print("logic=not-proved" if failed else "logic=proved functions=3")
+sys.exit(bool(failed))
+END_OF_RT
+
+ward=$room/ward
+mkdir -p "$ward/tests" "$ward/package"
+cp build.py HANDLES "$ward"
+cp package/commit.sh "$ward/package"
+cp CHANGELOG.md "$ward"
+cp -r tests/edits "$ward/tests"
+printf '%s\n' 'base:' 'upper: base' > "$ward/crates.txt"
+for crate in base upper; do
+    mkdir -p "$ward"/crates/$crate/{src,specs,must-fail}
+    echo 'true definition' > "$ward/crates/$crate/specs/Words.antt"
+    for function in first second third; do
+        printf '%s\n' "fn $function()" '{' "    right $function" "    other $function" "    call $function" '}' ''
+    done > "$ward/crates/$crate/src/lib.rt"
+done
+# `third` calls `first`.
+sed -i 's/call third/call first/' "$ward/crates/upper/src/lib.rt"
+
+# edit CRATE NAME OLD NEW [FILE]
+edit() { printf '%s\n' "file: ${5:-src/lib.rt}" "old:     $3" "new:     $4" > "$ward/crates/$1/must-fail/$2.edit"; }
+edit base first_left_out 'right first' 'wrong first'
+edit upper first_left_out 'right first' 'wrong first'
+edit upper second_left_out 'right second' 'wrong second'
+edit upper second_forgotten 'other second' 'wrong other'
+printf '%s\n' 'file: specs/Words.antt' 'old: true' 'new: wrong' > "$ward/crates/upper/must-fail/definition_turned.edit"
+
+# tries WHAT STATUS LINE [WORD..]: the tool ends so, with this last line.
+tries() {
+    begins_case "$1"
+    local ended
+    : > "$room/checks"
+    CALLS=$room PATH=$room/bin:$PATH "$ward/tests/edits/main.py" "${@:4}" > "$room/out" 2>&1
+    ended=$?
+    [ $ended = "$2" ] || complain "status $ended, not $2: $(cat "$room/out")"
+    [ "$(tail -n 1 "$room/out")" = "$3" ] || complain "its last line is $(tail -n 1 "$room/out")"
+    is_missing ward/out/edits/rooms
+}
+
+tells() { grep -qF -- "$1" "$room/out" || complain "no '$1' in its output: $(cat "$room/out")"; }
+
+# checks NUMBER: the last run made this number of checks, each over what a check of its crate kept.
+checks() {
+    [ "$(wc -l < "$room/checks")" = "$1" ] || complain "not $1 checks: $(cat "$room/checks")"
+    ! awk '$1 != $NF { bad = 1 } END { exit !bad }' "$room/checks" || complain "over other work: $(cat "$room/checks")"
+}
+
+# writes: the record of the last run becomes that of the tree.
+writes() { PATH=$room/bin:$PATH "$ward/tests/edits/main.py" write > "$room/written"; }
+
+record=$ward/crates/upper/edits.txt
+
+first_tries() {
+    tries 'all edits, in rounds' 0 '5 passed, 0 failed'
+    # In `upper` first and second together, then the other edit of second, and the definition.
+    checks 4
+    tells '5 tried, 0 taken from the record'
+    tells "the record differs from that of the tree for base, upper"
+    writes
+    begins_case 'the record'
+    [ "$(awk '!/^#/ { print $1, $3, $4 }' "$record")" = "definition_turned upper::proofs::Lemmas lemma
+first_left_out upper::lib::first returns
+second_forgotten upper::lib::second returns
+second_left_out upper::lib::second returns" ] || complain "$(cat "$record")"
+    tries 'the same again' 0 '5 passed, 0 failed'
+    checks 0
+    tells '0 tried, 5 taken from the record'
+    tries 'all anew' 0 '5 passed, 0 failed' --anew
+    checks 4
+    ! grep -q 'the record differs' "$room/out" || complain 'another record'
+    tries 'each alone' 0 '5 passed, 0 failed' --anew --alone
+    checks 5
+    ! grep -q 'the record differs' "$room/out" || complain 'another record'
+}
+
+# Edits that are not refused, each beside the good ones.
+planted_edits() {
+    edit upper third_accepted 'right third' 'same third'
+    tries 'an edit that is proved, of a function that calls another edited one' 1 '5 passed, 1 failed' --anew
+    tells 'upper/third_accepted: NOT REFUSED: the crate is proved with this edit'
+    ! grep -q third_accepted "$ward/out/edits/upper.txt" || complain 'the record has it'
+    edit upper third_accepted 'right third' 'nonsense'
+    tries 'an edit that does not compile' 1 '5 passed, 1 failed' --anew
+    tells 'upper/third_accepted: NOT READ'
+    edit upper third_accepted 'no such line' 'wrong third'
+    tries 'an edit that does not fit' 1 '5 passed, 1 failed'
+    tells 'upper/third_accepted: STALE'
+    rm "$ward/crates/upper/must-fail/third_accepted.edit"
+    sed -i '/^fn third/,/^}/s/right/wrong/' "$ward/crates/upper/src/lib.rt"
+    tries 'edits beside a function without a proof' 0 '5 passed, 0 failed'
+    # The round of two says nothing, so each of its edits is tried alone.
+    checks 5
+    sed -i '/^fn third/,/^}/s/wrong/right/' "$ward/crates/upper/src/lib.rt"
+}
+
+planted_records() {
+    sed -i 's/^first_left_out ./first_left_out x/' "$record"
+    tries 'a record with a wrong checksum' 0 '5 passed, 0 failed'
+    tells '1 tried, 4 taken from the record'
+    writes
+    echo 'gone 0 upper::lib::first returns' >> "$record"
+    tries 'a record of an edit that is not there' 1 '5 passed, 1 failed'
+    tells 'STALE: the record has upper/gone'
+    writes
+    sed -i 's/^first_left_out/second_left_out/' "$record"
+    tries 'a record of two checksums for an edit' 0 '5 passed, 0 failed'
+    tells '2 tried, 3 taken from the record'
+    writes
+    echo 'another contract' >> "$ward/crates/base/src/lib.rt"
+    tries 'a change below' 0 '5 passed, 0 failed'
+    tells '5 tried, 0 taken from the record'
+    writes
+    echo 'another contract' >> "$ward/crates/upper/src/lib.rt"
+    tries 'a change above' 0 '5 passed, 0 failed'
+    tells '4 tried, 1 taken from the record'
+    writes
+    echo '# another mistake' >> "$ward/crates/upper/must-fail/first_left_out.edit"
+    tries 'a changed edit' 0 '5 passed, 0 failed'
+    tells '1 tried, 4 taken from the record'
+    writes
+}
+
+# must_fails [NAME WHAT]: `rt must-fail` says that each edit is refused, and of this one something else.
+must_fails() {
+    local file name
+    for file in "$ward"/crates/*/must-fail/*.edit; do
+        name=${file#"$ward/crates/"}
+        echo "rt: must-fail ${name/must-fail\//}: refused, as it must be: note: src/lib.rt:1:5: it is not proved that it holds (\`returns\`)"
+    done | sed -E "/definition_turned/s/:[^:]*:[^:]*:[^:]*$/: error: \`lemma\`: no proof/${1:+;/$1/s/: refused.*/: $2/}" > "$room/must-fail"
+}
+
+one_by_one() {
+    must_fails
+    tries 'each also by rt must-fail' 0 '5 passed, 0 failed' --both
+    begins_case 'the result of that'
+    [ "$(sed -n 2p "$ward/out/edits/alone")" = '5 passed, 0 failed' ] || complain "$(cat "$ward/out/edits/alone")"
+    must_fails second_forgotten 'NOT REFUSED: proved'
+    tries 'one that rt must-fail does not refuse' 1 '4 passed, 1 failed' --both
+    tells 'upper/second_forgotten: alone it is not refused'
+    must_fails second_forgotten "refused, as it must be: note: (\`other\`)"
+    tries 'one that is refused by another goal' 1 '4 passed, 1 failed' --both
+    tells 'upper/second_forgotten: alone it is refused by other, and in a round by returns'
+}
+
+first_tries
+planted_edits
+planted_records
+one_by_one
+finish
