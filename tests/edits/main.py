@@ -24,12 +24,12 @@ from typing import Dict, List, NamedTuple, Tuple
 
 sys.path.insert(0, str(Path(__file__).resolve().parents[2]))
 
-import build
-import one_by_one
-import record
-from edit import Edit, edits_of
-from record import Entry
-from trial import ROOMS, Outcome, Trials
+import build  # noqa: E402
+import one_by_one  # noqa: E402
+import record  # noqa: E402
+from edit import Edit, edits_of  # noqa: E402
+from record import Entry  # noqa: E402
+from trial import ROOMS, Outcome, Trials  # noqa: E402
 
 NEW = build.OUT / "edits"
 
@@ -80,19 +80,30 @@ def prove(names: List[str]) -> bool:
     return not names or subprocess.run([build.ROOT / "build.py", *names]).returncode == 0
 
 
-def tried(crates: Dict[str, build.Crate], untried: List[Edit], each_alone: bool) -> Dict[Edit, Outcome]:
-    """Tries these edits."""
+def tried(crates: Dict[str, build.Crate], made: Plan, each_alone: bool) -> Dict[Edit, Outcome]:
+    """Tries the edits of the plan. The record in `out/edits` has each as soon as it is refused, also if the run is ended."""
     by_crate: Dict[str, List[Edit]] = {}
-    for edit in untried:
+    for edit in made.untried:
         by_crate.setdefault(edit.crate, []).append(edit)
-    trials = Trials(crates, by_crate, each_alone)
+    entries = dict(made.recorded)
+
+    def keep(outcomes: Dict[Edit, Outcome]) -> None:
+        entries.update(entries_of(made, outcomes))
+        leave(sorted({edit.crate for edit in outcomes}), entries)
+
+    trials = Trials(crates, by_crate, each_alone, keep)
     try:
         outcomes = trials.run()
     finally:
         shutil.rmtree(ROOMS, ignore_errors=True)
-    if untried:
-        print(f"edits: {len(untried)} edits in {trials.checks} checks, {trials.processor:.0f} s of processor time")
+    if made.untried:
+        print(f"edits: {len(made.untried)} edits in {trials.checks} checks, {trials.processor:.0f} s of processor time")
     return outcomes
+
+
+def entries_of(made: Plan, outcomes: Dict[Edit, Outcome]) -> Dict[Edit, Entry]:
+    """The entries of the edits that were refused."""
+    return {edit: Entry(made.checksums[edit], one.goals) for edit, one in outcomes.items() if one.goals}
 
 
 def leave(names: List[str], entries: Dict[Edit, Entry]) -> None:
@@ -148,11 +159,11 @@ def run(words: List[str]) -> int:
     if made.untried and not prove(sorted({edit.crate for edit in made.untried})):
         print("edits: a crate is not proved as it is, so its edits were not tried\n0 passed, 1 failed")
         return 1
-    outcomes = tried(crates, made.untried, "--alone" in words)
+    outcomes = tried(crates, made, "--alone" in words)
     if made.checksums != plan(crates, names, True).checksums:
         print("edits: files changed while the edits were tried: try them again\n0 passed, 1 failed")
         return 1
-    entries = {**made.recorded, **{edit: Entry(made.checksums[edit], one.goals) for edit, one in outcomes.items() if one.goals}}
+    entries = {**made.recorded, **entries_of(made, outcomes)}
     leave(names, entries)
     differ = one_by_one.differences(entries, one_by_one.must_fail(names)) if both else {}
     for edit, why in differ.items():

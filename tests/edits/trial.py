@@ -9,14 +9,14 @@ import threading
 import time
 from concurrent.futures import FIRST_COMPLETED, Future, ThreadPoolExecutor, wait
 from pathlib import Path
-from typing import Dict, FrozenSet, Iterable, List, NamedTuple, Optional, Set, Tuple
+from typing import Callable, Dict, FrozenSet, Iterable, List, NamedTuple, Optional, Set
 
 sys.path.insert(0, str(Path(__file__).resolve().parents[2]))
 
-import build
-from edit import Edit, Unfit, edited
-from rounds import Place, Round, functions_of, rounds_of
-from verdict import Function, Goal, NO_LONGER_FITS, Verdict, is_readable, verdict_of
+import build  # noqa: E402
+from edit import Edit, Unfit, edited  # noqa: E402
+from rounds import Place, Round, functions_of, rounds_of  # noqa: E402
+from verdict import NO_LONGER_FITS, Function, Goal, Verdict, is_readable, verdict_of  # noqa: E402
 
 ROOMS = build.OUT / "edits" / "rooms"
 # The memory that one check is planned to take, in KiB.
@@ -127,10 +127,12 @@ def lanes() -> int:
 
 
 class Trials:
-    """The trials of the edits of some crates."""
+    """The trials of the edits of some crates. Each outcome is kept as soon as it is known."""
 
-    def __init__(self, crates: Dict[str, build.Crate], edits: Dict[str, List[Edit]], each_alone: bool) -> None:
-        self.crates = crates
+    def __init__(
+        self, crates: Dict[str, build.Crate], edits: Dict[str, List[Edit]], each_alone: bool, keep: Callable[[Dict[Edit, Outcome]], None]
+    ) -> None:
+        self.crates, self.keep = crates, keep
         self.outcomes: Dict[Edit, Outcome] = {}
         self.places = {name: places_in(crates[name].home) for name in edits}
         self.left: List[Round] = []
@@ -173,6 +175,7 @@ class Trials:
         if len(round.edits) == 1:
             found = {edit: found.get(edit) or alone(edit, made) for edit in round.edits}
         self.outcomes.update(found)
+        self.keep(found)
         self.left += [one for one in round.split() if one.edits[0] not in found]
         self.tell(round, made, len(found))
 
