@@ -175,13 +175,13 @@ module _ (terms : Terms) (one : LeafWeek) (n : ℕ) (past other : Past) (equival
 -- ---- the minimum over the days of a week, and over the weeks of a leaf
 
 module _ (terms : Terms) (n : ℕ) where
-  pub least_days-equivalent : (one : LeafWeek) (rest : Past → ℕ) → IsSameForEquivalent one.week n rest → (left : ℕ) →
-      IsSameForEquivalent one.week n (least_days terms one n rest left)
+  pub least_days-equivalent : (one : LeafWeek) (rest : Past → ℕ) → IsSameForEquivalent one.week n rest → (days_left : ℕ) →
+      IsSameForEquivalent one.week n (least_days terms one n rest days_left)
   unfolding least_days
   least_days-equivalent one rest same zero past other equivalent = same past other equivalent
-  least_days-equivalent one rest same (suc left) past other equivalent =
-      least_choice-equivalent terms one n past other equivalent (DAYS - suc left) (least_days terms one n rest left)
-      (least_days-equivalent one rest same left)
+  least_days-equivalent one rest same (suc days_left) past other equivalent =
+      least_choice-equivalent terms one n past other equivalent (DAYS - suc days_left) (least_days terms one n rest days_left)
+      (least_days-equivalent one rest same days_left)
 
 -- pasts that are equivalent in a week are equivalent in another one with the same limits
 equivalent-moves : (one other : Problem) (n : ℕ) (past also : Past) → HaveSameLimits one other → AreEquivalent one n past also →

@@ -36,18 +36,18 @@ module _ (unit : ℕ) (tariff : Tariff) where
         (day_cost unit tariff false one.week n d past (Some s) + allowed_rebate one n d (Some s) + r))
         (same (past_after d past (Some s)) (a + 1) _)
 
-    pub days-free : (left : ℕ) → IsFree (least_days (free_terms false) one n rest left)
+    pub days-free : (days_left : ℕ) → IsFree (least_days (free_terms false) one n rest days_left)
     unfolding least_days
     days-free zero past a w = free past a w
-    days-free (suc left) past a w =
-        let more : Past → ℕ = least_days (free_terms false) one n rest left in
-        let same = value-same (DAYS - suc left) past a w more (days-free left) in
+    days-free (suc days_left) past a w =
+        let more : Past → ℕ = least_days (free_terms false) one n rest days_left in
+        let same = value-same (DAYS - suc days_left) past a w more (days-free days_left) in
         let on = least-same one.week.shifts not_allowed
-        (λ s. choice_value (free_terms false) one n (DAYS - suc left) (with_totals past a w) more (Some s))
-        (λ s. choice_value (free_terms false) one n (DAYS - suc left) past more (Some s)) (λ s. same (Some s)) in
+        (λ s. choice_value (free_terms false) one n (DAYS - suc days_left) (with_totals past a w) more (Some s))
+        (λ s. choice_value (free_terms false) one n (DAYS - suc days_left) past more (Some s)) (λ s. same (Some s)) in
         ap (λ (v : ℕ). min v (least_below one.week.shifts not_allowed
-        (λ s. choice_value (free_terms false) one n (DAYS - suc left) (with_totals past a w) more (Some s)))) (same None) ∙
-        ap (λ (v : ℕ). min (choice_value (free_terms false) one n (DAYS - suc left) past more None) v) on
+        (λ s. choice_value (free_terms false) one n (DAYS - suc days_left) (with_totals past a w) more (Some s)))) (same None) ∙
+        ap (λ (v : ℕ). min (choice_value (free_terms false) one n (DAYS - suc days_left) past more None) v) on
 
   rest-free : (n : ℕ) (week : Problem) (later : List LeafWeek) → week.is_last ≡ false →
       AllByRecursion IsFreeOfTotals later → IsFree (rest_after (free_terms false) week later n)
@@ -57,16 +57,16 @@ module _ (unit : ℕ) (tariff : Tariff) where
   rest-free n week (next ∷ later) none all past a w =
       days-free next n (rest_after (free_terms false) next.week later n) (rest-free n next.week later all.0 all.1) DAYS past a w
 
-  left-free : (charged : Bool) (one : LeafWeek) (later : List LeafWeek) (n left : ℕ) (past : Past) → charged ≡ false →
+  left-free : (charged : Bool) (one : LeafWeek) (later : List LeafWeek) (n days_left : ℕ) (past : Past) → charged ≡ false →
       AllByRecursion IsFreeOfTotals (one ∷ later) →
-      least_days (free_terms charged) one n (rest_after (free_terms charged) one.week later n) left (with_totals past 0 0) ≡
-      least_days (free_terms charged) one n (rest_after (free_terms charged) one.week later n) left past
-  left-free charged one later n left past none all =
-      subst (λ (c : Bool). least_days (free_terms c) one n (rest_after (free_terms c) one.week later n) left (with_totals past 0 0) ≡
-      least_days (free_terms c) one n (rest_after (free_terms c) one.week later n) left past) (sym none)
-      (days-free one n (rest_after (free_terms false) one.week later n) (rest-free n one.week later all.0 all.1) left past 0 0)
+      least_days (free_terms charged) one n (rest_after (free_terms charged) one.week later n) days_left (with_totals past 0 0) ≡
+      least_days (free_terms charged) one n (rest_after (free_terms charged) one.week later n) days_left past
+  left-free charged one later n days_left past none all =
+      subst (λ (c : Bool). least_days (free_terms c) one n (rest_after (free_terms c) one.week later n) days_left (with_totals past 0 0) ≡
+      least_days (free_terms c) one n (rest_after (free_terms c) one.week later n) days_left past) (sym none)
+      (days-free one n (rest_after (free_terms false) one.week later n) (rest-free n one.week later all.0 all.1) days_left past 0 0)
 
-pub stage-free : (stage : StageTables) (left : ℕ) (past : Past) → IsStage stage → stage.charged ≡ false →
-    least_in stage left (with_totals past 0 0) ≡ least_in stage left past
-stage-free stage left past is none =
-    left-free stage.unit stage.tariff stage.charged (week_of stage) (later_of stage) stage.nurse left past none (is.free none)
+pub stage-free : (stage : StageTables) (days_left : ℕ) (past : Past) → IsStage stage → stage.charged ≡ false →
+    least_in stage days_left (with_totals past 0 0) ≡ least_in stage days_left past
+stage-free stage days_left past is none =
+    left-free stage.unit stage.tariff stage.charged (week_of stage) (later_of stage) stage.nurse days_left past none (is.free none)

@@ -15,31 +15,31 @@ module _ (terms : Terms) (one : LeafWeek) (n : ℕ) where
   unfolding least_days
   least_days-end rest past = refl
 
-  pub least_days-step : (rest : Past → ℕ) (left d : ℕ) (past : Past) → d + suc left ≡ DAYS →
-      least_days terms one n rest (suc left) past ≡ least_choice terms one n d past (least_days terms one n rest left)
+  pub least_days-step : (rest : Past → ℕ) (days_left d : ℕ) (past : Past) → d + suc days_left ≡ DAYS →
+      least_days terms one n rest (suc days_left) past ≡ least_choice terms one n d past (least_days terms one n rest days_left)
   unfolding least_days
-  least_days-step rest left d past all =
-      let e : DAYS - suc left ≡ d = omega arith in
-      ap (λ day. least_choice terms one n day past (least_days terms one n rest left)) e
+  least_days-step rest days_left d past all =
+      let e : DAYS - suc days_left ≡ d = omega arith in
+      ap (λ day. least_choice terms one n day past (least_days terms one n rest days_left)) e
 
-  pub least_days-at_end : (rest : Past → ℕ) (left : ℕ) (past : Past) → left ≡ 0 → rest past ≡ least_days terms one n rest left past
-  least_days-at_end rest left past none = sym (least_days-end rest past) ∙ ap (λ l. least_days terms one n rest l past) (sym none)
+  pub least_days-at_end : (rest : Past → ℕ) (days_left : ℕ) (past : Past) → days_left ≡ 0 → rest past ≡ least_days terms one n rest days_left past
+  least_days-at_end rest days_left past none = sym (least_days-end rest past) ∙ ap (λ l. least_days terms one n rest l past) (sym none)
 
-  pub least_days-is : (rest : Past → ℕ) (left : ℕ) (past : Past) → 1 ≤ left → left ≤ DAYS →
-      least_choice terms one n (6 - (left - 1)) past (least_days terms one n rest (left - 1)) ≡
-      least_days terms one n rest left past
-  least_days-is rest left past some within =
-      let e : suc (left - 1) ≡ left = omega arith in
-      sym (least_days-step rest (left - 1) (6 - (left - 1)) past (omega arith)) ∙ ap (λ l. least_days terms one n rest l past) e
+  pub least_days-is : (rest : Past → ℕ) (days_left : ℕ) (past : Past) → 1 ≤ days_left → days_left ≤ DAYS →
+      least_choice terms one n (6 - (days_left - 1)) past (least_days terms one n rest (days_left - 1)) ≡
+      least_days terms one n rest days_left past
+  least_days-is rest days_left past some within =
+      let e : suc (days_left - 1) ≡ days_left = omega arith in
+      sym (least_days-step rest (days_left - 1) (6 - (days_left - 1)) past (omega arith)) ∙ ap (λ l. least_days terms one n rest l past) e
 
   pub least_choice-small : (d : ℕ) (past : Past) (rest : Past → ℕ) → least_choice terms one n d past rest ≤ not_allowed
   least_choice-small d past rest =
       let least = least-start one.week.shifts not_allowed (λ s. choice_value terms one n d past rest (Some s)) in omega (arith, least)
 
-  pub least_days-small : (rest : Past → ℕ) (left : ℕ) (past : Past) → 1 ≤ left → least_days terms one n rest left past ≤ not_allowed
+  pub least_days-small : (rest : Past → ℕ) (days_left : ℕ) (past : Past) → 1 ≤ days_left → least_days terms one n rest days_left past ≤ not_allowed
   unfolding least_days
   least_days-small rest zero past some = absurd (omega arith)
-  least_days-small rest (suc left) past some = least_choice-small (DAYS - suc left) past (least_days terms one n rest left)
+  least_days-small rest (suc days_left) past some = least_choice-small (DAYS - suc days_left) past (least_days terms one n rest days_left)
 
 pub day_rebate-small : (problem : Problem) (prices : Prices) (n d : ℕ) (choice : Option ℕ) → day_rebate problem prices n d choice ≤ not_allowed
 day_rebate-small problem prices n d None =

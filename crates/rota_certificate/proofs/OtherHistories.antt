@@ -32,10 +32,10 @@ module _ (terms : Terms) (leaf : LeafWeek) (n : ℕ) where
       (value-alike d past one other same None) ∙
       ap (λ (v : ℕ). min (choice_value terms leaf n d past other None) v) on
 
-  pub history-free : (history : History) (rest : Past → ℕ) (left : ℕ) (past : Past) →
-      least_days terms (week_after leaf history) n rest left past ≡ least_days terms leaf n rest left past
+  pub history-free : (history : History) (rest : Past → ℕ) (days_left : ℕ) (past : Past) →
+      least_days terms (week_after leaf history) n rest days_left past ≡ least_days terms leaf n rest days_left past
   unfolding least_days
   history-free history rest zero past = refl
-  history-free history rest (suc left) past =
-      least_choice-alike (DAYS - suc left) past (least_days terms (week_after leaf history) n rest left)
-      (least_days terms leaf n rest left) (history-free history rest left)
+  history-free history rest (suc days_left) past =
+      least_choice-alike (DAYS - suc days_left) past (least_days terms (week_after leaf history) n rest days_left)
+      (least_days terms leaf n rest days_left) (history-free history rest days_left)

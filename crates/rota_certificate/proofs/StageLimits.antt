@@ -38,9 +38,9 @@ module _ (stage : StageTables) (is : IsStage stage) where
       recursion_from_All HasLimits (later_of stage)
       (All-drop HasLimits (stage.week + 1) (all_of stage) (All-from_recursion HasLimits (all_of stage) all))
 
-  pub stage-equivalent : (left : ℕ) (past other : Past) → AreEquivalent (week_of stage).week stage.nurse past other →
-      least_in stage left past ≡ least_in stage left other
-  stage-equivalent left past other equivalent =
+  pub stage-equivalent : (days_left : ℕ) (past other : Past) → AreEquivalent (week_of stage).week stage.nurse past other →
+      least_in stage days_left past ≡ least_in stage days_left other
+  stage-equivalent days_left past other equivalent =
       least_days-equivalent (terms_of stage) stage.nurse (week_of stage) (least_after stage)
       (rest_after-equivalent (terms_of stage) stage.nurse (week_of stage).week (week_of stage).week (later_of stage)
-      (record { limits = λ s. refl; contract = λ n. refl }) later-limits) left past other equivalent
+      (record { limits = λ s. refl; contract = λ n. refl }) later-limits) days_left past other equivalent

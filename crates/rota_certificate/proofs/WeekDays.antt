@@ -236,11 +236,11 @@ module _ (terms : Terms) (one : LeafWeek) (roster : Roster) (n : ℕ) (within : 
       omega (arith, shifts, over, fixed, totals)
 
   -- with this number of days left, the minimum is at most the costs so far and the minimum of the rest, less the prices so far
-  record Reached (rest : Past → ℕ) (d left : ℕ) : Type 0 where
+  record Reached (rest : Past → ℕ) (d days_left : ℕ) : Type 0 where
     pub past : Past
     pub follows : Follows problem prices roster n d past
     pub bounded : least_days terms one n rest DAYS first + sum_below d (paid_on problem prices roster n) + grown_to first ≤
-        sum_below d cost_on + grown_to past + d * max_price + least_days terms one n rest left past
+        sum_below d cost_on + grown_to past + d * max_price + least_days terms one n rest days_left past
 
   -- the history forbids no shift type of Monday
   from_history : (last : Option ℕ) → first.last ≡ last → (t : ℕ) → t < problem.shifts → is_on problem roster n t 0 ≡ true →
@@ -262,23 +262,23 @@ module _ (terms : Terms) (one : LeafWeek) (roster : Roster) (n : ℕ) (within : 
     weekends = omega arith;
   }
 
-  reached : (rest : Past → ℕ) (d left : ℕ) → d + left ≡ DAYS → Reached rest d left
+  reached : (rest : Past → ℕ) (d days_left : ℕ) → d + days_left ≡ DAYS → Reached rest d days_left
   unfolding sum_below
-  reached rest zero left all =
-      let e : left ≡ DAYS = omega arith in
+  reached rest zero days_left all =
+      let e : days_left ≡ DAYS = omega arith in
       record {
         past = first;
         follows = follows-start;
         bounded = omega (arith, ap (λ l. least_days terms one n rest l first) e);
       }
-  reached rest (suc d) left all =
-      let before = reached rest d (suc left) (omega arith) in
-      let go = goes terms one roster n within keeps n_in allows d before.past (least_days terms one n rest left) (omega arith) before.follows in
+  reached rest (suc d) days_left all =
+      let before = reached rest d (suc days_left) (omega arith) in
+      let go = goes terms one roster n within keeps n_in allows d before.past (least_days terms one n rest days_left) (omega arith) before.follows in
       record {
         past = past_after d before.past go.choice;
         follows = go.follows;
         bounded =
-            let step = least_days-step terms one n rest left d before.past (omega arith) in
+            let step = least_days-step terms one n rest days_left d before.past (omega arith) in
             let day = day-bounded d before.past go.choice before.follows go.chooses in
             omega (arith, before.bounded, step, go.least, day, go.chooses.worth);
       }

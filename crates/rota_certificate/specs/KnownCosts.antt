@@ -26,7 +26,7 @@ first_rebate (first ∷ later) n d choice = allowed_rebate first n d choice
 
 -- the cost is the nurse's minimum cost of the last days of the week with this number, and of the later weeks, after the past
 abbrev pub IsRightCost : Terms → List LeafWeek → (nurse : ℕ) → KnownCost → Type 0
-IsRightCost terms weeks n known = known.cost ≡ least_left terms (drop known.week weeks) n known.left known.past
+IsRightCost terms weeks n known = known.cost ≡ least_left terms (drop known.week weeks) n known.days_left known.past
 
 -- the rebate is the nurse's rebate for the choice on the day, in the week with this number
 abbrev pub IsRightRebate : List LeafWeek → (nurse : ℕ) → KnownRebate → Type 0
@@ -41,11 +41,11 @@ pub record AreRightFor (terms : Terms) (weeks : List LeafWeek) (nurse : ℕ) (kn
 abbrev pub AreRight : StageTables → KnownTables → Type 0
 AreRight stage known = AreRightFor (terms_of stage) (all_of stage) stage.nurse known
 
--- the entries are right for a search before the last `left` days of the stage's week, after a past to which the days before them can lead
-pub record IsBefore (stage : StageTables) (known : KnownTables) (left : ℕ) (past : Past) : Type 0 where
+-- the entries are right for a search before the last `days_left` days of the stage's week, after a past to which the days before them can lead
+pub record IsBefore (stage : StageTables) (known : KnownTables) (days_left : ℕ) (past : Past) : Type 0 where
   pub right : AreRight stage known
-  pub within : left ≤ DAYS
-  pub near : IsNear (week_of stage).week.shifts (days_before stage (DAYS - left)) past
+  pub within : days_left ≤ DAYS
+  pub near : IsNear (week_of stage).week.shifts (days_before stage (DAYS - days_left)) past
 
 -- the search has found this cost, and the entries stay right
 pub record Finds (stage : StageTables) (known : KnownTables) (cost result : ℕ) : Type 0 where

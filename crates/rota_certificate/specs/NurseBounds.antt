@@ -81,12 +81,12 @@ least_choice terms one n d past rest =
     min (choice_value terms one n d past rest None)
     (least_below one.week.shifts not_allowed (λ s. choice_value terms one n d past rest (Some s)))
 
--- the minimum cost of the last days of the week and of the time after it; `left` is the number of these days, `past` the past before them,
+-- the minimum cost of the last days of the week and of the time after it; `days_left` is the number of these days, `past` the past before them,
 -- and `rest` gives the cost after the week, which depends on the past at its end
-unfoldable pub least_days : Terms → LeafWeek → (nurse : ℕ) → (rest : Past → ℕ) → (left : ℕ) → Past → ℕ
+unfoldable pub least_days : Terms → LeafWeek → (nurse : ℕ) → (rest : Past → ℕ) → (days_left : ℕ) → Past → ℕ
 least_days terms one n rest zero past = rest past
-least_days terms one n rest (suc left) past =
-    least_choice terms one n (DAYS - suc left) past (least_days terms one n rest left)
+least_days terms one n rest (suc days_left) past =
+    least_choice terms one n (DAYS - suc days_left) past (least_days terms one n rest days_left)
 
 -- the cost of the assignments that are missing at the end
 abbrev pub end_cost : Terms → Problem → (nurse : ℕ) → Past → ℕ
@@ -98,9 +98,9 @@ rest_after terms week [] n past = end_cost terms week n past
 rest_after terms week (next ∷ later) n past = least_days terms next n (rest_after terms next.week later n) DAYS past
 
 -- the minimum cost of the last days of the first week, and of the later weeks
-abbrev pub least_left : Terms → List LeafWeek → (nurse left : ℕ) → Past → ℕ
-least_left terms [] n left past = 0
-least_left terms (first ∷ later) n left past = least_days terms first n (rest_after terms first.week later n) left past
+abbrev pub least_left : Terms → List LeafWeek → (nurse days_left : ℕ) → Past → ℕ
+least_left terms [] n days_left past = 0
+least_left terms (first ∷ later) n days_left past = least_days terms first n (rest_after terms first.week later n) days_left past
 
 -- whether any of the weeks charges totals: with `--early` each week does, without it the last week of the scenario
 abbrev pub charge_totals : List LeafWeek → Bool

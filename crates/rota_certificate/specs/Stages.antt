@@ -52,8 +52,8 @@ abbrev pub least_after : StageTables → Past → ℕ
 least_after stage past = rest_after (terms_of stage) (week_of stage).week (later_of stage) stage.nurse past
 
 -- the minimum cost of the last days of the stage's week, and of the time after it
-abbrev pub least_in : StageTables → (left : ℕ) → Past → ℕ
-least_in stage left past = least_days (terms_of stage) (week_of stage) stage.nurse (least_after stage) left past
+abbrev pub least_in : StageTables → (days_left : ℕ) → Past → ℕ
+least_in stage days_left past = least_days (terms_of stage) (week_of stage) stage.nurse (least_after stage) days_left past
 
 -- the week is not the last of the scenario, so nothing is missing at its end
 abbrev pub IsFreeOfTotals : LeafWeek → Type 0

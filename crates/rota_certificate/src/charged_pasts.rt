@@ -8,12 +8,12 @@ use crate::capped::capped;
 use crate::stages::Stage;
 use rota_core::{DAYS, Past};
 
-/// The past before the last `left` days of the week, with capped numbers, and without the totals if
+/// The past before the last `days_left` days of the week, with capped numbers, and without the totals if
 /// they are not charged. The minimum cost of the nurse after it is the same.
-pub fn charged_past(stage: &Stage<'_>, left: u8, past: Past) -> Past
-    requires { IsNear (week_of stage.now).week.shifts (days_before stage.now (DAYS - left)) past }
-    ensures same { least_in stage.now left result ≡ least_in stage.now left past }
-    ensures near { IsNear (week_of stage.now).week.shifts (days_before stage.now (DAYS - left)) result }
+pub fn charged_past(stage: &Stage<'_>, days_left: u8, past: Past) -> Past
+    requires { IsNear (week_of stage.now).week.shifts (days_before stage.now (DAYS - days_left)) past }
+    ensures same { least_in stage.now days_left result ≡ least_in stage.now days_left past }
+    ensures near { IsNear (week_of stage.now).week.shifts (days_before stage.now (DAYS - days_left)) result }
 {
     let past = capped(stage.instance, stage.nurse, past);
     if stage.charged {

@@ -9,11 +9,11 @@ use rota_core::Past;
 use std::alloc::{AllocError, Global};
 use std::marker::Model;
 
-/// The minimum cost of the last `left` days of the week and of the later weeks, after the past.
+/// The minimum cost of the last `days_left` days of the week and of the later weeks, after the past.
 #[derive(Clone, Copy, Debug, PartialEq, Eq)]
 pub struct KnownCost {
     pub week: usize,
-    pub left: u8,
+    pub days_left: u8,
     pub past: Past,
     pub cost: u64,
 }
@@ -98,12 +98,12 @@ fn spread(past: Past) -> usize {
 }
 
 // The entry of a cost among this number of entries.
-fn cost_entry(entries: usize, week: usize, left: u8, past: Past) -> usize
+fn cost_entry(entries: usize, week: usize, days_left: u8, past: Past) -> usize
     requires { 0 < entries }
     ensures { result < entries }
 {
     let mix = spread(past).wrapping_mul(SPREAD).wrapping_add(week);
-    with_part(mix, u16::from(left)) % entries
+    with_part(mix, u16::from(days_left)) % entries
 }
 
 // The entry of a rebate among this number of entries.
@@ -156,13 +156,14 @@ impl Known {
     }
 
     /// The cost, if it is known.
-    pub fn cost(&self, week: usize, left: u8, past: Past) -> Option<u64>
+    pub fn cost(&self, week: usize, days_left: u8, past: Past) -> Option<u64>
         ensures { (terms : Terms) (weeks : List LeafWeek) (nurse : ℕ) → AreRightFor terms weeks nurse self.now →
-            IfSome result (λ cost. cost ≡ least_left terms (drop week weeks) nurse left past) }
+            IfSome result (λ cost. cost ≡ least_left terms (drop week weeks) nurse days_left past) }
     {
-        let found = self.costs[cost_entry(self.costs.len(), week, left, past)];
+        let found = self.costs[cost_entry(self.costs.len(), week, days_left, past)];
         match found {
-            Some(known) if known.week == week && known.left == left && known.past == past => {
+            Some(known)
+                if known.week == week && known.days_left == days_left && known.past == past => {
                 Some(known.cost)
             }
             _ => None,
@@ -174,7 +175,7 @@ impl Known {
         ensures { (terms : Terms) (weeks : List LeafWeek) (nurse : ℕ) → AreRightFor terms weeks nurse self.old →
             IsRightCost terms weeks nurse known → AreRightFor terms weeks nurse self.new }
     {
-        let entry = cost_entry(self.costs.len(), known.week, known.left, known.past);
+        let entry = cost_entry(self.costs.len(), known.week, known.days_left, known.past);
         self.costs[entry] = Some(known);
     }
 

@@ -70,65 +70,65 @@ fn known_rebate(stage: &Stage<'_>, known: &mut Known, day: u8, choice: Option<u8
     rebate
 }
 
-/// The value of the choice for the day before the last `left` days of the week.
+/// The value of the choice for the day before the last `days_left` days of the week.
 #[cycle(week)]
 pub fn value_in(
     stage: &Stage<'_>,
     known: &mut Known,
-    left: u8,
+    days_left: u8,
     past: Past,
     choice: Option<u8>,
 ) -> u64
-    requires before { IsBefore stage.now known.old (left + 1) past }
+    requires before { IsBefore stage.now known.old (days_left + 1) past }
     requires choice_in { IfSome choice (λ s. s < (week_of stage.now).week.shifts) }
-    ensures value { result ≡ choice_value (terms_of stage.now) (week_of stage.now) stage.now.nurse (6 - left) past (least_in stage.now left) choice }
+    ensures value { result ≡ choice_value (terms_of stage.now) (week_of stage.now) stage.now.nurse (6 - days_left) past (least_in stage.now days_left) choice }
     ensures right { AreRight stage.now known.new }
 {
-    let day = 6 - left;
+    let day = 6 - days_left;
     if is_barred(stage.instance, past, choice) {
         return NOT_ALLOWED;
     }
     let after = past_after(stage.instance, day, past, choice);
-    let rest = least_in(stage, known, left, after);
+    let rest = least_in(stage, known, days_left, after);
     let rebate = known_rebate(stage, known, day, choice);
     let cost = day_cost(stage, day, past, choice);
     cost + rebate + rest
 }
 
-/// The minimum of the values of the choices for the day before the last `left` days of the week.
+/// The minimum of the values of the choices for the day before the last `days_left` days of the week.
 #[cycle(week)]
-pub fn least_choice_in(stage: &Stage<'_>, known: &mut Known, left: u8, past: Past) -> u64
-    requires { IsBefore stage.now known.old (left + 1) past }
-    ensures { let least = least_choice (terms_of stage.now) (week_of stage.now) stage.now.nurse (6 - left) past (least_in stage.now left) in
+pub fn least_choice_in(stage: &Stage<'_>, known: &mut Known, days_left: u8, past: Past) -> u64
+    requires { IsBefore stage.now known.old (days_left + 1) past }
+    ensures { let least = least_choice (terms_of stage.now) (week_of stage.now) stage.now.nurse (6 - days_left) past (least_in stage.now days_left) in
         Finds stage.now known.new least result }
 {
     let mut least = NOT_ALLOWED;
     for shift in 0..stage.instance.shifts() {
-        let on = value_in(stage, known, left, past, Some(shift));
+        let on = value_in(stage, known, days_left, past, Some(shift));
         least = least.min(on);
     }
-    let off = value_in(stage, known, left, past, None);
+    let off = value_in(stage, known, days_left, past, None);
     off.min(least)
 }
 
-/// The minimum cost of the last `left` days of the week, and of the time after it.
+/// The minimum cost of the last `days_left` days of the week, and of the time after it.
 #[cycle(week)]
-pub fn least_in(stage: &Stage<'_>, known: &mut Known, left: u8, past: Past) -> u64
-    requires { IsBefore stage.now known.old left past }
-    ensures { Finds stage.now known.new (least_in stage.now left past) result }
+pub fn least_in(stage: &Stage<'_>, known: &mut Known, days_left: u8, past: Past) -> u64
+    requires { IsBefore stage.now known.old days_left past }
+    ensures { Finds stage.now known.new (least_in stage.now days_left past) result }
 {
-    if left == 0 {
+    if days_left == 0 {
         return least_after(stage, known, past);
     }
     let week = stage.week;
-    let charged = charged_past(stage, left, past);
-    if let Some(cost) = known.cost(week, left, charged) {
+    let charged = charged_past(stage, days_left, past);
+    if let Some(cost) = known.cost(week, days_left, charged) {
         return cost;
     }
-    let cost = least_choice_in(stage, known, left - 1, charged);
+    let cost = least_choice_in(stage, known, days_left - 1, charged);
     known.keep_cost(KnownCost {
         week,
-        left,
+        days_left,
         past: charged,
         cost,
     });

@@ -10,23 +10,23 @@ pub returns-then-stage-clause-same : goal.returns-then-stage-clause-same
 returns-then-stage-clause-same c =
     let stage = stage_of c.stage.inside in
     rw (← c.stage.view_is)
-    (sym (stage-equivalent stage c.stage.invariant c.args.left c.args.past c.capped-past.result c.capped-past.ensures.equivalent))
+    (sym (stage-equivalent stage c.stage.invariant c.args.days_left c.args.past c.capped-past.result c.capped-past.ensures.equivalent))
 
 pub returns-else-stage-clause-same : goal.returns-else-stage-clause-same
 returns-else-stage-clause-same c =
     let stage = stage_of c.stage.inside in
     rw (← c.stage.view_is)
-    (stage-free stage c.args.left c.capped-past.result c.stage.invariant c.if-stage.false ∙
-    sym (stage-equivalent stage c.stage.invariant c.args.left c.args.past c.capped-past.result c.capped-past.ensures.equivalent))
+    (stage-free stage c.args.days_left c.capped-past.result c.stage.invariant c.if-stage.false ∙
+    sym (stage-equivalent stage c.stage.invariant c.args.days_left c.args.past c.capped-past.result c.capped-past.ensures.equivalent))
 
 pub returns-then-stage-clause-near : goal.returns-then-stage-clause-near
 returns-then-stage-clause-near c =
-    let day = days_before (stage_of c.stage.inside) (DAYS - c.args.left) in
+    let day = days_before (stage_of c.stage.inside) (DAYS - c.args.days_left) in
     rw (← c.stage.view_is) (c.capped-past.ensures.near day (rw (← c.stage.view_is) at c.requires))
 
 pub returns-else-stage-clause-near : goal.returns-else-stage-clause-near
 returns-else-stage-clause-near c =
-    let day = days_before (stage_of c.stage.inside) (DAYS - c.args.left) in
+    let day = days_before (stage_of c.stage.inside) (DAYS - c.args.days_left) in
     let near = c.capped-past.ensures.near day (rw (← c.stage.view_is) at c.requires) in
     rw (← c.stage.view_is)
     (record {

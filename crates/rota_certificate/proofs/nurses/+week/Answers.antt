@@ -10,12 +10,12 @@ use Rattle.rota_certificate.proofs.LeastCosts.{least_days-at_end, least_days-is,
 use Rattle.rota_certificate.proofs.Tables.{near-more}
 use Rattle.rota_certificate.proofs.nurses.+week.Goals as goal
 
-pub least_in-returns-then-left-eq0 : goal.least_in-returns-then-left-eq0
-least_in-returns-then-left-eq0 t c =
+pub least_in-returns-then-days_left-eq0 : goal.least_in-returns-then-days_left-eq0
+least_in-returns-then-days_left-eq0 t c =
     let stage = c.args.stage.now in
     record {
       found = c.least_after.ensures.found ∙
-          least_days-at_end (terms_of stage) (week_of stage) stage.nurse (least_after stage) c.args.left c.args.past c.if-left-eq0.true;
+          least_days-at_end (terms_of stage) (week_of stage) stage.nurse (least_after stage) c.args.days_left c.args.past c.if-days_left-eq0.true;
       small = c.least_after.ensures.small;
       right = c.least_after.ensures.right;
     }
@@ -27,16 +27,16 @@ least_in-returns-in-Some t c =
     let week : c.stage.inside.week ≡ stage.week = ap (λ (s : StageTables). s.week) c.stage.view_is in
     let charged = c.charged_past-charged.result in
     let found = c.in-Some.ensures (terms_of stage) (all_of stage) stage.nurse c.requires.right ∙
-    ap (λ (i : ℕ). least_left (terms_of stage) (drop i (all_of stage)) stage.nurse c.args.left charged) week ∙
-    ap (λ (weeks : List LeafWeek). least_left (terms_of stage) weeks stage.nurse c.args.left charged) at.at ∙
+    ap (λ (i : ℕ). least_left (terms_of stage) (drop i (all_of stage)) stage.nurse c.args.days_left charged) week ∙
+    ap (λ (weeks : List LeafWeek). least_left (terms_of stage) weeks stage.nurse c.args.days_left charged) at.at ∙
     c.charged_past-charged.ensures.same in
     record {
       found = found;
       small = omega (
         arith,
         found,
-        least_days-small (terms_of stage) (week_of stage) stage.nurse (least_after stage) c.args.left c.args.past
-            (omega (arith, c.if-left-eq0.false)),
+        least_days-small (terms_of stage) (week_of stage) stage.nurse (least_after stage) c.args.days_left c.args.past
+            (omega (arith, c.if-days_left-eq0.false)),
       );
       right = c.requires.right;
     }
@@ -48,15 +48,15 @@ least_in-returns t c =
     let week : c.stage.inside.week ≡ stage.week = ap (λ (s : StageTables). s.week) c.stage.view_is in
     let charged = c.charged_past-charged.result in
     let least = c.least_choice_in-cost.ensures.found ∙
-    least_days-is (terms_of stage) (week_of stage) stage.nurse (least_after stage) c.args.left charged
-    (omega (arith, c.if-left-eq0.false)) c.requires.within in
+    least_days-is (terms_of stage) (week_of stage) stage.nurse (least_after stage) c.args.days_left charged
+    (omega (arith, c.if-days_left-eq0.false)) c.requires.within in
     record {
       found = least ∙ c.charged_past-charged.ensures.same;
       small = c.least_choice_in-cost.ensures.small;
       right = c.keep_cost.ensures (terms_of stage) (all_of stage) stage.nurse c.least_choice_in-cost.ensures.right
           (least ∙
-          sym (ap (λ (i : ℕ). least_left (terms_of stage) (drop i (all_of stage)) stage.nurse c.args.left charged) week ∙
-          ap (λ (weeks : List LeafWeek). least_left (terms_of stage) weeks stage.nurse c.args.left charged) at.at));
+          sym (ap (λ (i : ℕ). least_left (terms_of stage) (drop i (all_of stage)) stage.nurse c.args.days_left charged) week ∙
+          ap (λ (weeks : List LeafWeek). least_left (terms_of stage) weeks stage.nurse c.args.days_left charged) at.at));
     }
 
 pub least_after-returns-then-week-leaf : goal.least_after-returns-then-week-leaf
@@ -112,12 +112,12 @@ least_after-returns t c =
     let i = stage.week + 1 in
     let weeks = c.leaf.inside.weeks.now in
     let same : weeks ≡ stage.leaf.weeks = ap (λ (leaf : LeafTables). leaf.weeks) c.leaf.view_is in
-    let left = next-left stage (slice_index_or weeks i c.index-leaf-week.result)
+    let following = next-left stage (slice_index_or weeks i c.index-leaf-week.result)
     (lent-at stage.leaf weeks i c.index-leaf-week.result same c.index-leaf-week.is) c.stage.invariant (rw same at c.if-week-leaf.false) in
     rw (← c.stage.view_is)
     (record {
       found = c.least_in.ensures.found ∙
-          sym (ap (λ (weeks : List LeafWeek). rest_after (terms_of stage) (week_of stage).week weeks stage.nurse c.args.past) left);
+          sym (ap (λ (weeks : List LeafWeek). rest_after (terms_of stage) (week_of stage).week weeks stage.nurse c.args.past) following);
       small = c.least_in.ensures.small;
       right = c.least_in.ensures.right;
     })
