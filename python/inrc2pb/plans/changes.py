@@ -10,11 +10,10 @@ from dataclasses import replace
 from itertools import permutations
 from typing import Callable, Collection, Counter, Dict, FrozenSet, Iterable, Iterator, List, Mapping, NamedTuple, Optional, Sequence, Tuple
 
-from ..judging.absences import is_broken_by
 from ..judging.rules import MISSING_NURSE, REQUEST
 from ..week.records import Cell, Place, Request, Scenario, WeekData
 from .state import BACK, SHEET, NurseDay
-from .swaps import NurseWeeks
+from .swaps import Kind, NurseWeeks, by_nurse
 from .ward import ALWAYS_OFF, WardPlan
 
 # The cost of a new shift of a nurse, in points, in addition to the charges of the rules; and on a day that she has agreed on. It is less
@@ -154,20 +153,17 @@ class _Judge:
     """Judges assignments by the rules, by what they should keep, and by how they differ from the old plan."""
 
     def __init__(self, old: WardPlan, plan: WardPlan) -> None:
-        self._plan, self._alone, self._before = plan, NurseWeeks(plan), _by_nurse(plan, old.works)
-        self._held = _by_nurse(plan, plan.held)
+        self._plan, self._alone, self._before = plan, NurseWeeks(plan), by_nurse(plan, old.works)
         self._beside, self._agreed = days_off_beside_absences(old), frozenset(old.state.agreed)
         self._known: Dict[Tuple[str, Tuple[Cell, ...]], _Value] = {}
 
     def value(self, works: Works) -> _Value:
         """The value of assignments."""
         parts = [self._place_value(works)]
-        for nurse, cells in _by_nurse(self._plan, works).items():
+        for nurse, cells in by_nurse(self._plan, works).items():
             key = nurse, tuple(sorted(cells.values(), key=lambda cell: cell.day))
             if key not in self._known:
-                self._known[key] = _Value(
-                    self._broken(nurse, cells), self._not_kept(nurse, cells), self._points(nurse, cells), self._changes(nurse, cells)
-                )  # fmt: skip
+                self._known[key] = self._nurse_value(nurse, cells)
             parts.append(self._known[key])
         return _Value(*map(sum, zip(*parts)))
 
@@ -180,19 +176,13 @@ class _Judge:
             missing += max(0, asked.optimal - number[place])
         return _Value(below, 0, MISSING_NURSE * missing, 0)
 
-    def _broken(self, nurse: str, cells: Mapping[int, Cell]) -> int:
-        """How often these assignments of a nurse break a hard rule."""
-        plan, types, skills = self._plan, self._plan.scenario.shift_types, self._plan.scenario.nurses[nurse].skills
-        last = plan.past.nurses[nurse].last_shift
-        shift_on = {**({plan.first - 1: last} if last else {}), **{day: cell.shift for day, cell in cells.items()}}
-        follows = sum(shift in types[shift_on[day - 1]].forbidden_next for day, shift in shift_on.items() if day - 1 in shift_on)
-        lost = sum(cells.get(day) != held for day, held in self._held[nurse].items())
-        return follows + lost + sum(cell.skill not in skills for cell in cells.values())
-
-    def _not_kept(self, nurse: str, cells: Mapping[int, Cell]) -> int:
-        """How much they do not keep of absences, of limits that hold, and beside days away."""
-        working = sum(is_broken_by(self._plan.absences, cell) for cell in cells.values())
-        return working + self._alone.excess(nurse, cells) + self._alone.excess_beside(nurse, cells)
+    def _nurse_value(self, nurse: str, cells: Mapping[int, Cell]) -> _Value:
+        """What the shifts of a nurse add: the hard rules that they break, what they do not keep of absences, of limits that hold and beside
+        days away, what they cost, and how much they change."""
+        faults = self._alone.faults(nurse, cells)
+        working = sum(fault.kind in (Kind.AWAY, Kind.NEVER) for fault in faults)
+        not_kept = working + self._alone.excess(nurse, cells) + self._alone.excess_beside(nurse, cells)
+        return _Value(len(faults) - working, not_kept, self._points(nurse, cells), self._changes(nurse, cells))
 
     def _points(self, nurse: str, cells: Mapping[int, Cell]) -> int:
         """What the nurse is charged, with the points of her changes, as a search counts them; a nurse without shifts in the old plan may
@@ -207,14 +197,6 @@ class _Judge:
         """The days of the nurse with another shift or skill: of equal plans the one with fewer of them is better."""
         before = self._before[nurse]
         return sum(before.get(day) != cells.get(day) for day in {*before, *cells})
-
-
-def _by_nurse(plan: WardPlan, works: Works) -> Dict[str, Dict[int, Cell]]:
-    """The assignments of each nurse, by day."""
-    found: Dict[str, Dict[int, Cell]] = {nurse: {} for nurse in plan.scenario.nurses}
-    for (nurse, day), cell in works.items():
-        found.setdefault(nurse, {})[day] = cell
-    return found
 
 
 def without_needless_changes(old: WardPlan, new: WardPlan, clock: Callable[[], float] = time.monotonic) -> WardPlan:

@@ -31,11 +31,37 @@ class Above(NamedTuple):
     cells: Tuple[Cell, ...]
 
 
+class Kind(enum.Enum):
+    """Why a nurse cannot have some shifts: a limit that holds, a row or a night beside days away, a shift that is held, a day on which she
+    is away, a shift type that she never works, a skill that she does not have, and a shift type that may not follow another one."""
+
+    LIMIT = enum.auto()
+    BESIDE = enum.auto()
+    HELD = enum.auto()
+    AWAY = enum.auto()
+    NEVER = enum.auto()
+    SKILL = enum.auto()
+    FOLLOWS = enum.auto()
+
+
+class Fault(NamedTuple):
+    """Why a nurse cannot have some shifts: on a day, a word for why she is away, a shift type or a skill, and the shift type before it;
+    or what she has above limits, or what is wrong beside her days away."""
+
+    kind: Kind
+    nurse: str
+    day: int = 0
+    what: str = ""
+    before: str = ""
+    above: Tuple[Above, ...] = ()
+    beside: Optional[Beside] = None
+
+
 class NurseWeeks:
     """The weeks of a plan that are not over as each nurse has them, as if the ward had her alone and needed nobody."""
 
     def __init__(self, plan: WardPlan) -> None:
-        self._plan = plan
+        self._plan, self._held = plan, by_nurse(plan, plan.held)
         self._data: Dict[Tuple[str, int], WeekData] = {
             (nurse, number): _of_nurse(plan.data[number], nurse) for nurse in plan.scenario.nurses for number in plan.weeks
         }
@@ -53,6 +79,28 @@ class NurseWeeks:
     def cost(self, nurse: str, cells: NurseCells) -> int:
         """What the nurse is charged for these shifts."""
         return sum(sum(costs(week, of_week).values()) for week, of_week in self._weeks(nurse, cells))
+
+    def faults(self, nurse: str, cells: NurseCells) -> List[Fault]:
+        """The hard rules, absences and held shifts that these shifts break, each by itself, in the order of days."""
+        types, last = self._plan.scenario.shift_types, self._plan.past.nurses[nurse].last_shift
+        shift_on = {**({self._plan.first - 1: last} if last else {}), **{day: cell.shift for day, cell in cells.items()}}
+        found = [Fault(Kind.HELD, nurse, day) for day, cell in self._held[nurse].items() if cells.get(day) != cell]
+        for cell in cells.values():
+            found += self._cell_faults(cell)
+            before = shift_on.get(cell.day - 1)
+            if before and cell.shift in types[before].forbidden_next:
+                found.append(Fault(Kind.FOLLOWS, nurse, cell.day, cell.shift, before))
+        return sorted(found, key=lambda fault: fault.day)
+
+    def _cell_faults(self, cell: Cell) -> Iterator[Fault]:
+        """Why the nurse cannot have this shift alone."""
+        why = self._plan.away.get(NurseDay(cell.nurse, cell.day))
+        if why:
+            yield Fault(Kind.AWAY, cell.nurse, cell.day, why)
+        elif is_broken_by(self._plan.absences, cell):
+            yield Fault(Kind.NEVER, cell.nurse, cell.day, cell.shift)
+        if cell.skill not in self._plan.scenario.nurses[cell.nurse].skills:
+            yield Fault(Kind.SKILL, cell.nurse, cell.day, cell.skill)
 
     def above(self, nurse: str, cells: NurseCells) -> List[Above]:
         """What these shifts of the nurse have above limits that hold."""
@@ -82,6 +130,14 @@ def _of_nurse(data: WeekData, nurse: str) -> WeekData:
     return replace(data, requirements={}, requests=requests, limits=frozenset(limit for limit in data.limits if limit.nurse == nurse))
 
 
+def by_nurse(plan: WardPlan, works: Mapping[NurseDay, Cell]) -> Dict[str, Dict[int, Cell]]:
+    """The shifts of each nurse, by day."""
+    found: Dict[str, Dict[int, Cell]] = {nurse: {} for nurse in plan.scenario.nurses}
+    for (nurse, day), cell in works.items():
+        found.setdefault(nurse, {})[day] = cell
+    return found
+
+
 class Swap(NamedTuple):
     """Two nurses who change places on these days of the plan."""
 
@@ -102,32 +158,6 @@ class Offer(NamedTuple):
     swap: Swap
 
 
-class Kind(enum.Enum):
-    """Why a swap cannot be: a limit that holds, a row or a night beside days away, a shift that is held, a nurse who is away, who never
-    works a shift type, or who does not have a skill, and a shift type that may not follow another one."""
-
-    LIMIT = enum.auto()
-    BESIDE = enum.auto()
-    HELD = enum.auto()
-    AWAY = enum.auto()
-    NEVER = enum.auto()
-    SKILL = enum.auto()
-    FOLLOWS = enum.auto()
-
-
-class Fault(NamedTuple):
-    """Why a nurse cannot have the shifts of a swap: on a day, a word for why she is away, a shift type or a skill, and the shift type
-    before it; or what she has above limits, or what is wrong beside her days away."""
-
-    kind: Kind
-    nurse: str
-    day: int = 0
-    what: str = ""
-    before: str = ""
-    above: Tuple[Above, ...] = ()
-    beside: Optional[Beside] = None
-
-
 def swapped(cells: Sequence[Cell], swap: Swap) -> List[Cell]:
     """The shifts after the swap."""
     others = {swap.one: swap.other, swap.other: swap.one}
@@ -139,9 +169,7 @@ class Swaps:
 
     def __init__(self, plan: WardPlan) -> None:
         self.plan = plan
-        self._cells: Dict[str, Dict[int, Cell]] = {nurse: {} for nurse in plan.scenario.nurses}
-        for cell in plan.cells:
-            self._cells[cell.nurse][cell.day] = cell
+        self._cells = by_nurse(plan, plan.works)
         self._alone = NurseWeeks(plan)
         self._costs = {nurse: self._alone.cost(nurse, cells) for nurse, cells in self._cells.items()}
 
@@ -181,30 +209,12 @@ class Swaps:
 
     def _faults(self, nurse: str, cells: NurseCells, days: Sequence[int]) -> Iterator[Fault]:
         """Why the nurse cannot have these shifts, of which those on these days are new."""
-        plan, before = self.plan, self._cells[nurse]
+        before = self._cells[nurse]
         if self._alone.excess(nurse, cells) > self._alone.excess(nurse, before):
             yield Fault(Kind.LIMIT, nurse, above=tuple(self._alone.above(nurse, cells)))
         if self._alone.excess_beside(nurse, cells) > self._alone.excess_beside(nurse, before):
             known = self._alone.beside(nurse, before)
             yield from (Fault(Kind.BESIDE, nurse, beside=one) for one in self._alone.beside(nurse, cells) if one not in known)
-        for day in days:
-            if NurseDay(nurse, day) in plan.held and cells.get(day) != before.get(day):
-                yield Fault(Kind.HELD, nurse, day)
-            if day in cells:
-                yield from self._cell_faults(cells[day])
-        last = plan.past.nurses[nurse].last_shift
-        shift_on = {plan.first - 1: last, **{day: cell.shift for day, cell in cells.items()}}
-        for day in sorted({*days, *(day + 1 for day in days)}):
-            earlier, now = shift_on.get(day - 1), shift_on.get(day)
-            if earlier and now and now in plan.scenario.shift_types[earlier].forbidden_next:
-                yield Fault(Kind.FOLLOWS, nurse, day, now, earlier)
-
-    def _cell_faults(self, cell: Cell) -> Iterator[Fault]:
-        """Why the nurse cannot have this shift alone."""
-        why = self.plan.away.get(NurseDay(cell.nurse, cell.day))
-        if why:
-            yield Fault(Kind.AWAY, cell.nurse, cell.day, why)
-        elif is_broken_by(self.plan.absences, cell):
-            yield Fault(Kind.NEVER, cell.nurse, cell.day, cell.shift)
-        if cell.skill not in self.plan.scenario.nurses[cell.nurse].skills:
-            yield Fault(Kind.SKILL, cell.nurse, cell.day, cell.skill)
+        for fault in self._alone.faults(nurse, cells):
+            if fault.day in days or (fault.kind is Kind.FOLLOWS and fault.day - 1 in days):
+                yield fault
