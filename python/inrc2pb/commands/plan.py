@@ -12,12 +12,12 @@ from ..plans.local_jobs import Jobs
 from ..plans.local_server import LOCAL, LocalServer
 from ..plans.outcome import Event, Outcome
 from ..plans.render import lines
-from ..plans.state import DayWord
+from ..plans.state import DayWord, NurseDay, in_plan
 from ..plans.store import Means, WardFolder
 from ..plans.verbs import Verbs
 from ..plans.ward import Ward
 from ..plans.ward_sheet import week_rows, with_written
-from ..plans.words import PlanDays
+from ..plans.words import WEEK_DAYS, PlanDays
 from ..programs.interrupts import interrupts
 from ..programs.program import find_program
 from ..programs.progress import Progress
@@ -25,6 +25,7 @@ from ..sheets.plan_sheets import AWAY, COUNTED, read_days
 from ..sheets.sheet_files import Book, read_book
 from ..sheets.ward_sheets import shift_times
 from ..week.faults import Misuse
+from ..week.records import WeekData
 from ..week.slots import did_you_mean
 from .command import check_seconds, number_of_seconds, parser
 from .ward import ward_files, ward_name
@@ -95,10 +96,21 @@ def _ward_of(sheets: Book, name: str, absences: Sequence[DayWord]) -> Ward:
     book = with_written(sheets, read_days(sheets), absences)
     days = read_days(book)
     files = ward_files(book, name, days, days.weeks, COUNTED)
+    scenario, history, claims, weeks = files.records
     return Ward(
         texts=files.texts,
         warnings=files.warnings,
         days=PlanDays(days.monday, days.weeks),
+        scenario=scenario,
+        past=history,
+        claims=tuple(claims),
+        weeks=tuple(WeekData(name, week.requirements, tuple(week.wishes)) for week in weeks),
+        held=in_plan([held.row for held in week.held] for week in weeks),
+        reasons={
+            NurseDay(nurse, WEEK_DAYS * number + day): word
+            for number, week in enumerate(weeks)
+            for (nurse, day), word in week.reasons.items()
+        },
         credit={nurse: shifts for nurse, (_, shifts) in files.credit.items()},
         times=shift_times(book),
         holidays=files.holidays,

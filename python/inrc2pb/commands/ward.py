@@ -15,7 +15,7 @@ from ..week.facts import Claim, facts_text
 from ..week.faults import FileFault, Misuse
 from ..week.files import history_text, scenario_text, solution_text, week_text
 from ..week.reasons import reasons_text
-from ..week.records import Scenario, Solution, WeekData
+from ..week.records import History, Scenario, Solution, WeekData
 from ..week.writing import replacing
 from ..week.hints import quoted
 from ..judging.odd_values import history_warnings, scenario_warnings, week_warnings
@@ -76,14 +76,25 @@ def _reasons(text: str) -> List[str]:
     return reasons
 
 
+class WardRecords(NamedTuple):
+    """What the files of a ward say, as records: the contracts, nurses and shift types, the history without days away, the facts, and what
+    the sheets say of each week."""
+
+    scenario: Scenario
+    history: History
+    claims: Sequence[Claim]
+    sheets: Sequence[WeekSheet]
+
+
 class WardFiles(NamedTuple):
-    """The text of each file by its name, warnings, for each nurse with days away that count as work these days and shifts, and the days
-    with numbers of their own."""
+    """The text of each file by its name, warnings, for each nurse with days away that count as work these days and shifts, the days with
+    numbers of their own, and the same as records."""
 
     texts: Dict[str, str]
     warnings: List[str]
     credit: Dict[str, Tuple[int, int]]
-    holidays: FrozenSet[int] = frozenset()
+    holidays: FrozenSet[int]
+    records: WardRecords
 
 
 def ward_files(book: Book, name: str, days: Days, weeks: int, reasons: Sequence[str], requests: bool = False) -> WardFiles:
@@ -118,7 +129,8 @@ def ward_files(book: Book, name: str, days: Days, weeks: int, reasons: Sequence[
     warnings += [f"sheet needs, week {', '.join(map(str, numbers))}: {line}" for line, numbers in odd.items()]
     warnings += [f"sheet needs: {line}" for line in supply_warnings(ward.scenario, history, datas)]
     holidays = frozenset(7 * number + day for number, sheet in enumerate(sheets) if len(sheet.holidays) < 7 for day in sheet.holidays)
-    return WardFiles(found, warnings, {nurse: (days, shifts[nurse]) for nurse, days in credit.items()}, holidays)
+    counted = {nurse: (days, shifts[nurse]) for nurse, days in credit.items()}
+    return WardFiles(found, warnings, counted, holidays, WardRecords(ward.scenario, ward.history, claims, sheets))
 
 
 def _week(scenario: Scenario, sheet: WeekSheet, claims: Sequence[Claim], number: int) -> WeekData:

@@ -24,8 +24,10 @@ from ..week.writing import write_text
 from .changes import CALL_POINTS, days_off_beside_absences, with_few_changes, with_old_skills
 from .outcome import Asked, Keep, KnownBound
 from .state import NurseDay, in_week
-from .ward import FACTS, WardPlan, limits_for_leavers
+from .ward import WardPlan, limits_for_leavers
 from .words import WEEK_DAYS
+
+_FACTS = "facts.txt"
 
 
 class Found(NamedTuple):
@@ -87,7 +89,7 @@ def _weeks(files: PeriodFiles, beside: DaysAway, calls: Calls) -> PlannedWeeks:
 
 def _files(old: WardPlan, asked: Asked, folder: Path) -> PeriodFiles:
     """The files of a search, in this folder."""
-    history, given = folder / history_name(old.state.open_week), folder / FACTS
+    history, given = folder / history_name(old.state.open_week), folder / _FACTS
     agreed = _kept_agreed(old, asked)
     claims = [*_later_claims(old, asked.first), *_past_claims(old, asked.first)]
     claims += _agreed_off(old, agreed) if asked.agreed is Keep.ALL else []
@@ -170,7 +172,7 @@ def why_no_plan(plan: WardPlan) -> Optional[Tuple[int, Shortage]]:
 def _week_files(plan: WardPlan, week: Week, folder: Path) -> WeekFiles:
     """The files of a week, in this folder."""
     number = week.history.week
-    paths = [folder / file for file in ("ward.txt", "history.txt", f"week-{number}.txt", f"fix-{number}.txt", FACTS)]
+    paths = [folder / file for file in ("ward.txt", "history.txt", f"week-{number}.txt", f"fix-{number}.txt", _FACTS)]
     texts = plan.ward.texts
     for path in paths:
         write_text(path, history_text(week.history) if path.name == "history.txt" else texts[path.name])

@@ -99,6 +99,11 @@ def in_week(cells: Iterable[Cell], week: int) -> Tuple[Cell, ...]:
     return tuple(cell._replace(day=cell.day % WEEK_DAYS) for cell in cells if cell.day // WEEK_DAYS == week)
 
 
+def in_plan(rosters: Iterable[Sequence[Cell]]) -> Tuple[Cell, ...]:
+    """The shifts of weeks, one after another from the first one on, with the days of the plan."""
+    return tuple(cell._replace(day=WEEK_DAYS * week + cell.day) for week, cells in enumerate(rosters) for cell in cells)
+
+
 # ---- the words of days away
 
 
@@ -226,17 +231,16 @@ def _rows(values: Dict[str, Any], name: str, fits: Sequence[Callable[[object], b
 
 def read_state(folder: Path) -> State:
     """Reads the folder of a plan."""
-    record, cells = read_record(folder), []
+    record = read_record(folder)
     planned = next((week for week in range(record.days.weeks) if not (folder / roster_name(week)).exists()), record.days.weeks)
-    for week in range(planned):
-        cells += [cell._replace(day=WEEK_DAYS * week + cell.day) for cell in read_solution(folder / roster_name(week)).cells]
+    cells = in_plan([read_solution(folder / roster_name(week)).cells for week in range(planned)])
     start = read_history(folder / START, read_scenario(folder / "ward.txt"))
     return State(
         days=record.days,
         start=start,
         open_week=record.open_week,
         planned=planned,
-        cells=tuple(cells),
+        cells=cells,
         published=record.published,
         absences=record.absences,
         agreed=record.agreed,

@@ -6,7 +6,7 @@ from typing import Callable, Dict, FrozenSet, Iterable, List, Mapping, Optional,
 
 from ..judging.absences import absences_of, readable
 from ..judging.days_away import DaysAway
-from ..judging.given import read_given, with_given
+from ..judging.given import with_given
 from ..judging.leave import credited
 from ..judging.next_history import next_history
 from ..sheets.plan_sheets import NOT_EMPLOYED
@@ -15,15 +15,12 @@ from ..shown.roster_view import RosterView, WeekView
 from ..week.dates import Times
 from ..week.facts import SHIFTS, Charged, Claim
 from ..week.faults import Misuse
-from ..week.files import read_history, read_scenario, read_solution, read_week
 from ..week.hints import plural
-from ..week.reasons import read_reasons
 from ..week.records import Absence, Cell, History, Place, Requirement, Scenario, Week, WeekData
 from .state import DayWord, NurseDay, State, in_week
 from .ward_sheet import WeekRow
 from .words import PERIOD_IS_OVER, WEEK_DAYS, PeriodOver, PlanDays
 
-FACTS, REASONS = "facts.txt", "reasons.txt"
 # The word for a day without a shift, and for one on which a nurse never works.
 OFF = ALWAYS_OFF = "off"
 # The reasons to be away that are work in a row, and those before which nobody should have a night shift.
@@ -32,54 +29,28 @@ _TRAINING, _FREE = ("training",), ("training", "leave", "unpaid")
 
 @dataclass(frozen=True)
 class Ward:
-    """What the spreadsheet says now, with the days away that verbs have written: the texts of the ward's files by their names, warnings,
-    the days of its plan, the shifts as which days away count, the times of shift types, the days whose needs have numbers of their own, as
-    those of bank holidays, and the rows of the needs that have a week."""
+    """What the spreadsheet says now, with the days away that verbs have written."""
 
+    # The texts of the ward's files by their names, for `inrc2pb` and for people; and what is odd in the spreadsheet.
     texts: Mapping[str, str]
     warnings: Sequence[str]
     days: PlanDays
+    # The contracts, nurses and shift types, with the parts of contracts that count, and the history without days away.
+    scenario: Scenario
+    past: History
+    # The absences and the limits that hold, as facts; the needs and wishes of each week; and the shifts that are fixed.
+    claims: Tuple[Claim, ...]
+    weeks: Tuple[WeekData, ...]
+    held: Tuple[Cell, ...]
+    # Why nurses are away, and the shifts as which days away count.
+    reasons: Mapping[NurseDay, str]
     credit: Mapping[str, int]
     times: Mapping[str, Times]
+    # The days whose needs have numbers of their own, as bank holidays have, and the rows of the needs that have a week.
     holidays: FrozenSet[int]
     week_rows: Sequence[WeekRow]
     # The ward of the same spreadsheet with other days away that verbs have written.
     with_absences: Callable[[Sequence[DayWord]], "Ward"]
-
-    @cached_property
-    def scenario(self) -> Scenario:
-        """The contracts, nurses and shift types, with the parts of contracts that count."""
-        return read_scenario("ward.txt", self.texts["ward.txt"])
-
-    @cached_property
-    def past(self) -> History:
-        """The history of the sheet nurses, without days away."""
-        history = read_history("history-0.txt", self.scenario, self.texts["history-0.txt"])
-        return credited(history, {nurse: -shifts for nurse, shifts in self.credit.items()})
-
-    @cached_property
-    def claims(self) -> Tuple[Claim, ...]:
-        """The absences and the limits that hold, as facts."""
-        return read_given(FACTS, self.scenario, self.texts[FACTS])
-
-    @cached_property
-    def weeks(self) -> Tuple[WeekData, ...]:
-        """The needs and wishes of each week, without its absences and limits."""
-        names = [f"week-{number}.txt" for number in range(self.days.weeks)]
-        return tuple(read_week(name, self.scenario, self.texts[name]) for name in names)
-
-    @cached_property
-    def held(self) -> Tuple[Cell, ...]:
-        """The shifts that the sheet plan fixes."""
-        names = [f"fix-{number}.txt" for number in range(self.days.weeks)]
-        rows = (read_solution(name, self.scenario, self.texts[name]).cells for name in names)
-        return tuple(cell._replace(day=WEEK_DAYS * number + cell.day) for number, cells in enumerate(rows) for cell in cells)
-
-    @cached_property
-    def reasons(self) -> Dict[NurseDay, str]:
-        """Why nurses are away, by words of the sheet plan."""
-        found = read_reasons(REASONS, self.scenario, self.texts[REASONS])
-        return {NurseDay(away.nurse, WEEK_DAYS * (away.week - 1) + away.day): word for away, word in found.items()}
 
     @cached_property
     def leaving(self) -> Dict[str, int]:

@@ -25,7 +25,6 @@ from inrc2pb.plans.words import PlanDays
 from inrc2pb.search.bounds import PLAIN, PROVER, Bound
 from inrc2pb.shown.page import page_text
 from inrc2pb.week.facts import Charged
-from inrc2pb.week.files import week_text
 from inrc2pb.week.records import Absence, Cell, Request
 
 BARE = PlanDays(None, 2)
@@ -46,8 +45,8 @@ class KeptTest(FolderTest):
 
     def with_wishes(self, plan, *weeks):
         """The plan with these wishes in its weeks."""
-        texts = {f"week-{number}.txt": week_text(replace(plan.ward.weeks[number], requests=wishes)) for number, wishes in enumerate(weeks)}
-        return replace(plan, ward=replace(plan.ward, texts={**plan.ward.texts, **texts}))
+        asked = [replace(week, requests=wishes) for week, wishes in zip(plan.ward.weeks, weeks)]
+        return replace(plan, ward=replace(plan.ward, weeks=(*asked, *plan.ward.weeks[len(weeks) :])))
 
     def agreed(self):
         """The nurses and days on which the plan that holds has a swap."""

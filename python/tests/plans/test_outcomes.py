@@ -7,14 +7,42 @@ from test_kept_plans import KeptTest
 from test_plans import DATES
 
 from inrc2pb.commands.plan import read_sheet
+from inrc2pb.judging.given import read_given
+from inrc2pb.judging.leave import credited
 from inrc2pb.plans import render, sentences
 from inrc2pb.plans.outcome import Away, Checked, Event, Offers, Published, Status, Swapped, Undone, WeekOver
-from inrc2pb.plans.state import BACK, NurseDay
+from inrc2pb.plans.state import BACK, DayWord, NurseDay, in_plan
 from inrc2pb.plans.store import Means, WardFolder
 from inrc2pb.plans.swaps import Kind, Swap
 from inrc2pb.plans.verbs import Verbs
 from inrc2pb.programs.progress import Progress
 from inrc2pb.week.faults import Misuse
+from inrc2pb.week.files import read_history, read_scenario, read_solution, read_week
+from inrc2pb.week.reasons import read_reasons
+
+
+class Records(KeptTest):
+    def test_a_ward_says_as_records_what_its_files_say(self):
+        self.rows["nurses"][3][5:] = ["3", "1", "Night", "2", "2", "0"]
+        self.rows["nurses"][4][3] = "Late"
+        self.rows["contracts"][1][2] = "20!"
+        self.rows["needs"].append(["1", "Day", "Nurse", *["0+1"] * 7])
+        self.rows["plan"][1][1:4] = ["leave", "wish", "no Night"]
+        self.rows["plan"][2][8:10] = ["Day/Charge", "unpaid"]
+        self.write()
+        written = (DayWord("Grace", 12, "ill"), DayWord("Amara", 0, BACK))
+        for ward in (read_sheet(self.ward, None, written), read_sheet(self.ward, None, ()).with_absences(written)):
+            texts, scenario = ward.texts, read_scenario("ward.txt", ward.texts["ward.txt"])
+            self.assertEqual(ward.scenario, scenario)
+            self.assertEqual(credited(ward.past, ward.credit), read_history("history-0.txt", scenario, texts["history-0.txt"]))
+            self.assertEqual(ward.claims, read_given("facts.txt", scenario, texts["facts.txt"]))
+            names = [f"week-{number}.txt" for number in (0, 1)]
+            self.assertEqual(ward.weeks, tuple(read_week(name, scenario, texts[name]) for name in names))
+            names = [f"fix-{number}.txt" for number in (0, 1)]
+            self.assertEqual(ward.held, in_plan(read_solution(name, scenario, texts[name]).cells for name in names))
+            found = read_reasons("reasons.txt", scenario, texts["reasons.txt"])
+            self.assertEqual(ward.reasons, {(one.nurse, 7 * (one.week - 1) + one.day): word for one, word in found.items()})
+            self.assertEqual(ward.reasons, {("Grace", 12): "ill", ("Bruno", 8): "unpaid"})
 
 
 class Outcomes(KeptTest):
