@@ -319,6 +319,16 @@ class Page(ServedPage):
         self.jobs.wait()
         self.assertIn("another verb was running, so this button did nothing: wait for its end, or stop it", self.asks()[1])
 
+    def test_the_points_of_the_plan_are_above_the_roster(self):
+        plan = self.write_plan()
+        self.assertIn(f'<p class="links">{plan.view().penalty} points. <a ', self.asks()[1])
+        # A plan that breaks a hard rule has none: nobody has the first night.
+        path = self.last() / "roster-0.txt"
+        path.write_text(path.read_text().replace("Dilek Mon Night Nurse\n", "").replace("ASSIGNMENTS = 33", "ASSIGNMENTS = 32"))
+        page = self.asks()[1]
+        self.assertIn('<p class="links"><a ', page)
+        self.assertNotIn(" points. ", page)
+
     def test_the_pages_that_are_linked(self):
         self.write_plan()
         page = self.asks()[1]
