@@ -209,6 +209,7 @@ if [ -z "$ending" ]; then
         'constraint 9 is not satisfied'
     sweeps_test "$PWD/$whole_runs" refused_memory::readers '2 cells'
     table scenario_read '(2, 1)'
+    table scenario_copied '(2, 1)'
     table history_read 1
     table week_read 7
     table certificate_read 3

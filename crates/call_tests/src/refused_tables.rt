@@ -18,10 +18,11 @@ fn print<T: Debug>(rt: &impl Print, found: &Result<T, FileFault>) -> io::Result<
     }
 }
 
-// The results made from a scenario's text and, except for the scenario, from another one.
+// The results made from a scenario's text and, except for the scenario and its copy, from another one.
 #[derive(Clone, Copy)]
 enum Table {
     Scenario,
+    Copy,
     History,
     Week,
     Certificate,
@@ -31,6 +32,11 @@ enum Table {
 // The numbers of weeks and nurses.
 fn weeks_and_nurses(scenario: &Scenario) -> (u16, u16) {
     (scenario.weeks(), scenario.nurses())
+}
+
+// The numbers of a copy.
+fn numbers_of_copy(alloc: Global, scenario: &Scenario) -> Result<(u16, u16), FileFault> {
+    Ok(weeks_and_nurses(&scenario.copy(alloc)?))
 }
 
 // The number of nurses with a row.
@@ -79,6 +85,7 @@ fn print_table(
 ) -> io::Result<()> {
     match table {
         Table::Scenario => print(rt, &Ok(weeks_and_nurses(scenario))),
+        Table::Copy => print(rt, &numbers_of_copy(alloc, scenario)),
         Table::History => print(rt, &rows_of_history(alloc, scenario)),
         Table::Week => print(rt, &demands_of_week(alloc, scenario)),
         Table::Certificate => print(rt, &count_of_nodes(alloc, scenario)),
@@ -96,6 +103,11 @@ fn read_and_print(rt: &impl Print, alloc: Global, table: Table) -> io::Result<()
 #[test]
 fn scenario_read(rt: HostRuntime) -> io::Result<()> {
     read_and_print(&rt, rt.alloc(), Table::Scenario)
+}
+
+#[test]
+fn scenario_copied(rt: HostRuntime) -> io::Result<()> {
+    read_and_print(&rt, rt.alloc(), Table::Copy)
 }
 
 #[test]

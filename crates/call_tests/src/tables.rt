@@ -1,7 +1,10 @@
 //! Rosters, truth values and names.
 use crate::week_files::{instance_of, one_nurse_one_shift};
 use indexmap::IndexSet;
-use rota_core::{Bits, Cell, Instance, Roster, add_name, index_of_name, is_name};
+use rota_core::{
+    Bits, Cell, FileFault, Instance, Roster, Scenario, add_name, index_of_name, is_name,
+};
+use rota_read::read_scenario;
 use std::alloc::Global;
 use std::test::Fail;
 
@@ -11,6 +14,29 @@ fn names_have_indices(rt: HostRuntime) -> Result<(), Fail> {
     add_name(rt.alloc(), &mut names, b"Ann")?;
     assert!(rt; index_of_name(&names, b"Ann") == Some(0) && !is_name(&names, b"Bob"));
     Ok(())
+}
+
+// The copy of a scenario that is freed before the copy is used.
+fn copied(alloc: Global) -> Result<Scenario, FileFault> {
+    let scenario = read_scenario(alloc, one_nurse_one_shift().scenario)?;
+    Ok(scenario.copy(alloc)?)
+}
+
+#[test]
+fn scenarios_are_copied(rt: HostRuntime) {
+    match copied(rt.alloc()) {
+        Ok(copy) => {
+            assert!(rt; copy.name() == b"s1".as_slice() && copy.weeks() == 2 && copy.nurses() == 1);
+            let found = (
+                copy.find_nurse(b"Ann"),
+                copy.find_shift(b"Day"),
+                copy.find_skill(b"Nurse"),
+                copy.find_nurse(b"Bob"),
+            );
+            assert!(rt; found == (Some(0), Some(0), Some(0), None));
+        }
+        Err(_) => panic!(rt; "no scenario"),
+    }
 }
 
 // The true values are at a word's last index, at the next word's first, and after two words that are all

@@ -4,7 +4,6 @@ use Rattle.rota_core.specs.Parts.{history_of}
 use Rattle.rota_core.specs.ScenarioTables.{ScenarioTables, numbers_of}
 use Rattle.rota_core.specs.WeekTables.{HistoryTables, IsHistory}
 use Rattle.rota_core.specs.declared.fault.FileName.TheVariants as names
-use Rattle.rota_layout.specs.Files.{Spells}
 use Rattle.rota_read.specs.HistoryLayout.{history}
 use Rattle.rota_read.specs.ScenarioLayout.{scenario}
 use Rattle.rota_pb.specs.RunPorts.{Reader}
@@ -12,9 +11,8 @@ use Rattle.rota_pb.specs.Steps.{Step, ◌>>=◌, find}
 use Rattle.rota_pb.specs.WeekFiles.{read_file}
 use Rattle.rota_bound_run.specs.declared.ward.Ward.{Ward}
 
--- the ward has a scenario with the text that spells it, and a history that fits it
+-- the ward's history fits its scenario
 pub record IsWard (ward : Ward) : Type 0 where
-  pub text : Spells scenario ward.text.items ward.scenario
   pub fits : (history_of ward.history).numbers ≡ numbers_of ward.scenario
   pub limits : IsHistory (history_of ward.history)
 

@@ -28,7 +28,7 @@ fn join(
     ensures { (join early ward.now later week).ends result }
 {
     let history = ward.history_at(alloc, later)?;
-    let scenario = ward.copy_scenario(alloc)?;
+    let scenario = ward.scenario.copy(alloc)?;
     Ok(Instance::join(scenario, history, week, early)?)
 }
 

@@ -1,12 +1,13 @@
 //! A scenario: the data that all weeks share.
 
-ghost use Rattle.std.specs.Prelude.{◌≡◌, ◌<◌, ◌+◌, ◌*◌, false, length, slice_get, slice_index_or};
+ghost use Rattle.std.specs.Prelude.{◌≡◌, ◌<◌, ◌+◌, ◌*◌, IfOk, false, length, slice_get, slice_index_or};
 ghost use Rattle.rota_core.specs.Words.{index_of};
 
 use crate::limits::{MAX_NURSES, MAX_SHIFTS, MAX_SKILLS};
-use crate::names::{index_of_name, name_at};
+use crate::names::{copy_names, index_of_name, name_at};
 use crate::values::{Contract, Span};
 use indexmap::IndexSet;
+use std::alloc::{AllocError, Global};
 use std::marker::Model;
 
 /// The rows of a scenario, not checked. Names are bytes, numbered from 0 in the order of the sets.
@@ -66,6 +67,27 @@ impl Scenario {
         ensures { result ≡ scenario_of parts }
     {
         Scenario { parts }
+    }
+
+    /// A copy of the scenario, which shares no memory with it. The only error is that memory runs out.
+    pub fn copy(&self, alloc: Global) -> Result<Scenario, AllocError>
+        ensures { IfOk result (λ copy. copy ≡ self.now) }
+    {
+        let parts = &self.parts;
+        Ok(Scenario {
+            parts: ScenarioParts {
+                name: Vec::from_slice(alloc, &parts.name)?,
+                weeks: parts.weeks,
+                skills: copy_names(alloc, &parts.skills)?,
+                shifts: copy_names(alloc, &parts.shifts)?,
+                nurses: copy_names(alloc, &parts.nurses)?,
+                limits: Vec::from_slice(alloc, &parts.limits)?,
+                forbidden: Vec::from_slice(alloc, &parts.forbidden)?,
+                contracts: Vec::from_slice(alloc, &parts.contracts)?,
+                contract_of: Vec::from_slice(alloc, &parts.contract_of)?,
+                has_skill: Vec::from_slice(alloc, &parts.has_skill)?,
+            },
+        })
     }
 
     /// The number of weeks of the scenario, 1 to `MAX_WEEKS`.

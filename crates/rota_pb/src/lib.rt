@@ -46,5 +46,7 @@ pub use file_bytes::read_file;
 pub use period_fault::{PeriodFault, period_status};
 pub use report::write_report;
 pub use roster_files::{read_held, read_roster};
-pub use week_files::{Choice, read_history_from, read_instance, read_week_from};
+pub use week_files::{
+    Choice, read_history_from, read_instance, read_scenario_from, read_week_from,
+};
 pub use written_solution::write_solution;

@@ -25,7 +25,8 @@ pub struct Choice {
     pub fixed: bool,
 }
 
-fn read_scenario_from<S: Source>(alloc: Global, source: &mut S) -> Result<Scenario, Fault>
+/// Reads a scenario's file to its end, or to one byte more than it may have.
+pub fn read_scenario_from<S: Source>(alloc: Global, source: &mut S) -> Result<Scenario, Fault>
     ensures { (file_reading names.Scenario scenario_layout (reader_of S.Source source.old source.new)).ends result }
 {
     let text = read_file(alloc, source)?;
