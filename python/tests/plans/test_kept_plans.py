@@ -66,6 +66,20 @@ class Words(KeptTest):
         says = ["Amara, Mon of week 0: ill instead of Day Nurse", "Bruno, Mon of week 0: Day Nurse instead of off"]
         self.assertEqual((change_lines(changes, BARE, away), call_lines(changes, away)), (says, ["1 nurse to call: Bruno"]))
 
+    def test_who_works_though_she_is_away_is_told(self):
+        # Grace works Day on Wednesday and Friday of both weeks, and Amara Day in charge on Monday.
+        self.rows["plan"][7][3] = self.rows["plan"][7][5] = self.rows["plan"][7][12] = "ill"
+        self.rows["plan"][1][1] = "leave"
+        self.write()
+        says = [
+            "week 0: no plan was found that keeps every absence: Amara works Day on Mon 30 Nov, Grace works Day on Wed 2 Dec and Fri 4 Dec",
+            "week 0: lower the minimum of Charge and Nurse in the sheet needs, or give someone the skill",
+            "week 1: no plan was found that keeps every absence: Grace works Day on Fri 11 Dec",
+            "week 1: lower the minimum of Nurse in the sheet needs, or give someone the skill",
+        ]
+        self.assertEqual(unkept_lines(self.read(), unkept(self.read())), says)
+        self.assertEqual(unkept_lines(self.plan, unkept(self.plan)), [])
+
     def test_lost_wishes(self):
         plan = self.with_wishes(self.plan, (Request("Grace", None, 4), Request("Chen", "Night", 4), Request("Ewa", None, 0)), ())
         refused = ["wish not granted: Grace, off on Fri 4 Dec", "wish not granted: Chen, no Night on Fri 4 Dec"]
