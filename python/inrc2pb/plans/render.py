@@ -27,6 +27,9 @@ from .words import PERIOD_IS_OVER, WEEK_DAYS
 # The most swaps that are offered.
 MOST_OFFERS = 8
 UNKNOWN_BOUND = "how much less another plan can cost is not known"
+# What a search says before it begins anew.
+WITHOUT_AGREED = "no plan was found that keeps all agreed swaps: a search for one that may break them"
+FOR_REASON = "no plan was found: a search for the reason, at most 30 s for each week"
 
 
 @singledispatch
@@ -39,18 +42,19 @@ def lines(outcome: Outcome, write: str = "") -> List[str]:
 
 
 def warning_lines(found: Checked) -> List[str]:
-    """What is odd in the spreadsheet and the folder, before a search."""
+    """What is odd in the spreadsheet and in the folder, as a search says before it begins."""
     told = [
         f"{name} shows another plan than the one that holds, as if a run was killed: the verbs plan and page write it anew"
         for name in found.other_pages
     ]
-    return [*told, *found.plan.ward.warnings, *anew_lines(found.anew, found.plan.days)]
+    warnings = [*told, *found.plan.ward.warnings, *anew_lines(found.anew, found.plan.days)]
+    return [readable(f"warning: {line}") for line in warnings]
 
 
 @lines.register
 def _checked_lines(found: Checked, write: str = "") -> List[str]:
     plan = found.plan
-    said = [f"warning: {line}" for line in (*warning_lines(found), *exceeded_lines(plan), *beside_lines(plan))]
+    said = [*warning_lines(found), *(f"warning: {line}" for line in (*exceeded_lines(plan), *beside_lines(plan)))]
     if plan.is_planned and plan.weeks:
         said += plain_breach_lines(plan.view())
     said = [*(said or ["No mistake found."]), "", *_ward_lines(plan)]

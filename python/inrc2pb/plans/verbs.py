@@ -8,7 +8,6 @@ from dataclasses import replace
 from pathlib import Path
 from typing import Callable, Dict, Optional, Sequence, TypeVar, Union
 
-from ..judging.absences import readable
 from ..judging.demand import Reach, reach_of
 from ..judging.next_history import next_history
 from ..programs.interrupts import interrupts
@@ -91,8 +90,7 @@ def _plan(store: PlanStore, event: Event) -> Outcome:
     """Plans the weeks that are not over, or what is left of them from a day on."""
     old = store.current()
     first = events.first_day(old, event)
-    for warning in render.warning_lines(Checked(old, anew=store.anew(old))):
-        store.means.say(f"warning: {readable(warning)}")
+    _say(store, render.warning_lines(Checked(old, anew=store.anew(old))))
     few = old.state.published and old.is_planned and not event.free
     asked = Asked(first, few, event.seconds or WEEK_SECONDS * len(old.weeks))
     keeping = replace(old, limits=limits_of(old.ward, old.state, first))
@@ -179,7 +177,7 @@ def _found(store: PlanStore, old: WardPlan, asked: Asked) -> Found:
     except ProgramFault as fault:
         if fault.status != NO_ROSTER:
             raise
-    store.means.say("no plan was found that keeps all agreed swaps: a search for one that may break them")
+    store.means.say(render.WITHOUT_AGREED)
     free = search_plan(old, asked._replace(agreed=Keep.MOST), store.means.progress)
     return firm if firm and len(unkept(firm.plan)) <= len(unkept(free.plan)) else free
 
@@ -188,7 +186,7 @@ def _no_plan(store: PlanStore, old: WardPlan, fault: ProgramFault, absence: Opti
     """Which minimum numbers to lower, if that is why there is no plan."""
     if fault.status != NO_ROSTER:
         raise fault
-    store.means.say("no plan was found: a search for the reason, at most 30 s for each week")
+    store.means.say(render.FOR_REASON)
     why = why_no_plan(old)
     if why is None:
         raise fault
