@@ -1,16 +1,13 @@
 -- Lists of the pasts of nurses.
-use Rattle.std.proofs.Common.{◌≡◌, ℕ, zero, suc, ◌+◌, ◌≤◌, ◌<◌, refl, ap, sym, ◌∙◌, arith, List, [], ◌∷◌, ◌++◌, length, length-append, inl, inr, get_or}
+use Rattle.std.proofs.Common.{◌≡◌, ℕ, ◌+◌, ◌≤◌, ◌<◌, refl, ap, sym, ◌∙◌, arith, List, [], ◌∷◌, ◌++◌, length, length-append, inl, inr, get_or}
 use Rattle.std.specs.Prelude.{slice_index_or}
-use Rattle.std.specs.List.{AllByRecursion}
 use Rattle.std.proofs.Math.ListN.{get_or-append, set}
 use Rattle.std.proofs.Math.Seq.{get_or-append_seam}
 use Rattle.std.proofs.lemmas.Bool.{cases_lt}
 use Rattle.std.proofs.lemmas.Grind.{get_or-set_at}
 use Rattle.std.proofs.lemmas.List.{get_or-set_other, length-set}
 use Rattle.rota_core.specs.Defaults.{no_past}
-use Rattle.rota_core.specs.WeekTables.{IsPast}
 use Rattle.rota_core.specs.declared.values.Past.{Past}
-use Rattle.rota_certificate.specs.Nearness.{IsNear}
 use Rattle.rota_certificate.specs.Plans.{History}
 use Rattle.rota_bound_run.specs.JudgedWeeks.{ArePastsIn}
 
@@ -34,42 +31,11 @@ one-past-more history pasts more n past are is past_is = record {
   ];
 }
 
--- a past that is near a day is near each later day
-pub near-later : (shifts day later : ℕ) (past : Past) → day ≤ later → IsNear shifts day past → IsNear shifts later past
-near-later shifts day later past more near = record {
-  assignments = omega (arith, near.assignments, more);
-  weekends = omega (arith, near.weekends, more);
-  last = near.last;
-  shift_run = omega (arith, near.shift_run, more);
-  work_run = omega (arith, near.work_run, more);
-  off_run = omega (arith, near.off_run, more);
-}
-
--- a past within the limits of a history's file is near the first day
-pub near-first : (shifts : ℕ) (past : Past) → IsPast shifts past → IsNear shifts 0 past
-near-first shifts past is = record {
-  assignments = omega (arith, is.totals.0);
-  weekends = omega (arith, is.totals.1);
-  last = is.last;
-  shift_run = omega (arith, is.runs.0);
-  work_run = omega (arith, is.runs.1);
-  off_run = omega (arith, is.runs.2);
-}
-
-pub past-at : (shifts : ℕ) (pasts : List Past) (n : ℕ) (past : Past) → AllByRecursion (IsPast shifts) pasts → n < length pasts →
-    IsPast shifts (slice_index_or pasts n past)
-past-at shifts [] n past all inside = absurd (omega (arith, inside))
-past-at shifts (first ∷ later) zero past all inside = all.0
-past-at shifts (first ∷ later) (suc n) past all inside = past-at shifts later n past all.1 (omega (arith, inside))
-
 -- of this list, the pasts of the first nurses are those after a week, and the others are those before it
 pub record IsPartlyAfter (history : History) (before now : List Past) (i : ℕ) : Type 0 where
   pub count : length now ≡ length before
   pub first : (n : ℕ) → n < i → slice_index_or now n no_past ≡ history n
   pub others : (n : ℕ) → i ≤ n → slice_index_or now n no_past ≡ slice_index_or before n no_past
-
-pub none-after : (history : History) (before : List Past) → IsPartlyAfter history before before 0
-none-after history before = record { count = refl; first = λ n n_in. absurd (omega (arith, n_in)); others = λ n n_in. refl }
 
 -- the past of one more nurse is the one after the week
 pub one-more-after : (history : History) (before now : List Past) (i : ℕ) (past : Past) → IsPartlyAfter history before now i →
@@ -84,7 +50,3 @@ one-more-after history before now i past are inside is = record {
   ];
   others = λ n n_in. get_or-set_other now i n past no_past (λ same. omega (arith, n_in, same)) ∙ are.others n (omega (arith, n_in));
 }
-
-pub all-after : (history : History) (before now : List Past) (n : ℕ) → IsPartlyAfter history before now n → length before ≡ n →
-    ArePastsIn n history now
-all-after history before now n are all = record { count = are.count ∙ all; each = are.first }

@@ -1,7 +1,7 @@
 -- The text of an answer.
 use Rattle.std.specs.Prelude.{ℕ, List, [], ◌++◌, codes, Bool, Option, None, Some, if◌then◌else◌}
 use Rattle.rota_pb.specs.Report.{number_line}
-use Rattle.rota_bound_run.specs.declared.answer.Answer.{Answer}
+use Rattle.rota_bound_run.specs.declared.answer.PeriodAnswer.{PeriodAnswer}
 use Rattle.rota_bound_run.specs.declared.claims.Claim.{Claim}
 use Rattle.rota_bound_run.specs.declared.claims.Claim.TheVariants.{AtLeast, NoRoster, Unknown}
 
@@ -21,5 +21,5 @@ abbrev pub optimal_line : Bool → List ℕ
 optimal_line optimal = (if optimal then codes "optimal\n" else [])
 
 -- the whole text
-abbrev pub bound_text : Answer → List ℕ
+abbrev pub bound_text : PeriodAnswer → List ℕ
 bound_text answer = claim_line answer.claim ++ penalty_line answer.penalty ++ optimal_line answer.optimal

@@ -5,7 +5,7 @@ use Rattle.rota_core.specs.Problem.{Problem}
 use Rattle.rota_core.specs.RosterTables.{set_of}
 use Rattle.rota_certificate.specs.Optimality.{AreOptimal, HaveNoPlan, NoneCostLess}
 use Rattle.rota_certificate.specs.Facts.{Case}
-use Rattle.rota_bound_run.specs.declared.answer.Answer.{Answer}
+use Rattle.rota_bound_run.specs.declared.answer.PeriodAnswer.{PeriodAnswer}
 use Rattle.rota_bound_run.specs.declared.claims.Claim.{Claim}
 use Rattle.rota_bound_run.specs.declared.claims.Claim.TheVariants.{AtLeast, NoRoster, Unknown}
 use Rattle.rota_bound_run.specs.declared.judged.Judged.{Judged}
@@ -17,7 +17,7 @@ Holds weeks given NoRoster = HaveNoPlan weeks given
 Holds weeks given Unknown = Unit {0}
 
 -- The claim holds. The penalty is the rosters', if there are any. If the answer says so, they are optimal.
-pub record IsTrue (weeks : List InstanceTables) (given : Case) (judged : Option Judged) (answer : Answer) : Type 0 where
+pub record IsTrue (weeks : List InstanceTables) (given : Case) (judged : Option Judged) (answer : PeriodAnswer) : Type 0 where
   pub holds : Holds (map problem_of weeks) given answer.claim
   pub penalty : answer.penalty ≡ option_map (λ (j : Judged). j.penalty) judged
   pub optimal : answer.optimal ≡ true →

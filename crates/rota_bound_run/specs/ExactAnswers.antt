@@ -6,7 +6,7 @@ use Rattle.rota_core.specs.declared.certificate.Certificate.{Certificate}
 use Rattle.rota_certificate.specs.CertificateBounds.{lower_bound, minimums_bound}
 use Rattle.rota_certificate.specs.Facts.{Case}
 use Rattle.rota_bound_run.specs.Claims.{IsTrue}
-use Rattle.rota_bound_run.specs.declared.answer.Answer.{Answer}
+use Rattle.rota_bound_run.specs.declared.answer.PeriodAnswer.{PeriodAnswer}
 use Rattle.rota_bound_run.specs.declared.claims.Claim.{Claim}
 use Rattle.rota_bound_run.specs.declared.claims.Claim.TheVariants.{AtLeast, NoRoster, Unknown}
 use Rattle.rota_bound_run.specs.declared.judged.Judged.{Judged}
@@ -29,7 +29,7 @@ is_at_bound Unknown judged = false
 
 -- The answer is true. It claims what the certificate proves, and says that the rosters are optimal if and only if their penalty is the bound.
 pub record IsAnswer (minimums : Bool) (weeks : List InstanceTables) (given : Case) (certificate : Certificate) (judged : Option Judged)
-    (answer : Answer) : Type 0 where
+    (answer : PeriodAnswer) : Type 0 where
   pub is_true : IsTrue weeks given judged answer
   pub claim : answer.claim ≡ claim_of minimums (map problem_of weeks) given certificate
   pub at_bound : answer.optimal ≡ is_at_bound answer.claim judged

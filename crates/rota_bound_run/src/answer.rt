@@ -11,7 +11,7 @@ use std::alloc::{AllocError, Global};
 
 /// The answer to the question about a period.
 #[derive(Drop)]
-pub struct Answer {
+pub struct PeriodAnswer {
     /// The claim that is proved.
     pub claim: Claim,
     /// The sum of the penalties of the given rosters.
@@ -47,13 +47,13 @@ pub(crate) fn answer_for(
     certificate: &Certificate,
     minimums: bool,
     judged: &Option<Judged>,
-) -> Result<Answer, AllocError>
+) -> Result<PeriodAnswer, AllocError>
     requires evidence { AreEvidence weeks.now given.now certificate.now }
     requires judged { IfSome judged.now (IsJudged weeks.now given.now) }
     ensures { IfOk result (IsAnswer minimums weeks.now given.now certificate.now judged.now) }
 {
     let claim = claim_of(alloc, weeks, given, certificate, minimums)?;
-    Ok(Answer {
+    Ok(PeriodAnswer {
         claim,
         penalty: penalty_in(judged),
         optimal: is_at_bound(claim, judged),

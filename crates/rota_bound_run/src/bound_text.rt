@@ -5,7 +5,7 @@ ghost use Rattle.rota_pb.specs.RunPorts.{writer_of};
 ghost use Rattle.rota_pb.specs.Steps.{send};
 ghost use Rattle.rota_bound_run.specs.BoundText.{bound_text, claim_line, optimal_line, penalty_line};
 
-use crate::answer::Answer;
+use crate::answer::PeriodAnswer;
 use crate::claims::Claim;
 use byte_ports::{PortFault, Target};
 use rota_pb::Fault;
@@ -54,7 +54,7 @@ fn put_optimal_line<W: Target>(sink: &mut Sink<W>, optimal: bool) -> Result<(), 
 }
 
 // Writes the whole text.
-fn put_answer<W: Target>(sink: &mut Sink<W>, answer: &Answer) -> Result<(), PortFault>
+fn put_answer<W: Target>(sink: &mut Sink<W>, answer: &PeriodAnswer) -> Result<(), PortFault>
     ensures takes { PutsText sink.old result (bound_text answer.now) sink.new }
     ensures for_good { sink_failed sink.old ≡ true → IsErr result }
 {
@@ -65,7 +65,7 @@ fn put_answer<W: Target>(sink: &mut Sink<W>, answer: &Answer) -> Result<(), Port
 
 /// Writes the text of the answer, a line for each fact. `Ok` means that the whole text is sent and flushed. The
 /// only error is `Write`, if the writer failed: it got a prefix of the text.
-pub(crate) fn write_answer<W: Target>(answer: &Answer, out: &mut W) -> Result<(), Fault>
+pub(crate) fn write_answer<W: Target>(answer: &PeriodAnswer, out: &mut W) -> Result<(), Fault>
     ensures { (send (writer_of W.Target out.old out.new) (bound_text answer.now)).ends result }
 {
     let mut sink = Sink::new(out);

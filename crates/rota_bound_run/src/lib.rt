@@ -16,7 +16,7 @@ mod run;
 mod ward;
 mod weeks;
 
-pub use answer::Answer;
+pub use answer::PeriodAnswer;
 pub use claims::Claim;
 pub use files::{PeriodFiles, Question, WeekFiles};
 pub use judged::Judged;

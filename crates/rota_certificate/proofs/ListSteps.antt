@@ -1,7 +1,7 @@
 -- A list from an index on: its first element and the rest, and sums over it.
-use Rattle.std.proofs.Common.{◌≡◌, ℕ, zero, suc, ◌+◌, ◌<◌, ◌≤◌, ap, sym, ◌∙◌, subst, arith, List, [], ◌∷◌, ◌++◌, length, drop, reverse, slice_index_or}
+use Rattle.std.proofs.Common.{◌≡◌, ℕ, zero, suc, ◌+◌, ◌<◌, ap, sym, ◌∙◌, subst, arith, List, [], ◌∷◌, ◌++◌, length, drop, reverse, slice_index_or}
 use Rattle.std.specs.List.{AllByRecursion, sum_by}
-use Rattle.std.proofs.lemmas.List.{drop_all, drop_more, reverse-append}
+use Rattle.std.proofs.lemmas.List.{drop_more, reverse-append}
 use Rattle.std.proofs.lemmas.List.Sums.{sum_by-cons}
 
 module _ {X : Type 0} where
@@ -11,9 +11,6 @@ module _ {X : Type 0} where
   pub sum-more : (f : X → ℕ) (xs : List X) (i : ℕ) (x : X) → i < length xs → x ≡ slice_index_or xs i x →
       sum_by f (drop i xs) ≡ f x + sum_by f (drop (i + 1) xs)
   sum-more f xs i x inside is = ap (sum_by f) (list-more xs i x inside is) ∙ sum_by-cons f x (drop (i + 1) xs)
-
-  pub sum-end : (f : X → ℕ) (xs : List X) (i : ℕ) → length xs ≤ i → sum_by f (drop i xs) ≡ 0
-  sum-end f xs i past = ap (sum_by f) (drop_all i xs past)
 
   pub all-of : (P : X → Type 0) (xs : List X) (i : ℕ) (d : X) → AllByRecursion P xs → i < length xs → P (slice_index_or xs i d)
   all-of P [] i d all inside = absurd (omega (arith, inside))

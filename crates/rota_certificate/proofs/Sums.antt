@@ -1,6 +1,6 @@
 -- Sums, tests and minimums over the numbers below a number.
 use Rattle.std.proofs.Common.{◌≡◌, ℕ, zero, suc, ◌+◌, ◌*◌, ◌<◌, ◌≤◌, ◌≢◌, ◌⊎◌, inl, inr, Bool, true, false, ◌||◌, refl, ap, sym, ◌∙◌, arith, min, add-one}
-use Rattle.std.proofs.lemmas.Bool.{cases_Bool, cases_lt}
+use Rattle.std.proofs.lemmas.Bool.{cases_Bool}
 use Rattle.rota_core.specs.SumsBelow.{sum_below, any_below}
 use Rattle.rota_certificate.specs.Minimums.{least_below}
 
@@ -201,16 +201,4 @@ least-at (suc n) start i f below =
     elim (last_or_before i n below) [
       | inl last ↦ omega (arith, ap f last)
       | inr before ↦ omega (arith, least-at n start i f before)
-    ]
-
--- a minimum below the start is one of the values
-pub least-found : (n start : ℕ) (f : ℕ → ℕ) → least_below n start f < start → (i : ℕ) × (i < n) × (f i ≡ least_below n start f)
-unfolding least_below
-least-found zero start f below = absurd (omega arith)
-least-found (suc n) start f below =
-    elim (cases_lt (f n) (least_below n start f)) [
-      | inl lower ↦ (n, omega arith, omega (arith, lower))
-      | inr not_lower ↦
-          let rest = least-found n start f (omega (arith, not_lower, below)) in
-          (rest.0, omega (arith, rest.1), omega (arith, rest.2, not_lower))
     ]
