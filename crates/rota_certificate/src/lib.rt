@@ -23,8 +23,9 @@ mod known;
 mod nurses;
 mod stages;
 
-// The demand of a place in a case, and the bounds of places.
+// The demand of a place in a case, its price, and the bounds of places.
 mod demand;
+mod place_prices;
 mod places;
 
 // The limits that conditions set, and the tariffs of a leaf.

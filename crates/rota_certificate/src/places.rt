@@ -4,7 +4,6 @@ ghost use Rattle.std.specs.Prelude.{◌≡◌, ◌≤◌, ◌<◌, ◌*◌, leng
 ghost use Rattle.rota_core.specs.InstanceTables.{IsInstance, problem_of};
 ghost use Rattle.rota_core.specs.Limits.{max_number, max_weeks};
 ghost use Rattle.rota_core.specs.PriceTables.{IsForWeek, prices_of};
-ghost use Rattle.rota_core.specs.Prices.{max_price};
 ghost use Rattle.rota_core.specs.SumsBelow.{sum_below};
 ghost use Rattle.rota_rules.specs.OptimalCoverage.{optimum_weight};
 ghost use Rattle.rota_certificate.specs.CaseLimits.{IsLimitedCase, IsLimitedDemand, most_nurses};
@@ -14,19 +13,19 @@ ghost use Rattle.rota_certificate.specs.PlaceBounds.{place_bound, place_cost};
 ghost use Rattle.rota_certificate.specs.PlaceCases.{case_place_bound, case_place_bounds};
 
 use crate::demand::{Place, case_demand};
+use crate::place_prices::PlacePrice;
 use crate::points::PointValue;
 use crate::stages::{LentLeaf, LentWeek};
 use rota_core::{Condition, DAYS, Demand, Instance};
 use rota_rules::OPTIMUM_WEIGHT;
 
 // The price of this number of nurses.
-fn price_of(price: u32, nurses: u16) -> u64
-    requires price_in { price ≤ max_price }
+fn price_of(price: PlacePrice, nurses: u16) -> u64
     requires nurses_in { nurses ≤ most_nurses }
     ensures product { result ≡ price * nurses }
     ensures small { result ≤ 10000000000000 }
 {
-    u64::from(price) * u64::from(nurses)
+    price.thousandths() * u64::from(nurses)
 }
 
 // The cost of this number of missing nurses.
@@ -38,8 +37,7 @@ fn missing_cost(unit: PointValue, missing: u16) -> u64
 }
 
 // The cost of this number of nurses at a place with this demand, and their prices.
-fn place_cost(unit: PointValue, demand: Demand, price: u32, nurses: u16) -> u64
-    requires price_in { price ≤ max_price }
+fn place_cost(unit: PointValue, demand: Demand, price: PlacePrice, nurses: u16) -> u64
     requires nurses_in { nurses ≤ most_nurses }
     ensures cost { result ≡ place_cost unit demand price nurses }
     ensures small { result ≤ 20000000000000 }
@@ -49,13 +47,12 @@ fn place_cost(unit: PointValue, demand: Demand, price: u32, nurses: u16) -> u64
 }
 
 // The minimum cost of the place with a number of nurses that is not below the minimum.
-fn place_bound(unit: PointValue, demand: Demand, price: u32) -> u64
-    requires price_in { price ≤ max_price }
+fn place_bound(unit: PointValue, demand: Demand, price: PlacePrice) -> u64
     requires demand { IsLimitedDemand most_nurses demand }
     ensures bound { result ≡ place_bound unit demand price }
     ensures small { result ≤ 20000000000000 }
 {
-    let nurses = if u64::from(price) < unit.times(u64::from(OPTIMUM_WEIGHT)) {
+    let nurses = if price.thousandths() < unit.times(u64::from(OPTIMUM_WEIGHT)) {
         demand.minimum.max(demand.optimal)
     } else {
         demand.minimum
@@ -69,10 +66,9 @@ fn case_place_bound(
     case: &[Condition],
     place: Place,
     demand: Demand,
-    price: u32,
+    price: PlacePrice,
 ) -> u64
     requires limited { IsLimitedCase case.now }
-    requires price_in { price ≤ max_price }
     requires demand { IsLimitedDemand max_number demand }
     ensures bound { result ≡ case_place_bound unit case.now place.week place.day place.shift place.skill demand price }
     ensures small { result ≤ 30000000000000 }
@@ -121,7 +117,7 @@ fn bounds_of_shift(
             skill,
         };
         let demand = demand_at(one.instance, day, shift, skill);
-        let price = one.prices.price(day, shift, skill);
+        let price = PlacePrice::new(one.prices.price(day, shift, skill));
         sum += case_place_bound(unit, case, place, demand, price);
     }
     sum
