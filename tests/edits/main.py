@@ -17,6 +17,7 @@ checks side by side. The run leaves the new record in out/edits, and prints an e
 """
 
 import shutil
+import signal
 import subprocess
 import sys
 from pathlib import Path
@@ -80,6 +81,11 @@ def prove(names: List[str]) -> bool:
     return not names or subprocess.run([build.ROOT / "build.py", *names]).returncode == 0
 
 
+def plural(count: int, what: str) -> str:
+    """The number with its word."""
+    return f"{count} {what}{'s' * (count != 1)}"
+
+
 def tried(crates: Dict[str, build.Crate], made: Plan, each_alone: bool) -> Dict[Edit, Outcome]:
     """Tries the edits of the plan. The record in `out/edits` has each as soon as it is refused, also if the run is ended."""
     by_crate: Dict[str, List[Edit]] = {}
@@ -97,7 +103,7 @@ def tried(crates: Dict[str, build.Crate], made: Plan, each_alone: bool) -> Dict[
     finally:
         shutil.rmtree(ROOMS, ignore_errors=True)
     if made.untried:
-        print(f"edits: {len(made.untried)} edits in {trials.checks} checks, {trials.processor:.0f} s of processor time")
+        print(f"edits: {plural(len(made.untried), 'edit')} in {plural(trials.checks, 'check')}, {trials.processor:.0f} s of processor time")
     return outcomes
 
 
@@ -185,8 +191,13 @@ def main(words: List[str]) -> int:
     if any(word.startswith("--") and word not in ("--anew", "--alone", "--both") for word in words):
         print(__doc__, file=sys.stderr)
         return 2
+    for one in (signal.SIGINT, signal.SIGTERM, signal.SIGHUP):
+        signal.signal(one, signal.default_int_handler)
     try:
         return run(words)
+    except KeyboardInterrupt:
+        print("edits: stopped; out/edits has what was tried", file=sys.stderr)
+        return 130
     except build.Failed as fault:
         print(f"edits: {fault}", file=sys.stderr)
         return 1

@@ -3,6 +3,7 @@
 import os
 import re
 import shutil
+import signal
 import subprocess
 import sys
 import threading
@@ -50,8 +51,9 @@ def keep(source: str, target: str) -> None:
         shutil.copy2(source, target)
 
 
-def check(crate: build.Crate, crates: Dict[str, build.Crate], edits: Iterable[Edit], room: Path) -> Check:
-    """Checks the crate with these edits in this room, over what its own check kept. Raises Unfit if they do not fit."""
+def check(crate: build.Crate, crates: Dict[str, build.Crate], edits: Iterable[Edit], room: Path, running: Set[int]) -> Check:
+    """Checks the crate with these edits in this room, over what its own check kept. Its process is among those that are running as long as
+    it is. Raises Unfit if the edits do not fit."""
     texts = edited(edits, crate.home)
     folder = build.furnish(room, crate, crates)
     try:
@@ -64,7 +66,9 @@ def check(crate: build.Crate, crates: Dict[str, build.Crate], edits: Iterable[Ed
         with (room / "log").open("wb") as log:
             words = ["rt", "check", "--jobs", "1"]
             process = subprocess.Popen(words, cwd=folder, stdin=subprocess.DEVNULL, stdout=log, stderr=subprocess.STDOUT)
+        running.add(process.pid)
         _, status, used = os.wait4(process.pid, 0)
+        running.discard(process.pid)
         process.returncode = os.waitstatus_to_exitcode(status)
         output = (room / "log").read_text(encoding="utf-8", errors="replace")
     finally:
@@ -141,27 +145,36 @@ class Trials:
             self.left += [one for round in rounds for one in (round.split() if each_alone else [round])]
         self.left.sort(key=lambda round: -len(round.edits))
         self.number, self.processor, self.checks = 0, 0.0, 0
+        self.running: Set[int] = set()
         self.began = time.monotonic()
 
     def run(self) -> Dict[Edit, Outcome]:
-        """Tries all."""
+        """Tries all; if that is broken off, it ends what runs."""
+        with ThreadPoolExecutor(lanes()) as pool:
+            try:
+                self.run_in(pool)
+            finally:
+                for process in list(self.running):
+                    os.kill(process, signal.SIGTERM)
+        return self.outcomes
+
+    def run_in(self, pool: ThreadPoolExecutor) -> None:
+        """Tries all, as many at a time as the pool has threads."""
         running: Dict["Future[Check]", Round] = {}
         count = lanes()
-        with ThreadPoolExecutor(count) as pool:
-            while self.left or running:
-                while self.left and len(running) < count:
-                    round = self.left.pop(0)
-                    running[pool.submit(self.check, round)] = round
-                for done in wait(running, return_when=FIRST_COMPLETED).done:
-                    self.settle(running.pop(done), done)
-        return self.outcomes
+        while self.left or running:
+            while self.left and len(running) < count:
+                round = self.left.pop(0)
+                running[pool.submit(self.check, round)] = round
+            for done in wait(running, return_when=FIRST_COMPLETED).done:
+                self.settle(running.pop(done), done)
 
     def check(self, round: Round) -> Check:
         """Checks a round."""
         with LOCK:
             self.number += 1
             room = ROOMS / str(self.number)
-        return check(self.crates[round.crate], self.crates, round.edits, room)
+        return check(self.crates[round.crate], self.crates, round.edits, room, self.running)
 
     def settle(self, round: Round, done: "Future[Check]") -> None:
         """Takes what a round came to; what it does not settle is tried alone."""

@@ -12,7 +12,7 @@
 # a definition that is `wrong` leaves a lemma without a proof. Each check is a line of `checks`: the crate, and the lines that are wrong.
 stand_in rt << 'END_OF_RT'
 #!/usr/bin/env python3
-import os, re, sys
+import os, re, sys, time
 from pathlib import Path
 
 name = Path.cwd().name
@@ -25,6 +25,9 @@ if sys.argv[1] == "lib":
         Path("out", file).parent.mkdir(parents=True, exist_ok=True)
         Path("out", file).write_text(name)
     sys.exit()
+if Path(os.environ["CALLS"], "waits").exists():
+    print(os.getpid(), file=Path(os.environ["CALLS"], "sleepers").open("a"), flush=True)
+    time.sleep(60)
 text, definition = Path("src/lib.rt").read_text(), Path("specs/Words.antt").read_text()
 with Path(os.environ["CALLS"], "checks").open("a") as file:
     print(name, *re.findall(r"wrong (\w+)|same (\w+)", text + definition), Path("out/incremental/proofs.oantt").read_text(), file=file)
@@ -189,8 +192,28 @@ one_by_one() {
     tells 'upper/second_forgotten: alone it is refused by other, and in a round by returns'
 }
 
+# A run that is stopped ends its checks, and keeps what was tried.
+stops() {
+    local run sleeper count=0
+    begins_case 'a signal'
+    touch "$room/waits"
+    CALLS=$room PATH=$room/bin:$PATH "$ward/tests/edits/main.py" --anew > "$room/out" 2>&1 &
+    run=$!
+    while [ ! -s "$room/sleepers" ] && [ $((count += 1)) -lt 100 ]; do sleep 0.1; done
+    kill $run
+    wait $run
+    [ $? = 130 ] || complain 'another status'
+    rm "$room/waits"
+    tells 'edits: stopped; out/edits has what was tried'
+    is_missing ward/out/edits/rooms
+    while read -r sleeper; do
+        [[ ! -d /proc/$sleeper || $(ps -o stat= -p "$sleeper") == Z* ]] || complain 'a process is left'
+    done < "$room/sleepers"
+}
+
 first_tries
 planted_edits
 planted_records
 one_by_one
+stops
 finish
