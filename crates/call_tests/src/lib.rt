@@ -18,6 +18,8 @@ mod memory_ports;
 #[cfg(test)]
 mod model_texts;
 #[cfg(test)]
+mod output_files;
+#[cfg(test)]
 mod own_source;
 #[cfg(test)]
 mod own_week;
