@@ -9,6 +9,7 @@ import struct
 import threading
 import time
 import unittest
+from dataclasses import replace
 from unittest import mock
 from urllib.parse import urlencode
 
@@ -16,7 +17,7 @@ from served_page import ServedPage
 from test_plans import DATED, DATES
 from ward import HAS_CBC, run
 
-from inrc2pb.plans.local_forms import event_of
+from inrc2pb.plans.local_forms import FORMS, event_of, form_markup
 from inrc2pb.plans.outcome import Event
 
 
@@ -210,6 +211,14 @@ class Page(ServedPage):
                 self.assertEqual(event_of({**form, **fields}, self.jobs.seconds), event)
         self.write_plan()
         self.assertEqual(self.asks()[1].count('name="seconds"'), 3)
+
+    def test_the_usual_seconds_of_a_search(self):
+        # Twenty for each week of a plan, and thirty for a change.
+        plan = self.write_plan()
+        found = {form.verb: re.findall('placeholder="([0-9]+)"', form_markup(form, plan, "/", "")) for form in FORMS}
+        self.assertEqual({verb: seconds for verb, seconds in found.items() if seconds}, {"plan": ["40"], "away": ["30"], "back": ["30"]})
+        ended = plan.with_state(replace(plan.state, open_week=1))
+        self.assertIn('placeholder="20"', form_markup(FORMS[1], ended, "/", ""))
 
     def test_a_verb_that_writes_asks_first(self):
         self.write_plan()
