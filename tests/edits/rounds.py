@@ -111,9 +111,9 @@ def rounds_of(edits: List[Edit], folder: Path) -> List[Round]:
     rounds: List[Round] = []
     for edit in edits:
         changed = places_of(edit, texts) or frozenset()
-        at = next((at for at, one in enumerate(rounds) if changed and can_join(edit, changed, one, folder)), None)
-        if at is None:
+        number = next((number for number, one in enumerate(rounds) if changed and can_join(edit, changed, one, folder)), None)
+        if number is None:
             rounds.append(Round((edit,), (changed,)))
         else:
-            rounds[at] = Round((*rounds[at].edits, edit), (*rounds[at].changes, changed))
+            rounds[number] = Round((*rounds[number].edits, edit), (*rounds[number].changes, changed))
     return rounds
