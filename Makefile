@@ -2,7 +2,6 @@
 
 PREFIX ?= /usr/local
 PROGRAM ?= out/inrc2pb
-FITS ?= out/inrc2pb-fits
 BOUND ?= out/inrc2pb-bound
 SHARE = $(DESTDIR)$(PREFIX)/share
 
@@ -79,7 +78,7 @@ deb: all
 BIN = $(DESTDIR)$(PREFIX)/bin
 PAGES = $(SHARE)/doc/inrc2pb
 ZSH = $(SHARE)/zsh/site-functions
-HELPERS = $(wildcard python/inrc2pb-*)
+COMMANDS = $(wildcard python/inrc2pb-*)
 MODULES = $(wildcard python/inrc2pb/*.py python/inrc2pb/*/*.py) python/inrc2pb/py.typed python/pyproject.toml
 TOP_PAGES = README.md CHANGELOG.md CONTRIBUTING.md
 COMPLETED = inrc2pb inrc2pb-bound
@@ -92,20 +91,18 @@ install:
 	mkdir -p "$(BIN)" "$(SHARE)/man/man1" "$(PAGES)/docs" "$(PAGES)/bench" $(COMPLETIONS)
 	install -m 755 "$(PROGRAM)" "$(BIN)/inrc2pb"
 	test ! -x "$(BOUND)" || install -m 755 "$(BOUND)" "$(BIN)/inrc2pb-bound"
-	test ! -x "$(FITS)" || install -m 755 "$(FITS)" "$(BIN)/inrc2pb-fits"
-	for helper in $(notdir $(HELPERS)); do install -m 755 python/launcher.py "$(BIN)/$$helper" || exit; done
+	for command in $(notdir $(COMMANDS)); do install -m 755 python/launcher.py "$(BIN)/$$command" || exit; done
 	for module in $(MODULES:python/%=%); do install -D -m 644 "python/$$module" "$(SHARE)/inrc2pb/$$module" || exit; done
 	install -m 644 man/*.1 "$(SHARE)/man/man1"
-	for helper in $(notdir $(HELPERS)); do echo '.so man1/inrc2pb-helpers.1' > "$(SHARE)/man/man1/$$helper.1"; done
 	for name in $(COMPLETED); do \
 	    install -m 644 "completions/$$name.bash" "$(SHARE)/bash-completion/completions/$$name" || exit; \
 	    install -m 644 "completions/_$$name" "$(ZSH)" || exit; \
 	done
 	for name in $(COMPLETED); do install -m 644 "completions/$$name.fish" "$(SHARE)/fish/vendor_completions.d" || exit; done
-	install -m 644 completions/_inrc2pb-helpers "$(ZSH)"
-	for helper in $(notdir $(HELPERS)); do \
-	    install -m 644 completions/inrc2pb-helpers.bash "$(SHARE)/bash-completion/completions/$$helper" || exit; \
-	    install -m 644 completions/inrc2pb-helpers.fish "$(SHARE)/fish/vendor_completions.d/$$helper.fish" || exit; \
+	install -m 644 completions/_inrc2pb-commands "$(ZSH)"
+	for command in $(notdir $(COMMANDS)); do \
+	    install -m 644 completions/inrc2pb-commands.bash "$(SHARE)/bash-completion/completions/$$command" || exit; \
+	    install -m 644 completions/inrc2pb-commands.fish "$(SHARE)/fish/vendor_completions.d/$$command.fish" || exit; \
 	done
 	install -m 644 $(TOP_PAGES) "$(PAGES)"
 	install -m 644 docs/*.md "$(PAGES)/docs"
@@ -117,12 +114,12 @@ install:
 
 # Removes the files of `install`, with the same PREFIX, and what Python made of the library; then its own folders, if they are empty.
 uninstall:
-	rm -f "$(BIN)/inrc2pb" "$(BIN)/inrc2pb-bound" "$(BIN)/inrc2pb-fits" \
+	rm -f "$(BIN)/inrc2pb" "$(BIN)/inrc2pb-bound" \
 	    $(patsubst man/%,"$(SHARE)/man/man1/%",$(wildcard man/*.1)) \
-	    $(foreach name,$(COMPLETED) $(notdir $(HELPERS)),"$(SHARE)/bash-completion/completions/$(name)" \
+	    $(foreach name,$(COMPLETED) $(notdir $(COMMANDS)),"$(SHARE)/bash-completion/completions/$(name)" \
 	    "$(SHARE)/fish/vendor_completions.d/$(name).fish") \
-	    $(foreach name,$(COMPLETED) inrc2pb-helpers,"$(ZSH)/_$(name)")
-	rm -f $(patsubst python/%,"$(BIN)/%",$(HELPERS)) $(patsubst python/%,"$(SHARE)/man/man1/%.1",$(HELPERS))
+	    $(foreach name,$(COMPLETED) inrc2pb-commands,"$(ZSH)/_$(name)")
+	rm -f $(patsubst python/%,"$(BIN)/%",$(COMMANDS))
 	for page in $(TOP_PAGES) docs/*.md bench/README.md bench/*.svg; do rm -f "$(PAGES)/$$page"; done
 	find examples -type f ! -name '*.sh' -exec rm -f "$(PAGES)/{}" \;
 	rm -f $(patsubst python/%,"$(SHARE)/inrc2pb/%",$(MODULES))

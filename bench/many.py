@@ -5,8 +5,8 @@
     bench/many.py run LINE              runs the command of a line, and prints its result as a line of JSON
     bench/many.py table RESULTS         prints a table of all results
 
-A line is a command of a shell, such as `inrc2pb-improve $WEEK --time 60 --seed 1 --sol {}/roster.txt` with a week's files. It
-runs in this clone's folder, which may be on another machine, with the clone's helpers first in PATH, and {} is an empty folder of
+A line is a command of a shell, such as `inrc2pb-solve $WEEK --time 60 --seed 1 --out {}/roster.txt` with a week's files. It
+runs in this clone's folder, which may be on another machine, with the clone's commands first in PATH, and {} is an empty folder of
 its own. bench/many.sh and bench/many_slurm.sh run the lines that are left, by GNU parallel and by Slurm.
 """
 

@@ -1,5 +1,5 @@
 #!/usr/bin/env python3
-"""Lets `inrc2pb-improve` plan random weeks from nothing, one after another, and says how many `inrc2pb-bound` proves in time.
+"""Lets `inrc2pb-solve` plan random weeks from nothing, one after another, and says how many `inrc2pb-bound` proves in time.
 
     bench/random_weeks.py [--first SEED] [--count NUMBER] [--time SECONDS] [--within SECONDS] [--wide PERCENT]
 

@@ -52,7 +52,7 @@ class Work(NamedTuple):
     first: int = 0
 
     def options(self) -> List[str]:
-        """The files as options of the helpers and of `inrc2pb-bound`."""
+        """The files as options of `inrc2pb-solve` and of `inrc2pb-bound`."""
         words = ["--sce", str(self.scenario), "--his", str(self.history)]
         return words + [word for week in self.weeks for word in ("--week", str(week))]
 
@@ -122,13 +122,13 @@ def run(work: Work, folder: Path, seed: int = 1) -> Run:
     """Plans a week or a period from nothing in this folder. Its rosters are checked by `inrc2pb`, and the bound is that of `inrc2pb-bound`
     by the certificate, if there is such a program."""
     is_week, proof = len(work.weeks) == 1, folder / "certificate.txt"
-    helper, target = ("improve", ["--sol", str(folder / "roster-0.txt")]) if is_week else ("period", ["--out", str(folder)])
+    target = ["--out", str(folder / "roster-0.txt" if is_week else folder)]
     limits = ["--time", f"{work.seconds / len(work.weeks):g}", "--seed", str(seed), "--proof", str(proof)]
     for old in (*folder.glob("roster-*.txt"), proof):
         old.unlink(missing_ok=True)
     began = time.monotonic()
     with open(folder / "said.txt", "w+") as said:
-        words = [sys.executable, str(ROOT / f"python/inrc2pb-{helper}"), *work.options(), *target, *limits]
+        words = [sys.executable, str(ROOT / "python/inrc2pb-solve"), *work.options(), *target, *limits]
         running = subprocess.Popen(words, stdout=said, stderr=subprocess.STDOUT)
         _, _, used = os.wait4(running.pid, 0)
         took = time.monotonic() - began

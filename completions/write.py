@@ -1,5 +1,5 @@
 #!/usr/bin/env python3
-"""Writes the completions of the programs and helpers for bash, zsh and fish from one description of the commands and options.
+"""Writes the completions of the programs and the Python commands for bash, zsh and fish from one description of the commands and options.
 
 tests/program/manual.sh compares the files with the output of this script, and their words with those of the program's help and of the
 manual page. Needs Python 3.11 or later.
@@ -115,37 +115,46 @@ PLAIN_BASH = """\
 complete -F %(function)s %(program)s
 """
 
-# The helpers' own help names their options, so their completion needs no list.
-HELPERS_BASH = """\
+# The Python commands' own help names their verbs and options, so their completion needs no list.
+COMMANDS_BASH = """\
 # shellcheck shell=bash
-# Completion of the helpers' options, commands and file names, for bash. Written by completions/write.py.
-_inrc2pb_helper() {
-    local word=${COMP_WORDS[COMP_CWORD]} first=() wanted='^ +(-h, )?--[a-zA-Z-]+'
+# Completion of the Python commands' verbs, options and file names, for bash. Written by completions/write.py.
+_inrc2pb_command() {
+    local word=${COMP_WORDS[COMP_CWORD]} first=() given wanted='^ +(-h, )?--[a-zA-Z0-9-]+' place=1
     COMPREPLY=()
+    # The verb of inrc2pb-plan follows its folder.
+    [[ ${COMP_WORDS[0]} != *inrc2pb-plan ]] || place=2
     if [[ $word != -* ]]; then
-        # A word that is no option is a file, which bash completes, or a command.
-        [ "$COMP_CWORD" = 1 ] || return
-        wanted='^    [a-z-]+  '
-    elif [[ ${COMP_WORDS[1]} != -* ]]; then
+        # A word that is no option is a file, which bash completes, or a verb.
+        [ "$COMP_CWORD" = $place ] || return
+        wanted='^  [a-z]+ '
+    elif [[ $place = 1 && ${COMP_WORDS[1]} != -* ]]; then
         first=("${COMP_WORDS[1]}")
     fi
+    for given in "${COMP_WORDS[@]:1}"; do
+        case $given in --inrc2 | --model | --answer) [ "$given" = "$word" ] || first=("$given") ;; esac
+    done
     wanted=$("${COMP_WORDS[0]}" "${first[@]}" --help 2> /dev/null | grep -oE -- "$wanted" | sed 's/-h,//')
     mapfile -t COMPREPLY < <(compgen -W "$wanted" -- "$word")
 }
-complete -o default -F _inrc2pb_helper %(names)s
+complete -o default -F _inrc2pb_command %(names)s
 """
 
-HELPERS_ZSH = """\
+COMMANDS_ZSH = """\
 #compdef %(names)s
-# Completion of the helpers' options and file names, for zsh. Written by completions/write.py.
+# Completion of the Python commands' options and file names, for zsh. Written by completions/write.py.
 _gnu_generic
 """
 
-HELPERS_FISH = """\
-# Completion of the helpers' options and file names, for fish. Written by completions/write.py.
+COMMANDS_FISH = """\
+# Completion of the Python commands' options and file names, for fish. Written by completions/write.py.
 function __inrc2pb_options
     set -l words (commandline -opc)
-    command $words[1] --help 2> /dev/null | string replace -rf '^ +(?:-h, )?(--[a-zA-Z-]+).*' '$1'
+    set -l verb
+    if string match -q '*inrc2pb-roster' -- $words[1]; and test (count $words) -gt 1
+        set verb $words[2]
+    end
+    command $words[1] $verb --help 2> /dev/null | string replace -rf '^ +(?:-h, )?(--[a-zA-Z0-9-]+).*' '$1'
 end
 for name in %(names)s
     complete -c $name -n 'string match -q -- "-*" (commandline -ct)' -a '(__inrc2pb_options)'
@@ -266,7 +275,8 @@ def main() -> None:
     (folder / "_inrc2pb").write_text(zsh())
     (folder / "inrc2pb.fish").write_text("\n".join(fish()) + "\n")
     names = " ".join(sorted(path.name for path in (here.parent / "python").glob("inrc2pb-*")))
-    for name, text in (("inrc2pb-helpers.bash", HELPERS_BASH), ("_inrc2pb-helpers", HELPERS_ZSH), ("inrc2pb-helpers.fish", HELPERS_FISH)):
+    texts = {"inrc2pb-commands.bash": COMMANDS_BASH, "_inrc2pb-commands": COMMANDS_ZSH, "inrc2pb-commands.fish": COMMANDS_FISH}
+    for name, text in texts.items():
         (folder / name).write_text(text % {"names": names})
     for program in PLAIN:
         (folder / f"{program}.bash").write_text(plain_bash(program))

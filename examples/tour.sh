@@ -46,7 +46,7 @@ say "The answer is checked against the model, and becomes a solution file and a 
 run "$program decode $week --answer $files/answer.txt --sol $files/roster.txt"
 
 say "The roster: a line for each nurse. With the week's files it says what each of them costs."
-run "python/inrc2pb-table $week $files/roster.txt"
+run "python/inrc2pb-roster show $week --roster $files/roster.txt"
 
 say "Back again: the roster as an answer, at its exact penalty, and that answer decoded."
 run "$program extend $week --from $files/roster.txt > $files/extended.txt"
@@ -66,7 +66,7 @@ if "$program" encode --help | grep -q -- '--fix '; then
     run "$program encode $week --fix $promised --opb $files/held.opb"
     try "$(solver_command "$solver" $files/held.opb) > $files/held_answer.txt"
     run "$program decode $week --fix $promised --answer $files/held_answer.txt --sol $files/held_roster.txt | head -n 3"
-    run "python/inrc2pb-table $week --fix $promised $files/held_roster.txt"
+    run "python/inrc2pb-roster show $week --fix $promised --roster $files/held_roster.txt"
 fi
 
 say "That was the tour. Its files are in $files."

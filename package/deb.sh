@@ -16,7 +16,7 @@ top=$stage/top
 pages=$top/usr/share/doc/inrc2pb
 mkdir "$top"
 install_to "$top" /usr ZSH="$top/usr/share/zsh/vendor-completions"
-strip --strip-all "$top"/usr/bin/inrc2pb{,-bound,-fits} || exit
+strip --strip-all "$top"/usr/bin/inrc2pb{,-bound} || exit
 gzip -n9 "$top"/usr/share/man/man1/*.1
 
 cat > "$pages/copyright" << 'TEXT'
@@ -44,7 +44,7 @@ sed -i '1s|^#!.*|#!/usr/bin/python3|' "$top"/usr/bin/inrc2pb-*
 kib=$(find "$top/usr" \( -type f -printf '%s\n' \) -o -printf '1\n' | awk '{ n += int(($1 + 1023) / 1024) } END { print n }')
 
 mkdir "$top/DEBIAN"
-# Python leaves a compiled form of the library if a helper runs as root.
+# Python leaves a compiled form of the library if a command runs as root.
 cat > "$top/DEBIAN/prerm" << 'TEXT'
 #!/bin/sh
 set -e
@@ -67,8 +67,8 @@ Description: nurse rostering as a pseudo-Boolean model
  Turns one week of the Second International Nurse Rostering Competition
  (INRC-II) into a pseudo-Boolean model (OPB) for a solver such as clasp, and
  the solver's answer into a roster with a report of its costs. Lower bounds
- prove how much a roster of a week or a period costs at least. Helpers make
- the files of a ward from a spreadsheet, and find and show rosters.
+ prove how much a roster of a week or a period costs at least. Python programs
+ plan a ward from a spreadsheet, and find and show rosters.
  .
  The encoding, the decoder, the bounds and every byte read and written, except messages,
  have proofs: /usr/share/doc/inrc2pb/PROVED says whether they passed. The

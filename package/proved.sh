@@ -5,7 +5,7 @@
 #   package/proved.sh
 #
 # The gate leaves in out/gate its commit, its last line, its kit and the checksum of the programs that it tested; GATE names another
-# file. PROGRAM, BOUND and FITS name other programs than inrc2pb, inrc2pb-bound and inrc2pb-fits of out.
+# file. PROGRAM and BOUND name other programs than inrc2pb and inrc2pb-bound of out.
 # `make edits` leaves in out/edits/alone its commit, its last line and its kit; EDITS names another file.
 set -u
 cd "$(dirname "$0")/.." || exit 2
@@ -17,7 +17,7 @@ if [ -r "${GATE:-out/gate}" ]; then
     { read -r gate_commit; read -r gate_line; read -r gate_kit; read -r gate_sum; } < "${GATE:-out/gate}"
     if [ "$gate_commit" = "$commit" ] && [ "$gate_kit" = "$kit" ] && is_committed && [[ $gate_line == *' passed, 0 failed, '*' skipped' ]]; then
         gate="passed on this commit: $gate_line"
-        sum=$(sum_of "${PROGRAM:-out/inrc2pb}" "${BOUND:-out/inrc2pb-bound}" "${FITS:-out/inrc2pb-fits}")
+        sum=$(sum_of "${PROGRAM:-out/inrc2pb}" "${BOUND:-out/inrc2pb-bound}")
         [ "$gate_sum" = "$sum" ] ||
             gate='passed on this commit, but with another build of the programs'
     fi

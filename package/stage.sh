@@ -1,16 +1,15 @@
 # shellcheck shell=bash
 # The common part of archive and package. To be sourced at the top of the clone.
 #
-# PROGRAM, BOUND and FITS name other programs than inrc2pb, inrc2pb-bound and inrc2pb-fits of out.
+# PROGRAM and BOUND name other programs than inrc2pb and inrc2pb-bound of out.
 umask 022
 export LC_ALL=C TZ=UTC
 . package/commit.sh
 
 PROGRAM=$(realpath -m "${PROGRAM:-out/inrc2pb}")
 BOUND=$(realpath -m "${BOUND:-out/inrc2pb-bound}")
-FITS=$(realpath -m "${FITS:-out/inrc2pb-fits}")
-export PROGRAM BOUND FITS
-programs=("$PROGRAM" "$BOUND" "$FITS")
+export PROGRAM BOUND
+programs=("$PROGRAM" "$BOUND")
 for program in "${programs[@]}"; do
     [ -x "$program" ] || { echo "There is no $program yet: 'make' builds it."; exit 2; }
 done
@@ -27,7 +26,7 @@ trap 'rm -rf "$stage"' EXIT
 
 # install_to FOLDER PREFIX [VARIABLE=VALUE..]: the files of `make install`, and PROVED with the pages. Prints whether the gate passed.
 install_to() {
-    make -s --no-print-directory install PROGRAM="$PROGRAM" BOUND="$BOUND" FITS="$FITS" \
+    make -s --no-print-directory install PROGRAM="$PROGRAM" BOUND="$BOUND" \
         DESTDIR="$1" PREFIX="$2" "${@:3}" || exit
     package/proved.sh > "$1$2/share/doc/inrc2pb/PROVED"
     printf 'libc: %s or later\n' "$libc" >> "$1$2/share/doc/inrc2pb/PROVED"

@@ -1,5 +1,5 @@
 #!/usr/bin/env python3
-"""Finds the helpers' library, in this folder or installed, and runs the helper whose name it has.
+"""Finds the library, in this folder or installed, and runs the command whose name it has.
 
 Each command of this folder imports this file, and an installed command is a copy of it.
 """

@@ -1,4 +1,4 @@
-"""The library of the helpers of inrc2pb: the files of a week, the program as functions, and the rules.
+"""The library of the Python commands of inrc2pb: the files of a week, the program as functions, and the rules.
 
 `week.files` reads and writes the files of a week, `programs.program` runs `inrc2pb`, `judging.rules` computes hard rules and costs,
 and `commands.command` has what every command line needs. Needs Python 3.11 or later, and NumPy for searches.

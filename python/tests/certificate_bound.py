@@ -4,7 +4,7 @@
     certificate_bound.py --sce F --his F --week F.. [--early] [--given F] [--proof F]
 
 prints `lower bound N`, and with --leaves a line for each leaf. Histories that are the same after a week are tried once. This reads the
-text of a certificate itself, so it shares neither the writer nor the tree of the helpers.
+text of a certificate itself, so it shares neither the writer nor the tree of the package.
 """
 
 import argparse

@@ -52,30 +52,31 @@ nothing_is_unused() {
 }
 
 # The options on standard input, one a line.
-options() { grep -oE -- '--[a-zA-Z-]+' | sort -u; }
+options() { grep -oE -- '--[a-zA-Z0-9-]+' | sort -u | grep -vxE -e '--(help|version)'; }
 
-# The options that the manual page lists for a command.
-listed() {
-    awk -v command="$1" '/^\.Ss / { inside = $2 == command; next } /^\.Sh / { inside = 0 }
-        inside && /^\.It / { gsub(/Fl -/, "--"); print }' man/inrc2pb-helpers.1 | options
+# explained COMMAND [VERB]: the options that its manual page explains, in the section of the verb if there is one.
+explained() {
+    awk -v verb="${2:-}" '/^\.S[hs] / { inside = verb == "" || $2 == verb; next }
+        inside && /^\.It / { gsub(/Fl -/, "--"); print }' "man/$1.1" | options
+}
+
+# shown COMMAND [WORD]: the options of its help.
+shown() { "python/$1" "${@:2}" --help | grep -E '^ +-' | options; }
+
+# explains WHAT EXPLAINED SHOWN
+explains() {
+    begins_case "the options of $1 in the manual page"
+    [ "$2" = "$3" ] || complain "$(diff <(echo "$2") <(echo "$3"))"
 }
 
 manual_has_each_option() {
-    local helper name shown
-    for helper in python/inrc2pb-*; do
-        name=$(basename "$helper")
-        begins_case "the options of $name in the manual page"
-        shown=$({ "$helper" --help; for_each_command "$helper"; } | grep -E '^ +-' | options | grep -vxE -e '--(help|version)')
-        [ "$(listed "$name")" = "$shown" ] || complain "$(diff <(listed "$name") <(echo "$shown"))"
+    local verb word
+    explains inrc2pb-plan "$(explained inrc2pb-plan)" "$(shown inrc2pb-plan)"
+    for verb in $(python/inrc2pb-roster --help | sed -n 's/^  \([a-z]*\)  .*/\1/p'); do
+        explains "inrc2pb-roster $verb" "$(explained inrc2pb-roster "$verb")" "$(shown inrc2pb-roster "$verb")"
     done
-}
-
-# The help of the commands of a helper that has some.
-for_each_command() {
-    local command
-    for command in $("$1" --help | sed -n 's/^    \([a-z][a-z]*\)  .*/\1/p'); do
-        "$1" "$command" --help 2> /dev/null
-    done
+    explains inrc2pb-solve "$(explained inrc2pb-solve)" \
+        "$(for word in '' --inrc2 --model --answer; do shown inrc2pb-solve ${word:+"$word"}; done | sort -u)"
 }
 
 # The texts in the table of faults in docs/answers.md.

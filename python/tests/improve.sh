@@ -1,5 +1,5 @@
 #!/usr/bin/env bash
-# Stops `inrc2pb-improve` at twenty random moments, by Ctrl-C or TERM. Each roster that it has written is one that `extend`
+# Stops `inrc2pb-solve` at twenty random moments, by Ctrl-C or TERM. Each roster that it has written is one that `extend`
 # accepts, at the penalty that was reported; and no solver runs on.
 #
 #   python/tests/improve.sh [llvm | rattle | PROGRAM]
@@ -23,7 +23,7 @@ stopped() {
     rm -f "$roster"
     # In the background bash lets a child ignore Ctrl-C: Python is asked to heed it.
     TMPDIR=$room python3 -c 'import os, signal, sys; signal.signal(signal.SIGINT, signal.SIG_DFL); os.execv(sys.argv[1], sys.argv[1:])' \
-        python/inrc2pb-improve "${week[@]}" --sol "$roster" --time 12 > "$out" 2> "$err" &
+        python/inrc2pb-solve "${week[@]}" --out "$roster" --time 12 > "$out" 2> "$err" &
     search=$!
     sleep "$(($2 / 10)).$(($2 % 10))"
     kill -"$1" $search 2> /dev/null
@@ -36,7 +36,7 @@ stopped() {
         [[ $ended =~ ^(5|130|143)$ ]] || complain "status $ended and no roster: $(tail -n 1 "$err")"
         [ ! -s "$out" ] || complain 'a report without a roster'
     fi
-    [ -z "$(find "$room" -maxdepth 1 -name 'inrc2pb-improve-*')" ] || complain 'its folder is left'
+    [ -z "$(find "$room" -maxdepth 1 -name 'inrc2pb-solve-*')" ] || complain 'its folder is left'
     [ -z "$(find "$room" -maxdepth 1 -name '.roster.*')" ] || complain 'a part of a roster is left'
 }
 

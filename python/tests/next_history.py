@@ -1,5 +1,5 @@
 #!/usr/bin/env python3
-"""Tests python/inrc2pb-next.
+"""Tests python/inrc2pb-roster next.
 
 usage: next_history.py PROGRAM [--seed N] [--weeks N]
 
@@ -70,7 +70,12 @@ class Room:
         return self.folder / name
 
     def next_history(self, *options):
-        return run(ROOT / "python/inrc2pb-next", *options, self / "sce", self / "his", self / "sol")
+        return next_of(self, "sol", *options)
+
+
+def next_of(room, roster, *options):
+    files = ("--sce", room / "sce", "--his", room / "his", "--roster", room / roster)
+    return run(ROOT / "python/inrc2pb-roster", "next", *files, *options)
 
 
 def trailing(days, has, before):
@@ -173,7 +178,7 @@ MISFITS = {
 
 
 def misfits(room):
-    ran = run(ROOT / "python/inrc2pb-next", room / "sce", room / "his", room / "unwritten")
+    ran = next_of(room, "unwritten")
     if ran.returncode != 3 or "unwritten: No such file" not in ran.stderr or "Traceback" in ran.stderr:
         yield f"a file that is not there: status {ran.returncode}, {ran.stderr}"
     for what, (number, cells, solved, told) in MISFITS.items():

@@ -1,5 +1,5 @@
 #!/usr/bin/env bash
-# Tests python/inrc2pb-next on weeks at random, and on files that do not fit: python/tests/next_history.py says how.
+# Tests python/inrc2pb-roster next on weeks at random, and on files that do not fit: python/tests/next_history.py says how.
 #
 #   python/tests/next_history.sh [llvm | rattle | PROGRAM]
 #

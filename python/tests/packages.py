@@ -1,5 +1,5 @@
 #!/usr/bin/env python3
-"""Checks the imports between the modules of the helpers: one package may import only what allowed.txt lists for it, no modules
+"""Checks the imports between the modules of the Python package: one package may import only what allowed.txt lists for it, no modules
 import one another in a circle, and no module imports a private name of another.
 
   python/tests/packages.py [FOLDER [ALLOWED]]

@@ -1,4 +1,4 @@
-"""The example weeks, and runs of the helpers, for the tests of this folder."""
+"""The example weeks, and runs of the commands, for the tests of this folder."""
 
 import os
 import shutil
@@ -17,6 +17,7 @@ sys.path.insert(0, str(HELPERS))
 from inrc2pb.programs import program  # noqa: E402
 from inrc2pb.week import files, records, writing  # noqa: E402, F401
 from inrc2pb.commands.launch import launch  # noqa: E402
+from inrc2pb.judging.absences import with_requests  # noqa: E402
 
 WARD = ROOT / "examples" / "ward"
 SCENARIO, HISTORY, WEEK, ROSTER = (WARD / name for name in ("ward.txt", "history-0.txt", "week-0.txt", "roster-0.txt"))
@@ -26,19 +27,19 @@ THIRTY = ROOT / "examples" / "thirty"
 THIRTY_FILES = program.WeekFiles(THIRTY / "ward.txt", THIRTY / "history-3.txt", THIRTY / "week-3.txt")
 # A roster of this week: clasp's answer to its model with --early.
 EARLY_ANSWER = ROOT / "tests" / "data" / "thirty_clasp_early.txt"
-# A shell lets its background ignore Ctrl-C, and so would the helpers.
+# A shell lets its background ignore Ctrl-C, and so would the commands.
 if signal.getsignal(signal.SIGINT) == signal.SIG_IGN:
     signal.signal(signal.SIGINT, signal.default_int_handler)
 HAS_CLASP, HAS_CBC = (shutil.which(name) is not None for name in ("clasp", "cbc"))
 
 
-def run(helper, *words, environment=None):
-    """Runs a helper in a copy of this process, where its library is loaded; its status, standard output and standard error."""
+def run(command, *words, environment=None):
+    """Runs a command in a copy of this process, where its library is loaded; its status, standard output and standard error."""
     output, printed = os.pipe()
     with open(output, "rb") as pipe, tempfile.TemporaryFile() as said:
         child = os.fork()
         if not child:
-            os._exit(run_here(helper, words, environment or {}, printed, said.fileno()))
+            os._exit(run_here(command, words, environment or {}, printed, said.fileno()))
         os.close(printed)
         text = pipe.read().decode()
         _, ended = os.waitpid(child, 0)
@@ -46,14 +47,14 @@ def run(helper, *words, environment=None):
         return os.WEXITSTATUS(ended) if os.WIFEXITED(ended) else -os.WTERMSIG(ended), text, said.read().decode()
 
 
-def run_here(helper, words, environment, printed, said):
-    """Runs a helper in this process, with these descriptors for its output; its status. The words, the environment and the output
-    of the process are then those of the helper."""
+def run_here(command, words, environment, printed, said):
+    """Runs a command in this process, with these descriptors for its output; its status. The words, the environment and the output
+    of the process are then those of the command."""
     os.dup2(printed, 1)
     os.dup2(said, 2)
     os.close(printed)
     sys.stdout, sys.stderr = (open(number, "w", closefd=False) for number in (1, 2))
-    sys.argv = [str(HELPERS / f"inrc2pb-{helper}"), *map(str, words)]
+    sys.argv = [str(HELPERS / f"inrc2pb-{command}"), *map(str, words)]
     os.environ.update(environment)
     try:
         launch()
@@ -87,6 +88,17 @@ class HelperTest(unittest.TestCase):
         """A solution file with these rows, the first of them on line 5."""
         target = self.folder / name
         target.write_text("\n".join([f"SOLUTION\n{week} {ward}\n", f"ASSIGNMENTS = {len(rows)}", *rows]) + "\n")
+        return target
+
+    def away(self, *absences, week=WEEK, name="away.txt"):
+        """A copy of a week's file in which nurses are away, such as `Chen=Fri,Sat`, or `Chen` on all days: each as many equal requests."""
+        scenario = files.read_scenario(SCENARIO)
+        found = []
+        for text in absences:
+            nurse, _, days = text.partition("=")
+            found += [records.Absence(nurse, records.DAYS.index(day), None) for day in (days.split(",") if days else records.DAYS)]
+        target = self.folder / name
+        target.write_text(files.week_text(with_requests(scenario, files.read_week(week, scenario), found).data))
         return target
 
     def swapped(self, one, two):

@@ -51,7 +51,7 @@ scripts() {
 }
 
 # all_scripts [llvm | rattle | PROGRAM]..: each script, with each of these words; for `rattle` without those of pages and
-# helpers, whose result does not depend on the compiler.
+# Python, whose result does not depend on the compiler.
 all_scripts() {
     local file word number=100 row good bad left
     [ $# -gt 0 ] || set -- llvm

@@ -29,11 +29,8 @@ esac
 END_OF_CLASP
 }
 
-# If no solver of linear programs is installed, `inrc2pb-improve` and `inrc2pb-period` take clasp. It comes after `stand_in_for_clasp`.
+# If no solver of linear programs is installed, `inrc2pb-solve` takes clasp. It comes after `stand_in_for_clasp`.
 stand_in_for_cbc() {
-    local name
     command -v cbc clp glpsol > /dev/null && return
-    for name in inrc2pb-improve inrc2pb-period; do
-        printf '#!/bin/sh\nexec "%s/python/%s" "$@" --solver clasp\n' "$PWD" $name | stand_in $name
-    done
+    printf '#!/bin/sh\nexec "%s/python/inrc2pb-solve" "$@" --solver clasp\n' "$PWD" | stand_in inrc2pb-solve
 }

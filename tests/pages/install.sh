@@ -7,14 +7,13 @@
 # Nothing is proved. Needs bash, the usual tools of a shell, make and Python 3.11; the commands that search for rosters need cbc or
 # clasp.
 . "$(dirname "$0")/../kit/kit.sh"
-needs crates/who_fits/out/who_fits
 needs_bound
 clone=$PWD
 installed=$room/installed/usr
 
 # make_target TARGET WORD..: as a user runs make, with the programs that are tested.
 make_target() {
-    make -s -C "$clone" "$@" PROGRAM="$program" BOUND="$bound" FITS="$clone/crates/who_fits/out/who_fits" > "$out" 2>&1
+    make -s -C "$clone" "$@" PROGRAM="$program" BOUND="$bound" > "$out" 2>&1
 }
 
 # The pages and files that an installed page names are installed too, with the headings that it names.
@@ -65,14 +64,14 @@ converts_result() {
     runs inrc2pb extend "${week[@]}" --from "$roster"
     awk 'BEGIN { print "Stopped on time - objective value 20.00000000" }
         /^v/ { for (at = 2; at <= NF; at++) if ($at ~ /^x/) print number++, $at, 1, 0 }' "$out" > "$room/elsewhere/week.sol"
-    runs inrc2pb-lp answer week.sol
+    runs inrc2pb-solve --answer week.sol
     has_line 's SATISFIABLE'
     cp "$out" "$room/elsewhere/answer.txt"
     runs inrc2pb decode "${week[@]}" --answer answer.txt --sol same.txt
     cmp -s "$room/elsewhere/same.txt" "$roster" || complain 'another roster'
 }
 
-# Each helper does its work on the installed examples.
+# Each command does its work on the installed examples.
 runs_commands() {
     local ward=$installed/share/doc/inrc2pb/examples/ward command
     local week=(--sce "$ward/ward.txt" --his "$ward/history-0.txt" --week "$ward/week-0.txt")
@@ -81,21 +80,20 @@ runs_commands() {
     done
     runs inrc2pb-bound --version
     has_line "$(sed -n 's/^## /inrc2pb-bound /p' "$clone/CHANGELOG.md" | head -n 1)"
-    runs inrc2pb-fits --help
-    has_line 'Usage: inrc2pb-fits SCENARIO HISTORY WEEK'
-    runs inrc2pb-fits "$ward/ward.txt" "$ward/history-0.txt" "$ward/week-0.txt"
     runs inrc2pb encode "${week[@]}" --opb week.opb
-    runs inrc2pb-check "${week[@]}" --roster "$ward/roster-0.txt"
-    runs inrc2pb-check "${week[@]}" --constraint 60
-    has_line 'constraint 60, line 62 of the model: H2: Wed Day Nurse needs at least 1'
-    runs inrc2pb-table "${week[@]}" "$ward/roster-0.txt"
-    runs inrc2pb-next "$ward/ward.txt" "$ward/history-0.txt" "$ward/roster-0.txt" --out history-1.txt
+    runs inrc2pb-roster check "${week[@]}" --roster "$ward/roster-0.txt"
+    runs inrc2pb-roster show "${week[@]}" --roster "$ward/roster-0.txt"
+    runs inrc2pb-roster why "${week[@]}" --roster "$ward/roster-0.txt"
+    has_line '   20  in all: S4 20'
+    runs inrc2pb-roster swap 'Chen Mon' 'Grace Tue' "${week[@]}" --roster "$ward/roster-0.txt"
+    runs inrc2pb-roster fits "${week[@]}"
+    has_line 'Mon Day Charge (1,1): Amara Bruno Ewa'
+    runs inrc2pb-roster next "${week[@]:0:4}" --roster "$ward/roster-0.txt" --out history-1.txt
     cmp -s "$room/elsewhere/history-1.txt" "$ward/history-1.txt" || complain 'another history'
-    runs inrc2pb-keep --keep Mon,Tue "$ward/roster-0.txt" --out kept.txt
-    runs inrc2pb-wish --sce "$ward/ward.txt" --week "$ward/week-0.txt" --away Chen=Fri --out away.txt
-    runs inrc2pb-ward --template ward.ods
-    runs inrc2pb-ward ward.ods --out ward
-    runs inrc2pb-lp model week.opb --lp week.lp
+    runs inrc2pb-plan 'my ward' new
+    runs inrc2pb-plan 'my ward' check
+    runs inrc2pb-plan 'my ward' files --out ward
+    runs inrc2pb-solve --model week.opb --out week.lp
     converts_result "${week[@]}" "$ward/roster-0.txt"
     begins_case 'the installed library'
     (cd "$room/elsewhere" && PYTHONPATH=$installed/share/inrc2pb PATH=$installed/bin:$PATH python3 -B -c 'import sys
@@ -105,10 +103,10 @@ print(program.penalty_of(program.WeekFiles(*sys.argv[1:4]), sys.argv[4]))' "$war
         > "$out" 2> "$err" || complain "$(tail -n 1 "$err")"
     has_line 20
     has cbc 3 || return
-    runs inrc2pb-improve "${week[@]}" --fix kept.txt --time 20 --sol roster-0.txt
+    runs inrc2pb-solve "${week[@]}" --fix "$ward/roster-0.txt" --time 20 --out roster-0.txt
     has_line 'penalty 20'
-    runs inrc2pb-period "${week[@]}" --week "$ward/week-1.txt" --time 10 --out period
-    runs inrc2pb-simulate "${week[@]}" --timeout 5 --sol simulated.txt --cusOut custom.txt
+    runs inrc2pb-solve "${week[@]}" "$ward/week-1.txt" --time 10 --out period
+    runs inrc2pb-solve --inrc2 "${week[@]}" --timeout 5 --sol simulated.txt --cusOut custom.txt
 }
 
 # follows_page PAGE: whoever follows the page in an empty folder, with the installed examples, comes to its end.
@@ -141,17 +139,17 @@ links_hold
 names_sources
 manual_names_commands
 runs_commands
-follows_page docs/helpers.md
+follows_page docs/commands.md
 has_line 'Amara Bruno 110'
 if has clasp 3; then
     for page in README.md docs/your_ward.md docs/solvers.md; do
         follows_page $page
     done
 fi
-begins_case 'a helper without its library'
+begins_case 'a command without its library'
 mv "$installed/share/inrc2pb" "$room/away"
-"$installed/bin/inrc2pb-table" --help > "$out" 2> "$err" && complain 'it runs'
-grep -q '^inrc2pb-table: there is no folder share/inrc2pb: install it again' "$err" || complain "said: $(head -n 3 "$err")"
+"$installed/bin/inrc2pb-roster" --help > "$out" 2> "$err" && complain 'it runs'
+grep -q '^inrc2pb-roster: there is no folder share/inrc2pb: install it again' "$err" || complain "said: $(head -n 3 "$err")"
 mv "$room/away" "$installed/share/inrc2pb"
 others=(share/doc/inrc2pb/docs/mine.txt share/doc/inrc2pb/examples/ward/mine.txt share/inrc2pb/mine.py)
 begins_case 'make uninstall beside files of others'

@@ -8,14 +8,11 @@
 # Nothing is proved. Without dpkg, strip or lintian the package is not tried; without clasp its stored answer is used. Needs
 # bash, the usual tools of a shell, make and Python 3.11.
 . "$(dirname "$0")/../kit/kit.sh"
-needs crates/who_fits/out/who_fits
 needs_bound
 . tests/kit/stand_ins.sh
 stand_in_for_clasp
 
 export PROGRAM=$program BOUND=$bound
-FITS=$(realpath crates/who_fits/out/who_fits)
-export FITS
 version=$("$program" --version)
 version=${version#inrc2pb }
 archive=inrc2pb-$version-x86_64-linux
@@ -71,7 +68,7 @@ gates_are_told_apart() {
     local commit kit sum not='have not passed on this commit on the machine that built this'
     commit=$(package/proved.sh | sed -n 's/^commit: //p')
     kit=$(package/proved.sh | sed -n 's/^kit: //p')
-    sum=$(cat "$PROGRAM" "$BOUND" "$FITS" | sha256sum)
+    sum=$(cat "$PROGRAM" "$BOUND" | sha256sum)
     sum=${sum%% *}
     case $commit in
         unknown | *-dirty) says_of_gate 'a gate of other files' "$commit" '9 passed, 0 failed, 2 skipped' "$kit" "$sum" "$not" ;;

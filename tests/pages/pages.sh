@@ -92,7 +92,7 @@ shows_roster() {
     (cd examples/n005w4 && "$program" decode "${five[@]}" --answer answers/clasp-optimum.txt --sol "$room/roster.txt" > "$room/report")
     while read -r line; do
         grep -qF -- "$line" README.md || complain "not shown: $line"
-    done < <(python/inrc2pb-table "$room/roster.txt" | sed -n '3,8p')
+    done < <(python/inrc2pb-roster show --roster "$room/roster.txt" | sed -n '3,8p')
     while read -r name cost; do
         case $name in
             S?) grep -q "^| $name |.* $cost |$" README.md || complain "another cost of $name than $cost" ;;

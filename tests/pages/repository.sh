@@ -1,5 +1,5 @@
 #!/usr/bin/env bash
-# Checks facts that the repository states twice: the program, CHANGELOG.md and the helpers have the same version, the
+# Checks facts that the repository states twice: the program, CHANGELOG.md and the Python package have the same version, the
 # generators write the example weeks, README.md names this kit, and the examples of the libraries are their tests. Checks that
 # no crate uses more lemmas of another than before, the shell scripts by shellcheck, if it is installed, and which files can be run.
 #
@@ -33,11 +33,11 @@ weeks_are_made() {
     done
 }
 
-# Each command of the helpers only runs their launcher.
-helpers_are_launchers() {
+# Each Python command only runs the launcher.
+commands_are_launchers() {
     local file
-    begins_case 'the commands of the helpers'
-    for file in python/inrc2pb-*; do cmp -s python/inrc2pb-check "$file" || complain "$file is not as python/inrc2pb-check"; done
+    begins_case 'the Python commands'
+    for file in python/inrc2pb-*; do cmp -s python/inrc2pb-plan "$file" || complain "$file is not as python/inrc2pb-plan"; done
 }
 
 # The kit at hand is the one that README.md names or a later one, with the logic that README.md and docs/trusted.md name.
@@ -127,7 +127,7 @@ scripts_are_executable() {
 
 version_is_in_preparation
 weeks_are_made
-helpers_are_launchers
+commands_are_launchers
 kit_is_named
 examples_are_tests
 takes_contracts

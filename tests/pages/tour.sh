@@ -13,7 +13,7 @@ solver=$(installed_solvers | head -n 1)
 begins_case "the tour with $solver"
 needs_bound
 PROGRAM=$program BOUND=$bound LIMIT=60 examples/tour.sh "$solver" > "$out" 2>&1 || complain "$(tail -n 5 "$out")"
-for line in '^penalty 320$' '^n005w4, week 0: ' '^s SATISFIABLE$' '^optimal$' '^# That was the tour'; do
+for line in '^penalty 320$' '^n005w4, week 1: ' '^s SATISFIABLE$' '^optimal$' '^# That was the tour'; do
     grep -q "$line" "$out" || complain "it does not print $line"
 done
 finish

@@ -50,7 +50,7 @@ proves_optima() {
     says 'five nurses, the minimums' 'no proof that no roster exists\n' "${five[@]}" "${proof[@]}" --minimums
 }
 
-# The bounds of one leaf and of prices of 0 are those that the helpers compute. In the even case 1815 is rounded up.
+# The bounds of one leaf and of prices of 0 are those that the Python programs compute. In the even case 1815 is rounded up.
 bounds_a_month() {
     local table
     table=$(sed -n '/^PRICES/,/^LEAVES/p' "$examples/month/certificate.txt" | sed '$d')
@@ -181,7 +181,7 @@ says_within() {
     says "${@:2}"
 }
 
-# The bound of eight weeks of 120 nurses is the one that the helpers compute. A nurse is needed on each Monday of a year, and the sixth shift of
+# The bound of eight weeks of 120 nurses is the one that the Python programs compute. A nurse is needed on each Monday of a year, and the sixth shift of
 # each of five nurses costs 20: 25 of 52 shifts are free, and 5 if one nurse works them all. A tree of 100 cases of 30 nurses has the bound of
 # its one list of prices, which is the penalty of the best roster.
 bounds_in_time() {

@@ -76,7 +76,7 @@ in_little_memory extend "${staffed[@]}" --from roster 2> "$err" |
     in_little_memory decode "${staffed[@]}" --sol solution > "$out" 2>> "$err"
 [ ! -s "$err" ] || complain "$(cat "$err")"
 holds solution roster
-(cd "$room" && PYTHONPATH=$OLDPWD/python python3 -m inrc2pb.commands.rules_command "${staffed[@]}" roster) > "$room/costs"
+(cd "$room" && "$OLDPWD/python/tests/rules_command.py" "${staffed[@]}" roster) > "$room/costs"
 penalty=$(sed -n 's/^penalty //p' "$room/costs")
 {
     printf 'status SATISFIABLE\nobjective %s\n' "$penalty"

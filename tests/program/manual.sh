@@ -10,8 +10,8 @@
 . completions/inrc2pb.bash
 # shellcheck source=completions/inrc2pb-bound.bash
 . completions/inrc2pb-bound.bash
-# shellcheck source=completions/inrc2pb-helpers.bash
-. completions/inrc2pb-helpers.bash
+# shellcheck source=completions/inrc2pb-commands.bash
+. completions/inrc2pb-commands.bash
 needs_bound
 
 # The options that the lines on standard input name, in one line.
@@ -95,19 +95,22 @@ completes() {
         "$(cd "$room" && echo week.* | tr ' ' '\n' | sort | tr '\n' ' ')"
 }
 
-# helper_words WORD..: the words that the completion of the helpers offers for the last of these.
-helper_words() {
+# offered WORD..: the words that the completion of the Python commands offers for the last of these.
+offered() {
     COMP_WORDS=("$@")
     COMP_CWORD=$(($# - 1))
-    _inrc2pb_helper
+    _inrc2pb_command
     printf '%s\n' "${COMPREPLY[@]}" | sort | tr '\n' ' '
 }
 
-completes_helpers() {
-    is 'options of a helper' "$(helper_words python/inrc2pb-next --)" '--help --new-period --out --version '
-    is 'options of a command' "$(helper_words python/inrc2pb-lp model --l)" '--lp '
-    is 'commands of a helper' "$(helper_words python/inrc2pb-lp '')" 'answer model '
-    is 'a file of a helper, which bash completes' "$(helper_words python/inrc2pb-next ward.txt '')" ' '
+completes_commands() {
+    is 'options of a verb' "$(offered python/inrc2pb-roster next --)" '--help --his --new-period --out --roster --sce --version '
+    is 'options of a command' "$(offered python/inrc2pb-solve --a)" '--ahead --answer '
+    is 'options of a mode' "$(offered python/inrc2pb-solve --inrc2 --c)" '--cusIn --cusOut '
+    is 'verbs' "$(offered python/inrc2pb-roster '')" 'check fits next show swap why '
+    is 'verbs after a folder' "$(offered python/inrc2pb-plan 'my ward' p)" 'page plan '
+    is 'options after a folder and a verb' "$(offered python/inrc2pb-plan 'my ward' files --c)" '--credit '
+    is 'a file, which bash completes' "$(offered python/inrc2pb-roster show ward.txt '')" ' '
 }
 
 # The completions are as completions/write.py writes them, and their shells read them.
@@ -115,7 +118,7 @@ completions_are_written() {
     local file offered
     begins_case 'the completions'
     completions/write.py "$room"
-    for file in inrc2pb{,-bound,-helpers}.{bash,fish} _inrc2pb{,-bound,-helpers}; do
+    for file in inrc2pb{,-bound,-commands}.{bash,fish} _inrc2pb{,-bound,-commands}; do
         cmp -s "$room/$file" "completions/$file" || complain "$file is not as write.py writes it"
     done
     if has zsh; then
@@ -167,7 +170,7 @@ is_manual() {
 names_the_same
 names_the_same_of inrc2pb-bound "$bound" _inrc2pb_bound
 completes
-completes_helpers
+completes_commands
 completions_are_written
 for page in man/*.1; do
     is_manual "$page"

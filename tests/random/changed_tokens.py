@@ -5,7 +5,7 @@ usage: changed_tokens.py [--fix]
 
 The test replaces, precedes or cuts off each token of six files by each of its words, and counts the faults by their kind. This
 script makes the same texts from the constants of that file, and compares its own counts with the numbers there. With --fix it
-writes them. The helpers read no certificates, and facts of one nurse only, so this script has a reader of both.
+writes them. The Python programs read no certificates, and facts of one nurse only, so this script has a reader of both.
 """
 
 import re

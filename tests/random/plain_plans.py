@@ -8,7 +8,7 @@ week as tuples (nurse, day, shift type, skill), and facts that all plans are ask
     ("CHARGES", kind, nurse or None for all, maximum)
     ("EVEN",)                                               the number of charges of shift runs
 
-A condition is a pair of a fact and whether it holds. `rules` of the helpers is not used here.
+A condition is a pair of a fact and whether it holds. `judging.rules` is not used here.
 """
 
 import functools

@@ -62,7 +62,7 @@ Examples:
   inrc2pb-bound --sce ward.txt --his history-0.txt --week week-0.txt --proof proof.txt --roster roster.txt
   inrc2pb-bound --sce ward.txt --his history-0.txt --week week-0.txt week-1.txt --fix 2=held-1.txt
 
-Any certificate gives a true bound; inrc2pb-improve --proof writes good ones. Exit status: 0 on success, 1 for
+Any certificate gives a true bound; inrc2pb-solve --proof writes good ones. Exit status: 0 on success, 1 for
 a fault of a file, 2 for a wrong command line, 3 if a file cannot be read or written, 4 if memory runs out, 6 if
 a roster breaks a hard rule or a given fact. The files: inrc2pb-bound(1).",
         )

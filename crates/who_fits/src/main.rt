@@ -35,7 +35,7 @@ A line names the day, the shift type and the skill of a place, the minimum and t
 nurse who fits, with her variable in the week's model. A nurse fits if she has the skill and, on Monday, if her last
 shift does not forbid the shift type.
 
-The files and the exit statuses: inrc2pb-fits(1), docs/formats.md.
+The files: docs/formats.md. Exit status: 0 on success, else 1.
 ";
 
 fn main(rt: HostRuntime) -> Result<()> {

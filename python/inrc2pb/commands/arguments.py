@@ -1,13 +1,15 @@
-"""The parser of the helpers' command lines. An option is given once, as for `inrc2pb`, and a wrong word gets a hint."""
+"""The parser of the commands' words. An option is given once, as for `inrc2pb`, unless it may be repeated, and a wrong word gets a hint."""
 
 import argparse
 import functools
 import os
 import re
+import shlex
 import sys
-from typing import Any, NoReturn, Optional, Sequence
+from typing import Any, Mapping, NoReturn, Optional, Sequence
 
 from ..programs.program import run_program
+from ..week.faults import Misuse
 from ..week.slots import did_you_mean
 
 
@@ -23,7 +25,7 @@ class _Once(argparse.Action):
 
 
 class _Version(argparse.Action):
-    """Prints the version of `inrc2pb`, with which the helpers are installed."""
+    """Prints the version of `inrc2pb`, with which the commands are installed."""
 
     def __call__(self, parser: argparse.ArgumentParser, namespace: argparse.Namespace, values: Any, option: Optional[str] = None) -> None:
         print(run_program("--version"), end="")
@@ -31,14 +33,10 @@ class _Version(argparse.Action):
 
 
 class Parser(argparse.ArgumentParser):
-    """A parser that says how to correct a word that it does not know, and options that are missing.
+    """A parser that says how to correct a word that it does not know, and options that are missing."""
 
-    `order` says how the files are given, if they are given without options.
-    """
-
-    def __init__(self, *words: Any, order: str = "", **named: Any) -> None:
+    def __init__(self, *words: Any, **named: Any) -> None:
         super().__init__(*words, **named)
-        self.order = order
         self._given: Sequence[str] = ()
         self.register("action", None, _Once)
         self.register("action", "store", _Once)
@@ -65,23 +63,21 @@ class Parser(argparse.ArgumentParser):
             message += ": is WEEK set in this terminal?"
         super().error(message)
 
-    def _about_files(self, unknown: str) -> str:
-        """The advice if files without an option are not next to one another."""
-        takes_files = any(action.nargs == "+" and not action.option_strings for action in self._actions)
-        are_files = bool(unknown) and all(os.path.exists(word) for word in unknown.split())
-        return ": write the files that have no option next to one another" if takes_files and are_files else ""
-
     def _about_options(self) -> str:
         """The advice about the first option that this command does not have."""
-        options = re.findall(r"--[a-zA-Z-]+", self.format_usage())
+        options = re.findall(r"--[a-zA-Z0-9-]+", self.format_usage())
         named = [word.split("=")[0] for word in self._given if re.match("--[a-zA-Z]", word)]
         unknown = next((name for name in named if name not in options and name != "--help"), "")
         if not unknown:
             return ""
         advice = did_you_mean(unknown[2:], [option[2:] for option in options], "", "--{}".format)
-        if advice:
-            return f": {unknown}: {advice}"
-        return f": give the files without options, in this order: {self.order}" if self.order else ""
+        return f": {unknown}: {advice}" if advice else ""
+
+    def _about_files(self, unknown: str) -> str:
+        """The advice if a file is given without its option."""
+        takes_rosters = any("--roster" in action.option_strings for action in self._actions)
+        are_files = bool(unknown) and all(os.path.exists(word) for word in unknown.split())
+        return ": give rosters after --roster, and each other file after its option" if takes_rosters and are_files else ""
 
 
 def _about_words(unknown: str, given: Sequence[str]) -> str:
@@ -93,10 +89,34 @@ def _about_words(unknown: str, given: Sequence[str]) -> str:
     return ": rename a file or folder whose path has a blank, and write an option before each file"
 
 
-def parser(description: str, epilog: Optional[str] = None, order: str = "") -> Parser:
-    """A parser whose help keeps the lines of its description. An option has to be written out, as for `inrc2pb`."""
+def parser(description: str, epilog: Optional[str] = None, verb: str = "") -> Parser:
+    """A parser whose help keeps the lines of its description. An option has to be written out, as for `inrc2pb`. `verb` follows the name
+    of the command."""
+    command = os.path.basename(sys.argv[0])
     options = Parser(
-        description=description, epilog=epilog, order=order, formatter_class=argparse.RawDescriptionHelpFormatter, allow_abbrev=False
+        prog=f"{command} {verb}" if verb else command,
+        description=description,
+        epilog=epilog,
+        formatter_class=argparse.RawDescriptionHelpFormatter,
+        allow_abbrev=False,
     )
     options.add_version()
     return options
+
+
+def table_of(verbs: Mapping[str, str]) -> str:
+    """Verbs and what they do, a line for each, for the help."""
+    width = max(map(len, verbs))
+    return "\n".join(f"  {usage:{width}}  {text}" for usage, text in verbs.items())
+
+
+def check_verb(verb: str, verbs: Sequence[str]) -> None:
+    """Raises Misuse if there is no such verb."""
+    if verb not in verbs:
+        otherwise = f"write one of {', '.join(verbs)}"
+        raise Misuse(f"'{verb}' is no verb: {did_you_mean(verb, verbs, otherwise)}")
+
+
+def as_typed(words: Sequence[object]) -> str:
+    """The words as a user types them in a shell."""
+    return " ".join(shlex.quote(str(word)) for word in words)

@@ -1,14 +1,13 @@
-"""Checks the files of a week: names the first mistake of each file and how to correct it, and warns of odd values."""
+"""The verb `check` of `inrc2pb-roster`: names the first mistake of each file of a week and how to correct it, and warns of odd values."""
 
 import argparse
 import os
-import tempfile
 from pathlib import Path
 from typing import Callable, Iterator, List, Optional, Tuple, TypeVar
 
 from ..judging.absences import absences_of, readable, working_while_away
-from .command import add_given_option, add_week_options, parser, week_files
-from ..judging.constraint import block_of, blocks, named_row, row_of
+from .arguments import Parser
+from .command import add_given_option, add_rosters_option, add_weeks_options, fix_files, parser, the_week
 from ..judging.demand import demand_warnings
 from ..judging.given import read_given, with_given
 from ..judging.limits import exceeded, limits_in_words
@@ -32,6 +31,8 @@ class Check:
 
     def __init__(self, given: argparse.Namespace) -> None:
         self.given = given
+        self.week_file: Optional[Path] = next(iter(given.week), None)
+        self.fix_file: Optional[Path] = fix_files(given.fix, 1).get(0)
         self.mistakes = 0
         self.impossible = False
 
@@ -84,9 +85,9 @@ class Check:
             self.warns(path, history_warnings(history, scenario))
         return history
 
-    def week_data(self, scenario: Scenario, history: Optional[History]) -> Optional[WeekData]:
+    def week_data(self, path: Path, scenario: Scenario, history: Optional[History]) -> Optional[WeekData]:
         """Checks the week data."""
-        path, facts = self.given.week, self.given.facts
+        facts = self.given.facts
         data = self.reads(lambda: read_week(path, scenario))
         claims = self.reads(lambda: read_given(facts, scenario)) if facts else ()
         if data and history:
@@ -107,11 +108,11 @@ class Check:
             return None, []
         self.warns(given.sce, scenario_warnings(scenario))
         history = self.history(scenario) if given.his else None
-        data = self.week_data(scenario, history) if given.week else None
-        held = self.held(given.fix, scenario, history) if given.fix else []
+        data = self.week_data(self.week_file, scenario, history) if self.week_file else None
+        held = self.held(self.fix_file, scenario, history) if self.fix_file else []
         if data:
             for row in working_while_away(absences_of(data), held):
-                self.mistake(f"{given.fix}: {row.nurse} is away on {DAYS[row.day]}, and {row.shift} is held: remove one of the two")
+                self.mistake(f"{self.fix_file}: {row.nurse} is away on {DAYS[row.day]}, and {row.shift} is held: remove one of the two")
         if given.tell and not self.mistakes:
             self.tell(scenario, history, data, held)
         for roster in given.roster:
@@ -131,7 +132,7 @@ class Check:
 
     def model(self, week: Week, held: List[Cell]) -> None:
         """Lets `inrc2pb` check the files too. If it cannot be run, the rosters are compared with `rules`, and a warning says so."""
-        files = week_files(self.given)
+        files = the_week(self.given)
         has_program = True
         try:
             encode(files, Path(os.devnull))
@@ -173,58 +174,46 @@ def _compare(roster: Path, week: Week, held: List[Cell]) -> None:
         raise ProgramFault(BROKEN_RULE, f"roster breaks {rule}")
 
 
-def _explain(number: int, week: Week, held: List[Cell], given: argparse.Namespace) -> None:
-    """Prints where constraint `number` is in the model, its rule, and its row with names."""
-    block = block_of(number, week, held, given.early)
-    if block is None or number < 1:
-        count = sum(block.size for block in blocks(week, held, given.early))
-        raise Misuse(f"there is no constraint {number}: the model of this week has {count}, with the same --fix and --early")
-    with tempfile.TemporaryDirectory() as folder:
-        model = Path(folder, "week.opb")
-        encode(week_files(given), model)
-        line, row = row_of(number, model)
-    print(f"constraint {number}, line {line} of the model: {block.rule}: {block.origin}")
-    print(row)
-    print(named_row(row, week))
-    if not (given.fix or given.early):
-        print("The model is the one without --fix and --early: give these options too if encode had them.")
-
-
-def main() -> Optional[int]:
-    """The command `inrc2pb-check`."""
-    options = parser(
+def options() -> Parser:
+    """The parser of the verb."""
+    checks = parser(
         "Checks the files of a week: names the first mistake in each file and how to correct it, and prints warnings.",
-        "--sce is required. Ends with status 1 if a file has a mistake; a warning is not a mistake.",
+        "--sce is required. Ends with status 1 if a file has a mistake; a warning is not a mistake.\n"
+        "Example: inrc2pb-roster check $WEEK --roster roster.txt",
+        "check",
     )
-    add_week_options(options, required=False)
-    add_given_option(options)
-    options.add_argument(
-        "--roster", metavar="FILE", type=Path, action="append", default=[], help="a roster of the week, as a solution file"
-    )
-    options.add_argument("--constraint", metavar="N", type=int, help="print the constraint N of the week's model, and its rule")
-    options.add_argument("--tell", action="store_true", help="print the files in sentences")
-    options.add_argument("--why-none", action="store_true", help="if no roster exists: the minimum numbers to lower, and who has the skill")
-    given = options.parse_args()
+    add_weeks_options(checks, required=False)
+    add_given_option(checks)
+    add_rosters_option(checks, "rosters of the week to check, as solution files")
+    checks.add_argument("--tell", action="store_true", help="print the files in sentences")
+    checks.add_argument("--why-none", action="store_true", help="if no roster exists: the minimum numbers to lower, and who has the skill")
+    return checks
+
+
+def _check_options(given: argparse.Namespace) -> None:
+    """Raises Misuse if options need others."""
     if not given.sce:
         raise Misuse("no scenario is given: give --sce FILE, and the files to check; is WEEK set in this terminal?")
-    if given.constraint is not None and not (given.his and given.week):
-        raise Misuse("--constraint needs the whole week: give --sce, --his and --week")
-    if given.why_none and not (given.his and given.week):
-        raise Misuse("--why-none needs the whole week: give --sce, --his and --week")
-    if given.facts and not (given.his and given.week):
-        raise Misuse("--given needs the whole week: give --sce, --his and --week")
-    check_no_pipes((given.sce, given.his, given.week, given.fix, given.facts, *given.roster))
+    if len(given.week) > 1:
+        raise Misuse(f"--week has {len(given.week)} files: check each week with its own history")
+    for name, value in (("--why-none", given.why_none), ("--given", given.facts)):
+        if value and not (given.his and given.week):
+            raise Misuse(f"{name} needs the whole week: give --sce, --his and --week")
+    check_no_pipes((given.sce, given.his, *given.week, fix_files(given.fix, 1).get(0), given.facts, *given.roster))
+
+
+def main(given: argparse.Namespace) -> int:
+    """Checks the files; the exit status."""
+    _check_options(given)
     check = Check(given)
     week, held = check.all_files()
-    if not check.mistakes and week and given.constraint is not None:
-        _explain(given.constraint, week, held, given)
-    elif not check.mistakes and week and given.why_none:
-        print("\n".join(shortage_lines(why_none(week_files(given), week))), flush=True)
+    if not check.mistakes and week and given.why_none:
+        print("\n".join(shortage_lines(why_none(the_week(given), week))), flush=True)
         return 0
-    elif not check.mistakes and week:
+    if not check.mistakes and week:
         check.model(week, held)
     elif not check.mistakes and given.roster:
         print("warning: hard rules are not checked without the whole week: give --his and --week too")
-    if not check.mistakes and given.constraint is None:
+    if not check.mistakes:
         print("No mistake found, but see the warnings." if check.impossible else "No mistake found.")
     return FAULT if check.mistakes else 0

@@ -1,4 +1,4 @@
-"""The common part of the helpers' command lines: the options of a week's files, and the end of a command after a fault."""
+"""The common part of the commands: the options of weeks' files, and the end of a command after a fault."""
 
 import argparse
 import contextlib
@@ -16,9 +16,17 @@ from ..programs.own_folder import own_folder
 from ..programs.program import FAULT, OUT_OF_MEMORY, READ_OR_WRITE, WeekFiles
 
 __all__ = [
-    "add_given_option", "add_seed_option", "add_solver_option", "add_week_options", "check_seconds", "number_of_seconds", "parser", "run",
-    "week_files",
-]  # fmt: skip
+    "add_given_option",
+    "add_rosters_option",
+    "add_solver_option",
+    "add_weeks_options",
+    "check_seconds",
+    "fix_files",
+    "number_of_seconds",
+    "parser",
+    "run",
+    "the_week",
+]
 
 # The exit statuses with which a shell reports that the signals PIPE and INT ended a command; that of another signal is its number more
 # than the base.
@@ -35,40 +43,62 @@ def number_of_seconds(text: str) -> float:
         raise argparse.ArgumentTypeError(f"'{text}' is no number: give seconds, such as 60 or 2.5") from None
 
 
-def fixes_by_week(texts: Sequence[str]) -> Dict[int, Path]:
-    """The fix files of some weeks, each given as `N=FILE`."""
+def fix_files(texts: Sequence[str], weeks: int) -> Dict[int, Path]:
+    """The fix files of some weeks, by the week's index among this number of weeks, from 0.
+
+    Each is given as `N=FILE`, where N is 1 for the first week, or as `FILE` if there is only one week.
+    Raises Misuse if there is no such week, or if it has two files.
+    """
     fixes: Dict[int, Path] = {}
     for text in texts:
         found = re.fullmatch("([0-9]{1,4})=(.+)", text, re.DOTALL)
-        if not found:
-            raise Misuse(f"--fix {text}: give the week's number and its file, such as 0=promised.txt")
-        number = int(found[1])
-        if number in fixes:
-            raise Misuse(f"--fix {text}: week {number} has the file {fixes[number]}: put all rows into one file")
-        fixes[number] = Path(found[2])
+        if not found and weeks > 1:
+            raise Misuse(f"--fix {text}: give the week's number, 1 for the first week, and its file, such as 1=promised.txt")
+        number, path = (int(found[1]), Path(found[2])) if found else (1, Path(text))
+        if not 1 <= number <= weeks:
+            last = "for the only week" if weeks == 1 else f"for the first week, and {weeks} for the last"
+            raise Misuse(f"--fix {text}: there is no week {number}: give 1 {last}")
+        if number - 1 in fixes:
+            raise Misuse(f"--fix {text}: week {number} has the file {fixes[number - 1]}: put all rows into one file")
+        fixes[number - 1] = path
     return fixes
 
 
-def add_week_options(options: argparse.ArgumentParser, required: bool = True) -> None:
-    """The options that name a week's files, as `inrc2pb` has them."""
+def add_weeks_options(options: argparse.ArgumentParser, required: bool = True) -> None:
+    """The options that name the files of one or more weeks, as `inrc2pb-bound` has them."""
     options.add_argument("--sce", metavar="FILE", type=Path, required=required, help="the scenario")
-    options.add_argument("--his", metavar="FILE", type=Path, required=required, help="the history with which the week begins")
-    options.add_argument("--week", metavar="FILE", type=Path, required=required, help="the week's requirements and requests")
-    options.add_argument("--fix", metavar="FILE", type=Path, help="assignments to keep, as a solution file")
+    options.add_argument("--his", metavar="FILE", type=Path, required=required, help="the history with which the first week begins")
+    options.add_argument(
+        "--week",
+        metavar="FILE",
+        type=Path,
+        nargs="+",
+        action="extend",
+        default=None if required else [],
+        required=required,
+        help="the requirements and requests of each week, in order",
+    )
+    options.add_argument(
+        "--fix",
+        metavar="[N=]FILE",
+        action="append",
+        default=[],
+        help="assignments to keep, as a solution file; of week N of several as N=FILE, where N is 1 for the first week that is given",
+    )
     options.add_argument("--early", action="store_true", help="charge excess assignments and weekends as soon as they occur")
+
+
+def add_rosters_option(options: argparse.ArgumentParser, asks: str, required: bool = False) -> None:
+    """The option that names a roster of each week."""
+    options.add_argument(
+        "--roster", metavar="FILE", type=Path, nargs="+", action="extend", default=None if required else [], required=required, help=asks
+    )
 
 
 def add_given_option(options: argparse.ArgumentParser) -> None:
     """The option that names the facts that plans keep."""
     asks = "facts about the period to keep: absences, and limits that hold"
     options.add_argument("--given", dest="facts", metavar="FILE", type=Path, help=asks)
-
-
-def add_seed_option(options: argparse.ArgumentParser) -> None:
-    """The option that begins the random choices of a search."""
-    options.add_argument(
-        "--seed", metavar="N", type=int, default=1, help="the beginning of the search's random choices: with one processor the same search"
-    )
 
 
 def add_solver_option(options: argparse.ArgumentParser) -> None:
@@ -81,14 +111,16 @@ def add_solver_option(options: argparse.ArgumentParser) -> None:
 
 
 def check_seconds(seconds: float, option: str) -> None:
-    """The limit of a search is a number with which it ends."""
+    """Raises Misuse if a search with this limit would not end."""
     if not 0 < seconds <= MAX_SECONDS:
         raise Misuse(f"{option} has to be a number of seconds above 0, and at most {MAX_SECONDS}")
 
 
-def week_files(given: argparse.Namespace) -> WeekFiles:
-    """The files that the options of `add_week_options` name."""
-    return WeekFiles(given.sce, given.his, given.week, given.fix, given.early, given.facts)
+def the_week(given: argparse.Namespace) -> WeekFiles:
+    """The files of the only week that the options of `add_weeks_options` name. Raises Misuse if they name several weeks."""
+    if len(given.week) != 1:
+        raise Misuse(f"--week has {len(given.week)} files: give one")
+    return WeekFiles(given.sce, given.his, given.week[0], fix_files(given.fix, 1).get(0), given.early, given.facts)
 
 
 class _Remarks(io.TextIOWrapper):
@@ -125,7 +157,7 @@ def _standard_error(stream: Optional[TextIO]) -> TextIO:
 
 
 def run(main: Callable[[], Optional[int]]) -> None:
-    """Runs a helper and exits: each fault is one line on standard error, with status 1 or the program's own."""
+    """Runs a command and exits: each fault is one line on standard error, with status 1 or the program's own."""
     name = os.path.basename(sys.argv[0])
     sys.stdout = _standard_output(sys.stdout)
     sys.stderr = _standard_error(sys.stderr)

@@ -1,4 +1,4 @@
-"""The helpers by name: each runs the `main` of a module."""
+"""The commands: each entry point runs the `main` of a module. A copy of the launcher finds its command by its own name."""
 
 import importlib
 import os
@@ -8,19 +8,35 @@ from typing import Iterator
 from .command import run
 from ..week.faults import Misuse
 
-MODULES = {
-    "inrc2pb-check": "check",
-    "inrc2pb-improve": "improve",
-    "inrc2pb-keep": "keep",
-    "inrc2pb-lp": "lp",
-    "inrc2pb-next": "next",
-    "inrc2pb-period": "period",
-    "inrc2pb-plan": "plan",
-    "inrc2pb-simulate": "simulate",
-    "inrc2pb-table": "table",
-    "inrc2pb-ward": "ward",
-    "inrc2pb-wish": "wish",
-}
+MODULES = {"inrc2pb-plan": "plan", "inrc2pb-roster": "roster", "inrc2pb-solve": "solve"}
+
+
+def plan() -> None:
+    """The command `inrc2pb-plan`."""
+    run(lambda: _main("plan"))
+
+
+def roster() -> None:
+    """The command `inrc2pb-roster`."""
+    run(lambda: _main("roster"))
+
+
+def solve() -> None:
+    """The command `inrc2pb-solve`."""
+    run(lambda: _main("solve"))
+
+
+def launch() -> None:
+    """Runs the command as which this process was started, and exits."""
+    run(_run_by_name)
+
+
+def _run_by_name() -> int:
+    """Runs the command as which this process was started, and returns its status."""
+    module = next((MODULES[name] for name in _names(sys.argv[0]) if name in MODULES), None)
+    if not module:
+        raise Misuse(f"no command has this name: give it one of {', '.join(MODULES)}")
+    return _main(module)
 
 
 def _names(path: str) -> Iterator[str]:
@@ -31,14 +47,5 @@ def _names(path: str) -> Iterator[str]:
         yield os.path.basename(path)
 
 
-def _run_by_name() -> int:
-    """Runs the helper as which this process was started, and returns its status."""
-    module = next((MODULES[name] for name in _names(sys.argv[0]) if name in MODULES), None)
-    if not module:
-        raise Misuse(f"no helper has this name: give it one of {', '.join(MODULES)}")
+def _main(module: str) -> int:
     return importlib.import_module(f"{__package__}.{module}").main() or 0
-
-
-def launch() -> None:
-    """Runs the helper as which this process was started, and exits."""
-    run(_run_by_name)

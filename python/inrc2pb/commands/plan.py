@@ -26,12 +26,13 @@ from ..sheets.sheet_files import Book, read_book
 from ..sheets.ward_sheets import shift_times
 from ..week.faults import Misuse
 from ..week.records import WeekData
-from ..week.slots import did_you_mean
+from . import ward
+from .arguments import check_verb, table_of
 from .command import check_seconds, number_of_seconds, parser
-from .ward import ward_files, ward_name
 
 # The verbs and their effects, in the order of the help. Verbs that only read need no lock.
 VERBS = {
+    "new": "write an example spreadsheet into the folder, which is made if there is none",
     "check": "name the mistakes of the spreadsheet, and print the ward in sentences",
     "plan [DAY]": "plan the weeks that are not over, from this day on",
     "ill NAME DAY [DAY]": "she is ill from the first to the last day: a plan with few changes; also leave, unpaid, training, away",
@@ -41,6 +42,7 @@ VERBS = {
     "page": "write the pages and calendars; from now on plans change little",
     "undo": "the plan before the last verb holds again",
     "serve": "a page in your browser that does the same",
+    "files": "write the ward as text files, for inrc2pb, inrc2pb-roster and inrc2pb-solve",
 }
 _NAMES = tuple(dict.fromkeys((*(usage.split(" ")[0] for usage in VERBS), *AWAY)))
 # Hosts by which a server is reached by all names of its machine, of which a browser can write none.
@@ -49,12 +51,13 @@ _ORIGIN = re.compile(r"https?://[a-z0-9.-]+(:[0-9]{1,5})?")
 
 
 def _options() -> argparse.ArgumentParser:
-    width = max(map(len, VERBS))
-    verbs = "\n".join(f"  {usage:{width}}  {text}" for usage, text in VERBS.items())
     options = parser(
-        "Plans a ward from one folder: its spreadsheet, and what verbs have made of it.\n\n" + verbs,
+        f"Plans a ward from one folder: its spreadsheet, and what verbs have made of it.\n\n{table_of(VERBS)}",
         "A day is Fri (the next one of the plan), Fri 2 (that of week 2), or a date. A name may be its beginning, if that is clear.\n"
         "The folder gets roster.html, wall.html, calendars, and in plans each plan with its time: no verb changes an older one.\n"
+        "The sheets are shifts, contracts, nurses, needs and plan: new writes an example with all columns. Blanks in names become _.\n"
+        "The files are ward.txt, history-0.txt, facts.txt with the absences and the limits that hold (option --given of the other\n"
+        "commands), reasons.txt with the reasons of absences, and for each week N week-N.txt and fix-N.txt, the shifts that are held.\n"
         'Example: inrc2pb-plan "my ward" ill Chen Fri Sun',
     )
     options.add_argument(
@@ -82,20 +85,29 @@ def _options() -> argparse.ArgumentParser:
         default="",
         help="with serve: how the address in browsers begins, as https://ward.example, if a proxy or a tunnel leads to this machine",
     )
+    options.add_argument("--out", metavar="FOLDER", type=Path, help="with files: where they go (default: the ward's folder)")
+    options.add_argument(
+        "--credit",
+        metavar="WORDS",
+        help=f"with files: absences that count as work in history-0.txt, some of {','.join(AWAY)}, or none (default: {','.join(COUNTED)})",
+    )
+    options.add_argument(
+        "--requests", action="store_true", help="with files: absences in the weeks' files too, as many equal requests, for other solvers"
+    )
     options.add_argument("--free", action="store_true", help="with plan: all shifts may change, also of a plan that hangs on the wall")
     return options
 
 
 def read_sheet(path: Path, name: Optional[str], absences: Sequence[DayWord]) -> Ward:
     """The ward of a spreadsheet, which has this name, if it has one, with these days away in its plan."""
-    return _ward_of(read_book(path), name or ward_name(path), absences)
+    return _ward_of(read_book(path), name or ward.ward_name(path), absences)
 
 
 def _ward_of(sheets: Book, name: str, absences: Sequence[DayWord]) -> Ward:
     """The ward of a spreadsheet that was read."""
     book = with_written(sheets, read_days(sheets), absences)
     days = read_days(book)
-    files = ward_files(book, name, days, days.weeks, COUNTED)
+    files = ward.ward_files(book, name, days, COUNTED)
     scenario, history, claims, weeks = files.records
     return Ward(
         texts=files.texts,
@@ -128,14 +140,15 @@ def _check(given: argparse.Namespace) -> None:
         raise Misuse(f"write the folder in quotes: inrc2pb-plan '{given.folder} {given.verb}' {' '.join(given.words)}".rstrip())
     if given.verb not in _NAMES and str(given.folder) in _NAMES and not given.folder.exists():
         raise Misuse(f"the folder comes first: type inrc2pb-plan {shlex.quote(given.verb)} {given.folder}")
-    if given.verb not in _NAMES:
-        raise Misuse(f"'{given.verb}' is no verb: {did_you_mean(given.verb, _NAMES, otherwise)}")
+    check_verb(given.verb, _NAMES)
     if given.do and given.verb != "swap":
         raise Misuse("--do is for swap: leave it out")
     if given.free and given.verb != "plan":
         raise Misuse("--free is for plan: leave it out")
     _check_address(given)
-    if given.words and given.verb in ("check", "page", "undo", "serve"):
+    if (given.out or given.credit is not None or given.requests) and given.verb != "files":
+        raise Misuse("--out, --credit and --requests are for files: leave them out")
+    if given.words and given.verb in ("new", "check", "page", "undo", "serve", "files"):
         raise Misuse(f"'{given.words[0]}' is a word too many: {given.verb} has none")
     if given.time is not None:
         check_seconds(given.time, "--time")
@@ -159,7 +172,8 @@ def _options_first(words: Sequence[str]) -> List[str]:
     options: List[str] = []
     others: List[str] = []
     for before, word in zip(["", *words], words):
-        (options if word.startswith("-") or before in ("--time", "--port", "--host", "--origin") else others).append(word)
+        is_value = before in ("--time", "--port", "--host", "--origin", "--out", "--credit")
+        (options if word.startswith("-") or is_value else others).append(word)
     return [*options, *others]
 
 
@@ -182,6 +196,14 @@ def _serve(folder: WardFolder, given: argparse.Namespace) -> None:
         server.run(signals)
 
 
+def _files(given: argparse.Namespace) -> List[str]:
+    """Writes the text files of the ward, whose folder or spreadsheet is given. Returns the lines to print."""
+    is_file = given.folder.is_file()
+    tables = given.folder if is_file else WardFolder(given.folder).spreadsheet()
+    credit = ",".join(COUNTED) if given.credit is None else given.credit
+    return ward.files(tables, given.out or (given.folder.parent if is_file else given.folder), credit, given.requests)
+
+
 def _verbs(folder: WardFolder) -> Verbs:
     """The verbs of a folder. Their progress counts from now on."""
     return Verbs(folder, Means(read_sheet, Progress(sys.stderr), _say))
@@ -191,6 +213,12 @@ def main() -> Optional[int]:
     """The command `inrc2pb-plan`."""
     given = _options().parse_args(_options_first(sys.argv[1:]))
     _check(given)
+    if given.verb == "new":
+        print("\n".join(ward.new(given.folder)))
+        return 0
+    if given.verb == "files":
+        print("\n".join(_files(given)))
+        return 0
     folder = WardFolder(given.folder)
     event = Event(given.verb, tuple(given.words), given.time, given.free, given.do)
     if given.verb == "check":

@@ -1,14 +1,12 @@
-"""Writes the files of a ward from a spreadsheet: the ward, the first history, and each week with its held shifts."""
+"""The verbs `new` and `files` of `inrc2pb-plan`: an example spreadsheet, and the text files of a ward that its spreadsheet says."""
 
-import argparse
 import contextlib
 import re
-import shlex
 from pathlib import Path
 from typing import Dict, FrozenSet, Iterator, List, NamedTuple, Sequence, TextIO, Tuple
 
 from ..judging.absences import NO_SKILL, TooMany, joined, readable, with_requests
-from .command import parser
+from .arguments import as_typed
 from ..judging.demand import demand_warnings, supply_warnings
 from ..judging.given import with_given
 from ..week.facts import Claim, facts_text
@@ -19,12 +17,13 @@ from ..week.records import History, Scenario, Solution, WeekData
 from ..week.writing import replacing
 from ..week.hints import quoted
 from ..judging.odd_values import history_warnings, scenario_warnings, week_warnings
-from ..sheets.plan_sheets import AWAY, COUNTED, Days, WeekSheet, check_held, days_away, plan_warnings, read_days, read_weeks
+from ..sheets.plan_sheets import AWAY, Days, WeekSheet, check_held, days_away, plan_warnings, read_days, read_weeks
 from ..sheets.part_contracts import with_part_contracts
 from ..sheets.sheet_facts import absence_reasons, claims_of
 from ..sheets.sheet_looks import look_warnings
 from ..sheets.sheet_files import Book, read_book
 from ..sheets.sheet_rows import tidy
+from ..plans.store import has_spreadsheet
 from ..week.slots import MAX_NUMBER
 from ..week.targets import check_target
 from ..sheets.ward_sheets import book_warnings, read_ward, skill_warnings, ward_warnings
@@ -32,39 +31,13 @@ from ..sheets.ward_template import write_template
 from ..judging.leave import credit_line, credited, paid_days, shifts_of_leave
 
 
-def _options() -> argparse.ArgumentParser:
-    options = parser(
-        "Writes the files of a ward from a spreadsheet: an .ods or .xlsx file, or a folder of .csv files.",
-        "The sheets are shifts, contracts, nurses, needs and plan: --template writes an example with all columns.\n"
-        "The folder gets ward.txt, history-0.txt, facts.txt with the absences and the limits that hold (option --given of the other\n"
-        "commands), reasons.txt with the reasons of absences, and for each week N week-N.txt and fix-N.txt, the shifts that are held.\n"
-        "Files of these names are replaced. Blanks in names become _.\n"
-        "Example: inrc2pb-ward ward.ods --out my_ward --credit leave,training",
-    )
-    options.add_argument("tables", nargs="?", metavar="FILE", type=Path, help="the spreadsheet, or the folder of .csv files")
-    options.add_argument("--out", metavar="FOLDER", type=Path, help="the folder for the files; it is made if there is none")
-    options.add_argument("--weeks", metavar="N", type=int, help="the weeks of the period (default: the weeks of the sheet plan)")
-    options.add_argument(
-        "--credit", metavar="WORDS", default=",".join(COUNTED),
-        help=f"absences that count as work in history-0.txt, some of {','.join(AWAY)}, or none (default: %(default)s)",
-    )
-    options.add_argument(
-        "--requests", action="store_true", help="write absences into the weeks' files too, as many equal requests, for other solvers"
-    )
-    options.add_argument("--template", metavar="FILE", type=Path, help="write an example spreadsheet to this .ods file")
-    return options
+# The name of the example spreadsheet.
+TEMPLATE = "ward.ods"
 
 
 def ward_name(path: Path) -> str:
     """A name for the ward, from that of the file."""
     return re.sub("[(),= ]", "_", tidy(path.resolve().stem)) or "ward"
-
-
-def _period(days: Days, weeks: int) -> int:
-    """The weeks of the period, which has those of the plan."""
-    if not days.weeks <= weeks <= 52:
-        raise Misuse(f"--weeks {weeks}: the plan has {days.weeks} weeks, and a period 52 at most: give a number from {days.weeks} to 52")
-    return weeks
 
 
 def _reasons(text: str) -> List[str]:
@@ -97,9 +70,9 @@ class WardFiles(NamedTuple):
     records: WardRecords
 
 
-def ward_files(book: Book, name: str, days: Days, weeks: int, reasons: Sequence[str], requests: bool = False) -> WardFiles:
-    """The files of a ward with this name and number of weeks. Absences for these reasons count as work."""
-    ward = read_ward(book, name, weeks)
+def ward_files(book: Book, name: str, days: Days, reasons: Sequence[str], requests: bool = False) -> WardFiles:
+    """The files of a ward with this name, for these days. Absences for these reasons count as work."""
+    ward = read_ward(book, name, days.weeks)
     sheets = read_weeks(book, ward, days)
     check_held(ward, sheets)
     credit = dict(days_away(sheets, reasons))
@@ -126,7 +99,7 @@ def ward_files(book: Book, name: str, days: Days, weeks: int, reasons: Sequence[
         past, paid = None if number else history, [paid_days(later.reasons, reasons) for later in sheets[number:]]
         for line in (*week_warnings(ward.scenario, data), *demand_warnings(ward.scenario, past, data, paid)):
             odd.setdefault(line, []).append(number)
-    warnings += [f"sheet needs, week {', '.join(map(str, numbers))}: {line}" for line, numbers in odd.items()]
+    warnings += [f"sheet needs, week {', '.join(str(number + 1) for number in numbers)}: {line}" for line, numbers in odd.items()]
     warnings += [f"sheet needs: {line}" for line in supply_warnings(ward.scenario, history, datas)]
     holidays = frozenset(7 * number + day for number, sheet in enumerate(sheets) if len(sheet.holidays) < 7 for day in sheet.holidays)
     counted = {nurse: (days, shifts[nurse]) for nurse, days in credit.items()}
@@ -143,7 +116,7 @@ def _with_requests(book: Book, scenario: Scenario, data: WeekData, number: int) 
     try:
         return with_requests(scenario, data, ()).data
     except TooMany as fault:
-        raise FileFault(book.path, 0, f"sheet plan, week {number}: {fault}: {NO_SKILL}") from fault
+        raise FileFault(book.path, 0, f"sheet plan, week {number + 1}: {fault}: {NO_SKILL}") from fault
 
 
 def _old_histories(folder: Path, first: str, weeks: int) -> Iterator[str]:
@@ -157,7 +130,7 @@ def _old_histories(folder: Path, first: str, weeks: int) -> Iterator[str]:
     changed = [nurse for nurse, row in _nurse_rows(first).items() if before.get(nurse, row) != row]
     if changed:
         them = "it" if len(later) == 1 else "them"
-        advice = f"make {them} again with inrc2pb-next or inrc2pb-period"
+        advice = f"make {them} again with inrc2pb-roster next or inrc2pb-solve"
         yield f"history-0.txt has new numbers of {quoted(changed)}, and {joined(later)} the old ones: {advice}"
 
 
@@ -178,28 +151,33 @@ def _write(folder: Path, found: Dict[str, str]) -> None:
             target.flush()
 
 
-def main() -> int:
-    """The command `inrc2pb-ward`."""
-    given = _options().parse_args()
-    if given.template and not (given.tables or given.out):
-        write_template(given.template)
-        folder = shlex.quote(str(given.template.parent))
-        print(f"written: {given.template}; change its rows into those of your ward, then type: inrc2pb-plan {folder} check")
-        return 0
-    if given.template or not (given.tables and given.out):
-        raise Misuse("give a spreadsheet and --out with a folder for the ward's files, or --template alone, with the .ods file to write")
-    reasons = _reasons(given.credit)
-    book = read_book(given.tables)
-    days = read_days(book)
-    weeks = _period(days, days.weeks if given.weeks is None else given.weeks)
-    files = ward_files(book, ward_name(given.tables), days, weeks, reasons, given.requests)
-    old = list(_old_histories(given.out, files.texts["history-0.txt"], weeks))
-    _write(given.out, files.texts)
-    for line in files.warnings:
-        print(f"{given.tables}: warning: {readable(line)}")
-    print(f"{given.out}: {', '.join(files.texts)}")
-    for nurse, (away, shifts) in files.credit.items():
-        print(credit_line(nurse, away, shifts, "history-0.txt"))
-    for line in old:
-        print(f"{given.out}: warning: {readable(line)}")
-    return 0
+def new(folder: Path) -> List[str]:
+    """Writes an example spreadsheet into the folder, which is made if there is none. Returns the lines to print.
+
+    Raises Misuse if the folder has a spreadsheet.
+    """
+    folder.mkdir(parents=True, exist_ok=True)
+    target = folder / TEMPLATE
+    if has_spreadsheet(folder):
+        raise Misuse(f"{folder} has a spreadsheet: give a new folder")
+    write_template(target)
+    return [f"written: {target}; change its rows into those of your ward, then type: {as_typed(('inrc2pb-plan', folder, 'check'))}"]
+
+
+def files(tables: Path, out: Path, credit: str, requests: bool) -> List[str]:
+    """Writes the text files of a ward into the folder `out`, all or none of them. Returns the lines to print.
+
+    `tables` is the spreadsheet, or a folder of .csv files. Absences for the reasons of `credit` count as work in the first history. With
+    `requests` the weeks' files have absences too, as many equal requests.
+    """
+    reasons = _reasons(credit)
+    book = read_book(tables)
+    found = ward_files(book, ward_name(tables), read_days(book), reasons, requests)
+    old = list(_old_histories(out, found.texts["history-0.txt"], sum(name.startswith("week-") for name in found.texts)))
+    _write(out, found.texts)
+    return [
+        *(f"{tables}: warning: {readable(line)}" for line in found.warnings),
+        f"{out}: {', '.join(found.texts)}",
+        *(credit_line(nurse, away, shifts, "history-0.txt") for nurse, (away, shifts) in found.credit.items()),
+        *(f"{out}: warning: {readable(line)}" for line in old),
+    ]

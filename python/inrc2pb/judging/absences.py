@@ -1,7 +1,7 @@
 """Absences: nurses who are away on a day, or never work a shift type on it.
 
 They are facts that plans keep. For solvers that know only a week's file they are also written as many equal requests: one that is there
-`MARK` times or more is an absence too, and each helper keeps it.
+`MARK` times or more is an absence too, and each command keeps it.
 """
 
 import collections
@@ -61,7 +61,7 @@ def way_out(scenario: Scenario, held: Iterable[Cell], broken: Collection[Cell]) 
         and any(row.day == day and skill in scenario.nurses[row.nurse].skills for day, _, skill in wanted)
     ]  # fmt: skip
     if not able:
-        return "type inrc2pb-check with the same files and --why-none: it says which minimum numbers to lower"
+        return "type inrc2pb-roster check with the same files and --why-none: it says which minimum numbers to lower"
     some = ", ".join(f"{readable(row.nurse)} {DAYS[row.day]} {readable(row.shift)}" for row in able[:6])
     return f"hold fewer shifts with --fix; these nurses have the skill: {some}{', and more' * (len(able) > 6)}"
 

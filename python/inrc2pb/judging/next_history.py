@@ -37,7 +37,7 @@ def next_nurse_history(past: NurseHistory, shifts: Dict[int, str], new_period: b
 def next_history(scenario: Scenario, history: History, cells: Iterable[Cell], new_period: bool = False) -> History:
     """The next week's history. A nurse with two assignments on one day, and a week after the last one, are a Misuse."""
     if not new_period and history.week + 1 >= scenario.weeks:
-        raise Misuse(f"week {history.week} is the last of {scenario.weeks}: begin a new period with --new-period")
+        raise Misuse(f"week {history.week + 1} is the last of {scenario.weeks}: begin a new period with --new-period")
     shifts: Dict[str, Dict[int, str]] = {nurse: {} for nurse in history.nurses}
     for cell in cells:
         if cell.day in shifts[cell.nurse]:

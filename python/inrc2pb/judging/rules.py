@@ -1,6 +1,6 @@
 """The rules of one week, written from docs/rules.md alone, to be compared with the program.
 
-`python3 -m inrc2pb.commands.rules_command --sce F --his F --week F [--fix F] [--early] ROSTER` prints the first hard rule that the roster
+`python/tests/rules_command.py --sce F --his F --week F [--fix F] [--early] ROSTER` prints the first hard rule that the roster
 breaks as `extend` does; if it breaks none, the penalty and the costs as `decode` reports them.
 """
 

@@ -78,7 +78,7 @@ def _supplies(plan: WardPlan) -> Iterator[str]:
     for number in plan.weeks:
         own_first = [paid[number], *(days for other, days in paid.items() if other != number)]
         supply = supply_text(plan.scenario, plan.past, plan.data[number], own_first)
-        yield f"Week {number}, {plan.days.text(WEEK_DAYS * number)}: {supply}."
+        yield f"Week {number + 1}, {plan.days.text(WEEK_DAYS * number)}: {supply}."
 
 
 # ---- a search
@@ -175,7 +175,7 @@ def _agreement_text(old: WardPlan, new: WardPlan, one: NurseDay) -> str:
 
 def cost_lines(penalties: Mapping[int, int]) -> List[str]:
     """What each week costs, and all of them."""
-    said = [f"week {number}: {points} points" for number, points in penalties.items()]
+    said = [f"week {number + 1}: {points} points" for number, points in penalties.items()]
     return [*said, f"{plural(len(said), 'week')}: {sum(penalties.values())} points"] if len(said) > 1 else said
 
 
@@ -196,7 +196,7 @@ def bound_text(known: Optional[KnownBound]) -> str:
 @lines.register
 def _no_plan_lines(found: NoPlan, write: str = "") -> List[str]:
     plan, begin = found.plan, _counts_now(found.absence) if found.absence else []
-    said = [f"week {found.week}: {shortage_head(found.shortage)}"]
+    said = [f"week {found.week + 1}: {shortage_head(found.shortage)}"]
     for short in found.shortage.places:
         said.append(readable(f"{plan.days.text(WEEK_DAYS * found.week + short.place.day)} {lowered_text(short)}"))
         if not short.is_known:
@@ -290,7 +290,7 @@ def _goes_on(found: WeekOver, new: WardPlan) -> List[str]:
     begin = new.days.text(new.first)
     now = [one for number in new.weeks for one in broken(new, number)]
     known = [one for number in new.weeks for one in broken(found.old, number)]
-    said = [f"week {found.old.state.open_week} is over: the plan goes on from {begin}", *(broken_text(new, one) for one in now)]
+    said = [f"week {found.old.state.open_week + 1} is over: the plan goes on from {begin}", *(broken_text(new, one) for one in now)]
     if any(one not in known for one in now):
         said.append(f"after these corrections the plan does not fit any more: plan again, from {begin} on")
     return [*said, *days_away_lines(new), *pages_lines(found.pages)]
@@ -301,7 +301,7 @@ def _period_over(found: WeekOver) -> List[str]:
     days = found.worked.days.next()
     begin = f"from {days.monday} on, " if days.monday else ""
     then = "into the sheet plan, with its wishes and absences; then plan"
-    closed = f"week {found.old.state.open_week} is over, and with it the {PERIOD_IS_OVER}"
+    closed = f"week {found.old.state.open_week + 1} is over, and with it the {PERIOD_IS_OVER}"
     rows = anew_lines(found.worked.ward.week_rows, days)
     return [*pages_lines(found.pages), closed, f"write the days of the next one, {begin}{then}", *rows]
 

@@ -105,7 +105,7 @@ def _files(old: WardPlan, asked: Asked, folder: Path) -> PeriodFiles:
         write_text(path, week_text(_week(old, number, asked, agreed if asked.agreed is Keep.MOST else ())))
         write_text(fixes[number], solution_text(Solution(number, old.scenario.name, in_week(held, number))))
         weeks.append(path)
-    return PeriodFiles(folder / "ward.txt", history, weeks, fixes, given=given)
+    return PeriodFiles(folder / "ward.txt", history, weeks, dict(enumerate(fixes.values())), given=given)
 
 
 def _week(old: WardPlan, number: int, asked: Asked, agreed: Collection[NurseDay]) -> WeekData:

@@ -61,7 +61,7 @@ def unkept_lines(plan: WardPlan, found: Iterable[Unkept]) -> List[str]:
     """Who works while she is away, or above a limit that holds, and what would help."""
     said: List[str] = []
     for one in found:
-        week, names, cells = f"week {one.week}", plan.day_names(one.week), plan.state.roster(one.week)
+        week, names, cells = f"week {one.week + 1}", plan.day_names(one.week), plan.state.roster(one.week)
         if one.working:
             skills = joined(dict.fromkeys(readable(cell.skill) for cell in one.working))
             said.append(f"{week}: no plan was found that keeps every absence: {in_words(one.working, names)}")
@@ -77,7 +77,7 @@ def exceeded_lines(plan: WardPlan) -> List[str]:
     said = []
     for number, charge in exceeded_in_weeks(plan):
         words = limits_in_words([charge], plan.state.roster(number), plan.day_names(number))
-        said.append(f"week {number} exceeds a limit that holds: {words}: plan again, or allow her more")
+        said.append(f"week {number + 1} exceeds a limit that holds: {words}: plan again, or allow her more")
     return said + [_shifts_line(plan, one) for one in too_many_shifts(plan)]
 
 
@@ -125,9 +125,9 @@ def days_off_lines(plan: WardPlan) -> List[str]:
 
 def broken_text(plan: WardPlan, one: Broken) -> str:
     if one.rule:
-        return f"week {one.week}, {readable(one.rule)}"
+        return f"week {one.week + 1}, {readable(one.rule)}"
     words = limits_in_words(one.above, plan.state.roster(one.week), plan.day_names(one.week))
-    return f"week {one.week} exceeds a limit that holds: {words}"
+    return f"week {one.week + 1} exceeds a limit that holds: {words}"
 
 
 # ---- swaps
@@ -181,4 +181,5 @@ def anew_lines(rows: Iterable[WeekRow], days: PlanDays) -> Iterator[str]:
     for week, numbers in found.items():
         named = f"row{'s' if len(numbers) > 1 else ''} {joined(numbers)}"
         span = f", now {days.span([WEEK_DAYS * week, WEEK_DAYS * week + WEEK_DAYS - 1])}" if days.monday else ""
-        yield f"sheet needs, {named}: weeks count anew, and this is week {week}{span}: correct it, or delete what the last period needed"
+        now = f"weeks count anew, and this is week {week + 1}{span}"
+        yield f"sheet needs, {named}: {now}: correct it, or delete what the last period needed"

@@ -34,6 +34,11 @@ _NAME = re.compile("([0-9]{4,})-.+")
 _PAUSE = 0.2
 
 
+def has_spreadsheet(top: Path) -> bool:
+    """Whether the folder has a spreadsheet, or sheets as .csv files."""
+    return any(path.suffix.lower() in (*_SPREADSHEETS, *_CSV) for path in top.iterdir() if path.is_file())
+
+
 class WardFolder:
     """A folder with a spreadsheet. The plans are the folders `plans/NNNN-TIME-VERB`; the last of them holds."""
 
@@ -52,7 +57,7 @@ class WardFolder:
             return found[0]
         if any(path.suffix.lower() in _CSV for path in files):
             return self.top
-        raise Misuse(f"{self.top} has no spreadsheet: put the ward's .ods or .xlsx file into it; inrc2pb-ward --template writes an example")
+        raise Misuse(f"{self.top} has no spreadsheet: put the ward's .ods or .xlsx file into it, or give a new folder and `new`")
 
     def all_plans(self) -> List[Path]:
         """The folders of all plans, in the order in which they were made."""

@@ -305,7 +305,7 @@ def _check_names(ward: Ward, worked: Sequence[Cell]) -> None:
         week = cell.day // WEEK_DAYS
         if cell.nurse not in ward.scenario.nurses:
             cure = "write it again, with away in the plan from her last day on"
-            raise Misuse(f"{readable(cell.nurse)} worked in week {week}, and has no row in the sheet nurses: {cure}")
+            raise Misuse(f"{readable(cell.nurse)} worked in week {week + 1}, and has no row in the sheet nurses: {cure}")
         if not ward.knows(cell):
             row = cell._replace(day=cell.day % WEEK_DAYS).row()
-            raise Misuse(f"'{row}' was worked in week {week}, and the spreadsheet has no such shift type or skill: keep its old name")
+            raise Misuse(f"'{row}' was worked in week {week + 1}, and the spreadsheet has no such shift type or skill: keep its old name")

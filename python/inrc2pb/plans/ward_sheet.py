@@ -17,7 +17,7 @@ Needs = Mapping[Place, Requirement]
 
 
 class WeekRow(NamedTuple):
-    """A row of the needs that has a week: its number, its week, and the numbers that it has."""
+    """A row of the needs that has a week: its number, its week, from 0, and the numbers that it has."""
 
     number: int
     week: int
@@ -27,7 +27,7 @@ class WeekRow(NamedTuple):
 def week_rows(book: Book) -> List[WeekRow]:
     """The rows that have a week. The book has no faults."""
     rows = [row for row in table_of(book, "needs").rows if row.of("week").text]
-    return [WeekRow(row.number, row.of("week").number(), _needs_of(row)) for row in rows]
+    return [WeekRow(row.number, row.of("week").number() - 1, _needs_of(row)) for row in rows]
 
 
 def _needs_of(row: SheetRow) -> Needs:

@@ -37,7 +37,8 @@ def is_day(word: str) -> bool:
 
 
 class PlanDays(NamedTuple):
-    """The days of some weeks, counted from 0. The date of the first Monday is None if the spreadsheet has no dates."""
+    """The days of some weeks, counted from 0; in words weeks count from 1. The date of the first Monday is None if the sheet has no
+    dates."""
 
     monday: Optional[datetime.date]
     weeks: int
@@ -57,9 +58,9 @@ class PlanDays(NamedTuple):
         return self.monday + day * DAY
 
     def text(self, day: int) -> str:
-        """A day in a sentence, as `Fri 4 Dec`, or `Fri of week 0`."""
+        """A day in a sentence, as `Fri 4 Dec`, or `Fri of week 1`."""
         name = DAYS[day % WEEK_DAYS]
-        return f"{name} of week {day // WEEK_DAYS}" if self.monday is None else f"{name} {date_text(self.date(day))}"
+        return f"{name} of week {day // WEEK_DAYS + 1}" if self.monday is None else f"{name} {date_text(self.date(day))}"
 
     def span(self, days: Sequence[int]) -> str:
         """The first and the last of these days, as `Fri 4 Dec to Sun 6 Dec`."""
@@ -71,8 +72,8 @@ class PlanDays(NamedTuple):
         return joined(self.span([day for _, day in row]) for _, row in rows)
 
     def head(self, day: int) -> str:
-        """The day as the head of a column, as `2026-12-04` or `Fri 0`."""
-        return f"{DAYS[day % WEEK_DAYS]} {day // WEEK_DAYS}" if self.monday is None else str(self.date(day))
+        """The day as the head of a column, as `2026-12-04` or `Fri 1`."""
+        return f"{DAYS[day % WEEK_DAYS]} {day // WEEK_DAYS + 1}" if self.monday is None else str(self.date(day))
 
     def number(self, text: str, near: int) -> int:
         """The day that a text names. A day of the week is the first one from the day `near` on."""
@@ -83,7 +84,7 @@ class PlanDays(NamedTuple):
                 raise Misuse(f"'{text}' is a {DAYS[found % WEEK_DAYS]}: write {self.head(found)}, if you mean this day")
         elif weekday:
             day = DAYS.index(weekday[1].title())
-            found = day + WEEK_DAYS * int(weekday[2]) if weekday[2] else near + (day - near) % WEEK_DAYS
+            found = day + WEEK_DAYS * (int(weekday[2]) - 1) if weekday[2] else near + (day - near) % WEEK_DAYS
         elif date:
             found = self._of_date(text, date)
         else:

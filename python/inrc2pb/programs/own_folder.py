@@ -1,4 +1,4 @@
-"""A folder for all temporary files of a helper. The folders of helpers that were killed are removed by a later one."""
+"""A folder for all temporary files of a command. The folders of commands that were killed are removed by a later one."""
 
 import contextlib
 import fcntl
@@ -10,7 +10,7 @@ import time
 from pathlib import Path
 from typing import Iterator
 
-PREFIX = "inrc2pb-helper-"
+PREFIX = "inrc2pb-command-"
 _NAME = re.compile(PREFIX + "[a-z0-9_]{8}")
 # A folder that is younger may not be locked yet.
 MIN_AGE = 60.0

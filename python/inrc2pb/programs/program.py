@@ -59,7 +59,7 @@ class Report:
 
 
 def find_program() -> Path:
-    """`$INRC2PB`; else `inrc2pb` next to the running helper, in `out` of its clone, or in PATH."""
+    """`$INRC2PB`; else `inrc2pb` next to the running command, in `out` of its clone, or in PATH."""
     named = os.environ.get("INRC2PB")
     if named:
         found = shutil.which(named)
@@ -68,9 +68,9 @@ def find_program() -> Path:
         if not _is_inrc2pb(found):
             raise ProgramFault(NO_PROGRAM, f"INRC2PB names {named}, which is not inrc2pb: correct or unset the variable")
         return Path(found).absolute()
-    helper = Path(sys.argv[0] or ".")
+    command = Path(sys.argv[0] or ".")
     in_path = shutil.which("inrc2pb")
-    beside = [helper.parent / "inrc2pb", helper.resolve().parent / "inrc2pb", Path(__file__).resolve().parents[3] / "out" / "inrc2pb"]
+    beside = [command.parent / "inrc2pb", command.resolve().parent / "inrc2pb", Path(__file__).resolve().parents[3] / "out" / "inrc2pb"]
     for place in [*beside, *([Path(in_path)] if in_path else [])]:
         if place.is_file() and os.access(place, os.X_OK):
             return place.absolute()
@@ -92,7 +92,7 @@ def _is_inrc2pb(program: str) -> bool:
 def run_program(*words: str, given: str = "", program: Optional[Path] = None) -> str:
     """Runs `inrc2pb`, or another program, on these words and this standard input, and returns its standard output.
 
-    It runs in a session of its own, so that Ctrl-C ends the helper and not a check that it has begun.
+    It runs in a session of its own, so that Ctrl-C ends the command and not a check that it has begun.
     """
     name = str(program or find_program())
     try:

@@ -106,7 +106,7 @@ def search(
     running = WeekSearch(files, week, held, best, clock, progress, seed)
     fault: Optional[BaseException] = None
     with interrupts() as signals:
-        folder = Path(tempfile.mkdtemp(prefix="inrc2pb-improve-"))
+        folder = Path(tempfile.mkdtemp(prefix="inrc2pb-solve-"))
         try:
             rows = best.start(start, held) if start else best.resume()
             with signals.calling(running.interrupt):

@@ -73,7 +73,7 @@ class PeriodSearch:
         Plans keep all absences and limits, unless none can.
         """
         runs: List[RowRun] = []
-        with tempfile.TemporaryDirectory(prefix="inrc2pb-period-") as folder:
+        with tempfile.TemporaryDirectory(prefix="inrc2pb-solve-") as folder:
             try:
                 self._run(Path(folder), runs)
             finally:
@@ -205,5 +205,5 @@ def _why_none(run: RowRun) -> str:
     if run.without_row:
         return f"no rosters keep the hard rules: the held rows of {run.without_row} contradict one another"
     if run.minimums or run.claim:
-        return "no rosters keep the hard rules of these weeks together, by plain Python: plan the weeks one by one with inrc2pb-improve"
+        return "no rosters keep the hard rules of these weeks together, by plain Python: plan the weeks one by one"
     return "no rosters were found in this time: give more"

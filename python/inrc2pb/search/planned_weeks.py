@@ -9,7 +9,6 @@ from ..judging.absences import absences_of, in_words, way_out, working_while_awa
 from ..judging.days_away import DaysAway
 from ..judging.given import read_given, with_given
 from ..judging.limits import exceeded, excess, limits_in_words, limits_way_out
-from ..week.faults import Misuse
 from ..week.records import Cell, History, Scenario, Solution, Week, WeekData
 from ..week.files import check_week_number, check_weeks_left, read_history, read_scenario, read_week, write_history, write_solution
 from ..judging.misfits import read_held
@@ -20,7 +19,7 @@ from ..programs.program import WeekFiles
 
 @dataclass(frozen=True)
 class PeriodFiles:
-    """The files of a period: the weeks' files in their order, and the fix file of some weeks, by number.
+    """The files of a period: the weeks' files in their order, and the fix file of some weeks, by their index, from 0.
 
     With `ahead` the weeks after them are not known yet, and count with the numbers of these. `given` has the facts that plans keep.
     """
@@ -58,21 +57,18 @@ class PlannedWeeks:
         check_weeks_left(len(files.weeks), self.history, self.scenario)
         self.numbers = range(self.history.week, self.history.week + len(files.weeks))
         self.held: List[Cell] = []
-        for number, path in files.fixes.items():
-            self._hold(number, path)
+        for index, path in files.fixes.items():
+            self._hold(index, path)
         claims = read_given(files.given, self.scenario) if files.given else ()
         self.data: List[WeekData] = [
             with_given(self.scenario, read_week(path, self.scenario), claims, number) for number, path in zip(self.numbers, files.weeks)
         ]
 
-    def _hold(self, number: int, path: Path) -> None:
+    def _hold(self, index: int, path: Path) -> None:
         """Keeps the rows of a fix file. The days of the plan count from its first week."""
-        if number not in self.numbers:
-            raise Misuse(f"--fix {number}={path}: week {number} is not planned, the weeks are {self.numbers[0]} to {self.numbers[-1]}")
-        known = self.history if number == self.numbers[0] else History(number, self.history.scenario, {})
-        days = WEEK_DAYS * (number - self.numbers[0])
+        known = self.history if index == 0 else History(self.numbers[index], self.history.scenario, {})
         rows = read_held(path, self.scenario, known, lambda hint: self.hints.append(f"{path}: {hint}")).cells
-        self.held += [row._replace(day=row.day + days) for row in rows]
+        self.held += [row._replace(day=row.day + WEEK_DAYS * index) for row in rows]
 
     def later(self) -> List[WeekData]:
         """A forecast of the weeks that are not known: the numbers of the known ones in turn, without requests and absences."""
@@ -86,15 +82,14 @@ class PlannedWeeks:
 
     def week_files(self, number: int, history: Optional[Path] = None) -> WeekFiles:
         """The files of a week. Its history is the given one of the first week, or another."""
-        path = self.files.weeks[number - self.numbers[0]]
-        files = self.files
-        return WeekFiles(files.scenario, history or files.history, path, files.fixes.get(number), files.early, files.given)
+        files, index = self.files, number - self.numbers[0]
+        return WeekFiles(files.scenario, history or files.history, files.weeks[index], files.fixes.get(index), files.early, files.given)
 
     def options(self) -> List[str]:
         """The files of all weeks as options of `inrc2pb-bound`, which counts them from 1."""
         files = self.files
         weeks = [word for path in files.weeks for word in ("--week", str(path))]
-        fixes = [word for number, path in files.fixes.items() for word in ("--fix", f"{number - self.numbers[0] + 1}={path}")]
+        fixes = [word for index, path in files.fixes.items() for word in ("--fix", f"{index + 1}={path}")]
         return ["--sce", str(files.scenario), "--his", str(files.history), *weeks, *fixes, *["--early"] * files.early]
 
     def each(self, cells: Sequence[Cell]) -> Iterator[Tuple[Week, Tuple[Cell, ...]]]:
@@ -119,11 +114,11 @@ class PlannedWeeks:
         for index, (week, of_week) in enumerate(self.each(cells)):
             broken, over = working_while_away(absences_of(week.data), of_week), exceeded(week, week.data.limits, of_week)
             if broken:
-                yield f"week {week.history.week}: no roster was found that keeps every absence: {in_words(broken)}"
-                yield f"week {week.history.week}: {way_out(self.scenario, _rows_of(index, self.held), broken)}"
+                yield f"week {week.history.week + 1}: no roster was found that keeps every absence: {in_words(broken)}"
+                yield f"week {week.history.week + 1}: {way_out(self.scenario, _rows_of(index, self.held), broken)}"
             if over:
-                yield f"week {week.history.week}: no plan was found that keeps every limit: {limits_in_words(over, of_week)}"
-                yield f"week {week.history.week}: {limits_way_out(week, over, of_week)}"
+                yield f"week {week.history.week + 1}: no plan was found that keeps every limit: {limits_in_words(over, of_week)}"
+                yield f"week {week.history.week + 1}: {limits_way_out(week, over, of_week)}"
 
     def write(self, cells: Sequence[Cell], folder: Path) -> List[WrittenWeek]:
         """Writes the weeks' rosters, of assignments whose days count from the first week, and the history after each week."""

@@ -15,13 +15,19 @@ _FIRST_YEAR = 1954
 
 
 def day_of_head(cell: SheetCell) -> int:
-    """The day of the week with which a head begins, as Wed or Wednesday 0."""
+    """The day of the week with which a head begins, as Wed or Wednesday 1."""
     short = cell.text[:3].casefold()
     for day, name in enumerate(DAYS):
         if short == name.casefold():
             return day
     whole = ", or whole dates such as 2026-11-30" * bool(re.search("[0-9]", cell.text))
     cell.fault(f"'{cell.text}' is no day of the week: write one of {','.join(DAYS)}{whole}, or begin the head with #")
+
+
+def week_of_head(cell: SheetCell) -> Optional[int]:
+    """The number with which a head such as `Wed 1` ends, if it has one."""
+    found = re.search("[0-9]{1,2}$", cell.text)
+    return int(found.group()) if found else None
 
 
 def date_of(cell: SheetCell) -> Optional[datetime.date]:

@@ -8,7 +8,7 @@ from ..judging.absences import is_broken_by, readable
 from ..week.faults import Gathering
 from ..week.hints import plural
 from ..week.records import DAYS, Absence, Cell, Place, Request, Requirement, Scenario
-from .head_dates import date_of, date_shown, day_of_head
+from .head_dates import date_of, date_shown, day_of_head, week_of_head
 from .sheet_files import Book
 from .sheet_rows import SheetCell, SheetRow, Table, about
 from ..week.slots import MAX_NUMBER
@@ -112,7 +112,9 @@ def _plan_rows(days: Days, scenario: Scenario, faults: Gathering) -> Dict[str, S
 
 
 def plan_warnings(days: Days, scenario: Scenario) -> Iterator[str]:
-    """Warnings of nurses for whom the plan has no row."""
+    """Warnings of heads that count weeks from 0, and of nurses for whom the plan has no row."""
+    if not days.monday and days.columns and week_of_head(days.columns[0]) == 0:
+        yield f"its heads count weeks from 0, and verbs count from 1: write Mon 1 for {days.columns[0].text}, and so on"
     there = {row.of("nurse").text.replace(" ", "_").casefold() for row in days.plan.rows}
     no_row = "has no row: she has no wishes and no absences; if she has some, add a row"
     yield from (f"{nurse} {no_row}" for nurse in scenario.nurses if nurse.casefold() not in there)
@@ -153,17 +155,17 @@ def _read_needs(table: Table, scenario: Scenario, weeks: List[WeekSheet], monday
 
 
 def _week_number(cell: SheetCell, weeks: int, monday: Optional[datetime.date]) -> Optional[int]:
-    """The week of a row of the needs; None: all weeks."""
+    """The week of a row of the needs, from 0; None: all weeks."""
     if not cell.text:
         return None
     date = date_of(cell)
     if date:
         number = (date - monday).days // len(DAYS) if monday else -1
-        cell.fault(f"'{date_shown(cell, date)}' is a date: write {number if 0 <= number < weeks else 'the number'}, its week from 0")
+        cell.fault(f"'{date_shown(cell, date)}' is a date: write {number + 1 if 0 <= number < weeks else 'the number'}, its week from 1")
     week = cell.number()
-    if week >= weeks:
-        cell.fault(f"{week} is more than {weeks - 1}: weeks are counted from 0, so write {weeks - 1} for the last one")
-    return week
+    if not 1 <= week <= weeks:
+        cell.fault(f"there is no week {week}: weeks are counted from 1, so write {weeks} for the last one")
+    return week - 1
 
 
 def needed(cell: SheetCell) -> Requirement:

@@ -1,4 +1,4 @@
-"""An example spreadsheet for `inrc2pb-ward`, as an ODS file."""
+"""An example spreadsheet for `inrc2pb-plan`, as an ODS file."""
 
 import zipfile
 from pathlib import Path
@@ -54,7 +54,7 @@ EXAMPLE: Dict[str, Rows] = {
         ("", "Night", "Nurse", *[1] * 7),
     ],
     "plan": [
-        ("nurse", *(f"{day} {week}" for week in range(4) for day in DAYS)),
+        ("nurse", *(f"{day} {week}" for week in range(1, 5) for day in DAYS)),
         ("Amara", *_days("", "wish on Wed", "", "")),
         ("Bruno", *_days("", "", "", "Day/Charge on Mon")),
         ("Chen", *_days("wish on Sat", "", "leave on Mon, leave on Tue, leave on Wed", "")),

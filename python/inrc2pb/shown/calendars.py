@@ -86,7 +86,7 @@ def calendar(view: RosterView, nurse: str, monday: datetime.date, times: Mapping
     a later one has nothing to take back. Shifts of older issues are cancelled on days on which this one has none."""
     ward = allowed(view.name)
     stamp = [f"DTSTAMP:{_day(monday)}T000000Z", *([f"SEQUENCE:{issue.number}"] if issue else [])]
-    lines = ["BEGIN:VCALENDAR", "VERSION:2.0", "PRODID:-//inrc2pb//inrc2pb-table//EN"]
+    lines = ["BEGIN:VCALENDAR", "VERSION:2.0", "PRODID:-//inrc2pb//inrc2pb-roster//EN"]
     shifts: List[Tuple[datetime.date, int, ShownCell]] = [
         (monday + (7 * week + day) * DAY, index, cell)
         for week in range(len(view.weeks))

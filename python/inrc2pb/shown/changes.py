@@ -58,12 +58,12 @@ def changed_lines(old: RosterView, new: RosterView) -> Iterator[str]:
 def swapped(view: RosterView, swaps: Sequence[Tuple[str, str]]) -> RosterView:
     """The roster of one week after swaps in turn: two nurses and days, as `Chen Fri` and `Grace Fri`, get each other's cells."""
     if len(view.weeks) != 1:
-        raise Misuse("--swap is for one roster: change a copy of one of these, and give the others with --old")
+        raise Misuse("swap is for one roster: change a copy of one of these, and give the others to why, with --old")
     cells = list(view.weeks[0].cells)
     for pair in swaps:
         one, two = (_place(view, text) for text in pair)
         if one == two:
-            raise Misuse(f"--swap {_quoted(pair)}: these are one cell: give two")
+            raise Misuse(f"swap {_quoted(pair)}: these are one cell: give two")
         others = {one: two, two: one}
         places = [others.get((cell.nurse, cell.day), (cell.nurse, cell.day)) for cell in cells]
         cells = [cell._replace(nurse=nurse, day=day) for cell, (nurse, day) in zip(cells, places)]
@@ -78,10 +78,10 @@ def _place(view: RosterView, text: str) -> Tuple[str, int]:
     """The nurse and the day that a text names."""
     *names, day = text.split() or [""]
     if not names:
-        raise Misuse(f'--swap "{text}": give a nurse and a day, as in "Chen Fri"')
+        raise Misuse(f'swap "{text}": give a nurse and a day, as in "Chen Fri"')
     nurse = "_".join(names)
     for word, known, what in ((nurse, view.nurses, "nurse"), (day, DAYS, "day")):
         if word not in known:
             advice = did_you_mean(word, known, f"give one of {quoted(known)}")
-            raise Misuse(f"--swap \"{text}\": '{word}' is no {what}: {advice}")
+            raise Misuse(f"swap \"{text}\": '{word}' is no {what}: {advice}")
     return nurse, DAYS.index(day)

@@ -53,7 +53,7 @@ class Content:
 
     def week_name(self, week: int) -> str:
         """The name of a week: its number, and that of the calendar if its dates are known."""
-        number = f"week {self.view.weeks[week].number}"
+        number = self.view.weeks[week].name
         if self.monday is None:
             return number
         return f"{number}, calendar week {(self.monday + 7 * week * DAY).isocalendar()[1]}"

@@ -20,14 +20,14 @@ from ..week.slots import text_of
 class RosterFiles:
     """The files of a table: one roster for each week, and what else is known of these weeks.
 
-    `fixes` has fix files by the number of their week, or by None if there is only one week; `given` has the facts that plans keep.
+    `fixes` has the fix files of some weeks by their index, from 0; `given` has the facts that plans keep.
     """
 
     rosters: Sequence[Path]
     scenario: Optional[Path] = None
     histories: Sequence[Path] = ()
     weeks: Sequence[Path] = ()
-    fixes: Mapping[Optional[int], Path] = field(default_factory=dict)
+    fixes: Mapping[int, Path] = field(default_factory=dict)
     early: bool = False
     given: Optional[Path] = None
     reasons: Optional[Path] = None
@@ -42,7 +42,7 @@ def read_view(files: RosterFiles) -> RosterView:
     datas = [read_week(path, scenario) for path in files.weeks] if scenario else []
     histories = _histories(files, scenario, solutions) if scenario else []
     numbers = [of_week.week for of_week in histories or solutions]
-    fixes = _fix_of_each(files, numbers)
+    fixes = [files.fixes.get(index) for index in range(len(solutions))]
     claims = read_given(files.given, scenario) if files.given and scenario else ()
     reasons = read_reasons(files.reasons, scenario) if files.reasons and scenario else {}
     views = []
@@ -65,8 +65,8 @@ def read_old(files: RosterFiles, rosters: Sequence[Path]) -> RosterView:
     """Reads the older rosters of the same weeks and ward; that they are of others is a Misuse."""
     if len(rosters) != len(files.rosters):
         raise Misuse(
-            f"--old is given {plural(len(rosters), 'time')} for {plural(len(files.rosters), 'roster')}: "
-            "give it once for each, in their order"
+            f"--old has {plural(len(rosters), 'file')} for {plural(len(files.rosters), 'roster')}: "
+            "give one for each, in their order"
         )
     for old, new in zip(rosters, files.rosters):
         before, now = (read_solution(path, None) for path in (old, new))
@@ -87,11 +87,11 @@ def _check_numbers(files: RosterFiles) -> None:
     count = len(files.rosters)
     if len(files.weeks) not in (0, count):
         raise Misuse(
-            f"--week is given {plural(len(files.weeks), 'time')} for {plural(count, 'roster')}: give it once for each, in their order"
+            f"--week has {plural(len(files.weeks), 'file')} for {plural(count, 'roster')}: give one for each, in their order"
         )
     if len(files.histories) not in (0, 1, count):
         raise Misuse(
-            f"--his is given {plural(len(files.histories), 'time')} for {plural(count, 'roster')}: "
+            f"--his has {plural(len(files.histories), 'file')} for {plural(count, 'roster')}: "
             "give the first week's, or each week's in order"
         )
     if (files.given or files.reasons) and not files.weeks:
@@ -111,21 +111,13 @@ def _histories(files: RosterFiles, scenario: Scenario, solutions: Sequence[Solut
         last = len(histories) - 1
         if histories[last].week + 1 >= scenario.weeks:
             raise Misuse(
-                f"{files.rosters[last]}: week {histories[last].week} is the last of {scenario.weeks}: give --his once for each roster"
+                f"{files.rosters[last]}: week {histories[last].week + 1} is the last of {scenario.weeks}: give --his for each roster"
             )
         try:
             histories.append(next_history(scenario, histories[last], solutions[last].cells))
         except Misuse as fault:
             raise Misuse(f"{files.rosters[last]}: {fault}") from fault
     return histories
-
-
-def _fix_of_each(files: RosterFiles, numbers: Sequence[int]) -> List[Optional[Path]]:
-    """The fix file of each week, if it has one."""
-    for number, path in files.fixes.items():
-        if number is not None and number not in numbers:
-            raise Misuse(f"--fix {number}={path}: no roster is of week {number}, the weeks are {', '.join(map(str, numbers))}")
-    return [files.fixes.get(number, files.fixes.get(None)) for number in numbers]
 
 
 def _other_weeks(

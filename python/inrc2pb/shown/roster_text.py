@@ -110,7 +110,7 @@ class TextTable:
         between = "  ||  "
         lines = [self.view.title, ""]
         if not self.single:
-            numbers = between.join(f"{f'week {week.number}':{len(days)}}" for week in self.view.weeks)
+            numbers = between.join(f"{week.name:{len(days)}}" for week in self.view.weeks)
             lines.append(f"{'':{self.first}}  {numbers}".rstrip())
         named = between.join([days] * len(self.view.weeks))
         return [*lines, "  ".join([" " * self.first, named, *(column[0] for column in self.right)]).rstrip()]
@@ -131,7 +131,7 @@ class TextTable:
 def spreadsheet(view: RosterView) -> Iterator[List[object]]:
     """Rows of a spreadsheet: nurses by days, then the cost and the rules that charge it, then the totals."""
     single, counted = len(view.weeks) == 1, totals(view)
-    days = [day if single else f"week {week.number} {day}" for week in view.weeks for day in DAYS]
+    days = [day if single else f"{week.name} {day}" for week in view.weeks for day in DAYS]
     heads = ["shifts", "minimum", "maximum", "weekends", "most weekends", "wishes", "granted", *view.shifts] if counted else []
     yield ["nurse", *days, *["cost", "rules"] * view.has_costs, *heads]
     for nurse in view.nurses:

@@ -27,7 +27,8 @@ class ShownCell(NamedTuple):
 
 @dataclass
 class WeekView:
-    """One week of a table: its roster, the requests and held rows if they are known, and all files of the week if they are."""
+    """One week of a table: its roster, the requests and held rows if they are known, and all files of the week if they are. Its number is
+    that of the history."""
 
     number: int
     cells: Sequence[Cell]
@@ -37,6 +38,11 @@ class WeekView:
     early: bool = False
     # Why nurses are away, as far as it is known.
     reasons: Mapping[Tuple[str, int], str] = field(default_factory=dict)
+
+    @property
+    def name(self) -> str:
+        """The week of the period, from 1, such as `week 1`: the history counts from 0."""
+        return f"week {self.number + 1}"
 
     def marks(self, cell: Cell) -> str:
         """The marks of an assignment."""
@@ -137,8 +143,8 @@ class RosterView:
 
     @property
     def weeks_text(self) -> str:
-        """The numbers of the weeks, as `weeks 0 to 3`."""
-        numbers = [week.number for week in self.weeks]
+        """The numbers of the weeks, as `weeks 1 to 4`."""
+        numbers = [week.number + 1 for week in self.weeks]
         if len(numbers) == 1:
             return f"week {numbers[0]}"
         if numbers == list(range(numbers[0], numbers[-1] + 1)):
@@ -166,7 +172,7 @@ class RosterView:
         """A line for each week that has no cost, since its roster breaks a hard rule."""
         for week in (week for week in self.weeks if week.breaches):
             others = ": the sums on this page are without it" * (len(self.weeks) > 1)
-            yield f"Week {week.number} has no cost, since it breaks rule {week.breaches[0].rule}{others}."
+            yield f"{week.name.capitalize()} has no cost, since it breaks rule {week.breaches[0].rule}{others}."
 
     @cached_property
     def costs(self) -> Dict[str, Dict[str, int]]:
@@ -207,4 +213,4 @@ class RosterView:
 
     def prefix(self, week: WeekView) -> str:
         """The beginning of a line on this week, if there are several."""
-        return f"week {week.number}: " if len(self.weeks) > 1 else ""
+        return f"{week.name}: " if len(self.weeks) > 1 else ""

@@ -86,7 +86,7 @@ def _needs_sentences(weeks: Sequence[DescribedWeek]) -> Iterator[str]:
             [week.data.requirements.get(Place(day, shift, skill), Requirement(0, 0)) for day in range(_WEEK)] for week in weeks
         ]
         usual = max(numbers, key=numbers.count)
-        others = together((_other_numbers(of_week, usual), week.number) for week, of_week in zip(weeks, numbers) if of_week != usual)
+        others = together((_other_numbers(of_week, usual), week.number + 1) for week, of_week in zip(weeks, numbers) if of_week != usual)
         words = [f"; week{'s' * (len(some) > 1)} {joined(map(str, some))}: {text}" for text, some in others.items()]
         yield f"{shift} {skill}: {_numbers_by_day(enumerate(usual))}{''.join(words)}."
 

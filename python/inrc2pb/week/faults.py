@@ -1,4 +1,4 @@
-"""The faults that a helper reports, each in one line, and the advice that the line ends with."""
+"""The faults that a command reports, each in one line, and the advice that the line ends with."""
 
 import contextlib
 import errno
@@ -112,7 +112,7 @@ _PROGRAM_ADVICE = (
     ("answer: ", "look at what the solver prints, or use another solver"),
     ("roster breaks", "correct its file, or leave it out"),
     ("is not satisfied", "the solver's answer does not fit this week: use another solver"),
-    (" line ", "inrc2pb-check names the word and how to correct it"),
+    (" line ", "inrc2pb-roster check names the word and how to correct it"),
 )
 
 

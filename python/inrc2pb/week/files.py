@@ -113,10 +113,8 @@ def _nurse_history(slots: Slots, nurse: str, scenario: Scenario) -> NurseHistory
 def check_week_number(path: PathLike, history: History, scenario: Scenario) -> None:
     """The history's week has to be one of the scenario's weeks."""
     if history.week >= scenario.weeks:
-        message = (
-            f"week {history.week} is not below WEEKS = {scenario.weeks}: the period is over, begin a new one with inrc2pb-next --new-period"
-        )
-        raise FileFault(path, 0, message, "week not below WEEKS")
+        over = "the period is over, begin a new one with inrc2pb-roster next --new-period"
+        raise FileFault(path, 0, f"week {history.week} is not below WEEKS = {scenario.weeks}: {over}", "week not below WEEKS")
 
 
 def check_weeks_left(count: int, history: History, scenario: Scenario) -> None:
@@ -124,7 +122,7 @@ def check_weeks_left(count: int, history: History, scenario: Scenario) -> None:
     left = scenario.weeks - history.week
     if count > left:
         raise Misuse(
-            f"{count} weeks are given, and {left} {'is' if left == 1 else 'are'} left from week {history.week} "
+            f"{count} weeks are given, and {left} {'is' if left == 1 else 'are'} left from week {history.week + 1} "
             f"of {scenario.weeks}: give only the files of weeks that are not planned yet"
         )
 

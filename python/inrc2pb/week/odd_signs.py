@@ -32,9 +32,9 @@ def _reasons(lines: Sequence[str], line: int, word: str) -> Iterator[str]:
         if '"' in text or "\u201c" in text or "\u201d" in text:
             yield f"{where}remove the quotation marks"
         if ";" in text.strip(" ;\t\r"):
-            yield f"{where}write blanks for the semicolons; inrc2pb-ward reads spreadsheets"
+            yield f"{where}write blanks for the semicolons; inrc2pb-plan reads spreadsheets"
         if re.search(r"[^\s(),=],[^\s(),=]", _IN_BRACKETS.sub(" ", text)) and not re.search(r"[0-9],[0-9]", _IN_BRACKETS.sub(" ", text)):
-            yield f"{where}write blanks for the commas; inrc2pb-ward reads spreadsheets"
+            yield f"{where}write blanks for the commas; inrc2pb-plan reads spreadsheets"
         if re.search(r"[\[\]{}]", text):
             yield f"{where}write ( and ) for other brackets"
         if _BLANKS.search(text):

@@ -107,7 +107,7 @@ class Slots:
         lines = self.text.split("\n")
         signs = reason_of_signs(lines, token.line, token.text)
         if is_no_text(self.text):
-            message = "this is no text file: save it as plain text" + ", or give a spreadsheet to inrc2pb-ward" * self.text.startswith("PK")
+            message = "this is no text file: save it as plain text" + ", or give a spreadsheet to inrc2pb-plan" * self.text.startswith("PK")
         elif signs:
             message += f"; {signs}"
         elif self._is_in_a_name(token):

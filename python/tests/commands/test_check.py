@@ -1,4 +1,4 @@
-"""Tests of `inrc2pb-check`."""
+"""Tests of `inrc2pb-roster check`."""
 
 import os
 import subprocess
@@ -51,7 +51,7 @@ MISTAKES = [
     (WEEK, "Chen Any Sat", "Chen Any Sat # ill", "--week", 11, "'#' looks like a comment: the files have none, so remove it"),
     (WEEK, "Chen Any Sat", "Chen Any", "--week", 12, "; a request has a nurse, a shift type and a day, and the line has 2 words"),
     (ROSTER, "Amara Mon Day Charge", "Amara Mon Day", "--roster", 6, "; a row has a nurse, a day, a shift type and a skill, and the line has 3 words"),
-    (ROSTER, "SOLUTION", "PK\x03\x04\0\1", "--roster", 1, ": this is no text file: save it as plain text, or give a spreadsheet to inrc2pb-ward"),
+    (ROSTER, "SOLUTION", "PK\x03\x04\0\1", "--roster", 1, ": this is no text file: save it as plain text, or give a spreadsheet to inrc2pb-plan"),
     (ROSTER, "SOLUTION", "{\\rtf1 SOLUTION", "--roster", 1, ": this is no text file: save it as plain text"),
 ]
 
@@ -62,22 +62,22 @@ class Mistakes(HelperTest):
             with self.subTest(message):
                 changed = self.changed(path, old, new)
                 words = {"--sce": SCENARIO, "--his": HISTORY, "--week": WEEK, **{option: changed}}
-                status, printed, said = run("check", *(word for pair in words.items() for word in pair))
+                status, printed, said = run("roster", "check", *(word for pair in words.items() for word in pair))
                 self.assertEqual((status, said), (1, ""))
                 where = f"{changed} line {line}: " if line else f"{changed}: "
                 self.assertTrue(printed.startswith(where), printed)
                 self.assertIn(message, printed.splitlines()[0])
 
-    def test_each_helper_says_that_a_row_is_missing(self):
+    def test_each_verb_says_that_a_row_is_missing(self):
         roster = self.changed(ROSTER, "Amara Mon Day Charge\n", "")
         said = f"{roster} line 36: the file ends where a nurse should come; 'ASSIGNMENTS = 33' on line 4 announces 33, and 32 lines follow it"
-        self.assertEqual(run("check", "--sce", SCENARIO, "--roster", roster), (1, said + "\n", ""))
-        for words in (("next", SCENARIO, HISTORY, roster), ("table", roster), ("keep", "--keep", "Mon", roster)):
-            self.assert_fault(run(*words), f"inrc2pb-{words[0]}: {said}")
+        self.assertEqual(run("roster", "check", "--sce", SCENARIO, "--roster", roster), (1, said + "\n", ""))
+        for words in (("next", "--sce", SCENARIO, "--his", HISTORY), ("show",)):
+            self.assert_fault(run("roster", *words, "--roster", roster), f"inrc2pb-roster: {said}")
 
     def test_one_line_follows(self):
         fix = self.solution("Chen Mon Day Nurse")
-        _, printed, _ = run("check", "--sce", SCENARIO, "--fix", self.changed(fix, "= 1", "= 2"))
+        _, printed, _ = run("roster", "check", "--sce", SCENARIO, "--fix", self.changed(fix, "= 1", "= 2"))
         self.assertIn("'ASSIGNMENTS = 2' on line 4 announces 2, and 1 line follows it\n", printed)
 
     def test_other_encodings(self):
@@ -85,44 +85,44 @@ class Mistakes(HelperTest):
         path = self.folder / "ward.txt"
         for encoding, message in (("utf-8-sig", "begins with a byte order mark (BOM)"), ("utf-16", "UTF-16"), ("utf-16-le", "UTF-16")):
             path.write_text(text, encoding=encoding)
-            status, printed, _ = run("check", "--sce", path)
+            status, printed, _ = run("roster", "check", "--sce", path)
             self.assertEqual((status, message in printed), (1, True), printed)
 
     @unittest.skipUnless(os.path.exists("/dev/zero"), "needs /dev/zero")
     def test_a_file_without_end(self):
-        self.assertEqual(run("check", "--sce", "/dev/zero"), (1, "/dev/zero: the file has more than 4194304 bytes\n", ""))
+        self.assertEqual(run("roster", "check", "--sce", "/dev/zero"), (1, "/dev/zero: the file has more than 4194304 bytes\n", ""))
 
     def test_a_heading_that_is_misspelled_has_no_other_hint(self):
         for heading in ("SHIFT_TYPES", "CONTRACTS", "NURSES"):
-            status, printed, _ = run("check", "--sce", self.changed(SCENARIO, f"{heading} =", f"{heading[:-1]} ="))
+            status, printed, _ = run("roster", "check", "--sce", self.changed(SCENARIO, f"{heading} =", f"{heading[:-1]} ="))
             self.assertTrue(printed.endswith(f": '{heading[:-1]}' where '{heading}' should be\n"), printed)
-        _, printed, _ = run("check", "--sce", SCENARIO, "--week", self.changed(WEEK, "SHIFT_OFF_REQUESTS =", "SHIFT_OFF_REQUEST ="))
+        _, printed, _ = run("roster", "check", "--sce", SCENARIO, "--week", self.changed(WEEK, "SHIFT_OFF_REQUESTS =", "SHIFT_OFF_REQUEST ="))
         self.assertNotIn("pairs", printed)
 
     def test_other_blanks_of_unicode_are_letters(self):
         for name in ("Chen\u3000Li", "Chen\u00a0Li"):
             ward, past = (self.changed(path, "Chen", name, f"new-{path.name}") for path in (SCENARIO, HISTORY))
-            self.assertEqual(run("check", "--sce", ward, "--his", past)[1], "No mistake found.\n")
+            self.assertEqual(run("roster", "check", "--sce", ward, "--his", past)[1], "No mistake found.\n")
             past.write_text(past.read_text().replace("Dilek 0", "Dilak 0"))
-            _, printed, _ = run("check", "--sce", ward, "--his", past)
+            _, printed, _ = run("roster", "check", "--sce", ward, "--his", past)
             self.assertEqual(printed, f"{past} line 8: 'Dilak' is no nurse of NURSES: did you mean 'Dilek'?; no line begins with Dilek\n")
 
     def test_a_name_that_begins_like_a_comment(self):
         ward, past = (self.changed(path, "Chen", "#1", f"new-{path.name}") for path in (SCENARIO, HISTORY))
         past.write_text(past.read_text().replace("#1 0", "#12 0"))
-        _, printed, _ = run("check", "--sce", ward, "--his", past)
+        _, printed, _ = run("roster", "check", "--sce", ward, "--his", past)
         self.assertIn(f"{past} line 7: '#12' is no nurse of NURSES: did you mean '#1'?; '#12' looks like a comment", printed)
 
     def test_a_row_that_is_made_a_comment(self):
         for path, option in ((HISTORY, "--his"), (WEEK, "--week")):
-            _, printed, _ = run("check", "--sce", self.changed(SCENARIO, "Chen", "#Chen"), option, path)
+            _, printed, _ = run("roster", "check", "--sce", self.changed(SCENARIO, "Chen", "#Chen"), option, path)
             self.assertIn("'Chen' is no nurse of NURSES: did you mean '#Chen'?; '#Chen' looks like a comment: the files have none, so remove it", printed)
 
     def test_signs_of_spreadsheets_and_other_keyboards(self):
         for path, old, new, said in (
-            (SCENARIO, "Chen Full 1 Nurse", "Chen;Full;1;Nurse", "write blanks for the semicolons; inrc2pb-ward reads spreadsheets"),
-            (SCENARIO, "Chen Full 1 Nurse", "Chen,Full,1,Nurse", "write blanks for the commas; inrc2pb-ward reads spreadsheets"),
-            (SCENARIO, "SCENARIO = ward", "SCENARIO;=;ward", "write blanks for the semicolons; inrc2pb-ward reads spreadsheets"),
+            (SCENARIO, "Chen Full 1 Nurse", "Chen;Full;1;Nurse", "write blanks for the semicolons; inrc2pb-plan reads spreadsheets"),
+            (SCENARIO, "Chen Full 1 Nurse", "Chen,Full,1,Nurse", "write blanks for the commas; inrc2pb-plan reads spreadsheets"),
+            (SCENARIO, "SCENARIO = ward", "SCENARIO;=;ward", "write blanks for the semicolons; inrc2pb-plan reads spreadsheets"),
             (SCENARIO, "(17,21)", '"(17,21)"', "remove the quotation marks"),
             (SCENARIO, "Day (2,5)", "Day [2,5]", "write ( and ) for other brackets"),
             (SCENARIO, "Chen Full", "Chen\u00a0Full", "it has a blank of another kind, such as a no-break space: type the blanks again, or _ in a name"),
@@ -131,28 +131,28 @@ class Mistakes(HelperTest):
         ):
             with self.subTest(new):
                 words = ("--his", self.changed(path, old, new)) if path == HISTORY else ()
-                status, printed, _ = run("check", "--sce", SCENARIO if words else self.changed(path, old, new), *words)
+                status, printed, _ = run("roster", "check", "--sce", SCENARIO if words else self.changed(path, old, new), *words)
                 self.assertEqual((status, printed.splitlines()[0].endswith(f"; {said}") or printed.splitlines()[0].endswith(f": {said}")), (1, True), printed)
 
     def test_files_that_are_swapped(self):
-        status, printed, _ = run("check", "--sce", SCENARIO, "--his", WEEK, "--week", HISTORY)
+        status, printed, _ = run("roster", "check", "--sce", SCENARIO, "--his", WEEK, "--week", HISTORY)
         history, week = f"{WEEK} line 1: 'WEEK_DATA' where 'HISTORY' should be", f"{HISTORY} line 1: 'HISTORY' where 'WEEK_DATA' should be"
         self.assertEqual((status, printed), (1, f"{history}: this is a week's file: give it with --week\n{week}: this is a history: give it with --his\n"))
 
     def test_letters_that_are_composed_otherwise(self):
         ward, past = (self.changed(path, "Chen", name, f"new-{path.name}") for path, name in ((SCENARIO, "G\u00fcl"), (HISTORY, "Gu\u0308l")))
-        _, printed, _ = run("check", "--sce", ward, "--his", past)
+        _, printed, _ = run("roster", "check", "--sce", ward, "--his", past)
         self.assertIn("it looks like 'G\u00fcl', and has other letters: copy that name", printed)
 
     def test_a_pipe_is_no_file(self):
         pipe = self.folder / "pipe"
         os.mkfifo(pipe)
-        line = f"inrc2pb-check: {pipe} is a pipe, which can be read only once: give a file"
-        self.assert_fault(run("check", *WEEK_OPTIONS, "--roster", pipe), line)
+        line = f"inrc2pb-roster: {pipe} is a pipe, which can be read only once: give a file"
+        self.assert_fault(run("roster", "check", *WEEK_OPTIONS, "--roster", pipe), line)
 
     def test_a_path_that_leads_nowhere_is_one_mistake(self):
         wrong, broken = self.folder / ("r" * 300), self.changed(ROSTER, "Amara Mon Day Charge", "Amara Mon Dai Charge")
-        status, printed, said = run("check", *WEEK_OPTIONS, "--roster", wrong, "--roster", broken)
+        status, printed, said = run("roster", "check", *WEEK_OPTIONS, "--roster", wrong, "--roster", broken)
         self.assertEqual((status, said), (1, ""))
         self.assertIn(f"{wrong}: File name too long", printed)
         self.assertIn(f"{broken} line 5: 'Dai'", printed)
@@ -162,14 +162,14 @@ class Mistakes(HelperTest):
         for path, where in ((ward, "the scenario is"), (past, "this file is")):
             text = path.read_text()
             path.write_text(text, encoding="latin-1")
-            ran = subprocess.run([str(HELPERS / "inrc2pb-check"), "--sce", str(ward), "--his", str(past)], stdout=subprocess.PIPE)
+            ran = subprocess.run([str(HELPERS / "inrc2pb-roster"), "check", "--sce", str(ward), "--his", str(past)], stdout=subprocess.PIPE)
             self.assertIn(f"{past} line 7: 'J".encode(), ran.stdout)
             self.assertIn(f"rgen' is no nurse of NURSES: {where} not UTF-8: save it as UTF-8".encode(), ran.stdout)
             path.write_text(text)
-        self.assertEqual(run("check", "--sce", ward, "--his", past)[1], "No mistake found.\n")
+        self.assertEqual(run("roster", "check", "--sce", ward, "--his", past)[1], "No mistake found.\n")
 
     def test_good_files(self):
-        self.assertEqual(run("check", *WEEK_OPTIONS, "--roster", ROSTER), (0, "No mistake found.\n", ""))
+        self.assertEqual(run("roster", "check", *WEEK_OPTIONS, "--roster", ROSTER), (0, "No mistake found.\n", ""))
 
     def test_without_the_program_the_rules_are_checked_too(self):
         missing = "there is no program /nowhere: correct or unset the variable INRC2PB"
@@ -182,17 +182,17 @@ class Mistakes(HelperTest):
             (("--roster", ROSTER, "--fix", fix), 1, f"{ROSTER}: roster breaks H5: the held row 'Grace Sat Day Nurse' is missing\n"),
         ):
             with self.subTest(words=words):
-                ran = run("check", *WEEK_OPTIONS, *words, environment={"INRC2PB": "/nowhere"})
+                ran = run("roster", "check", *WEEK_OPTIONS, *words, environment={"INRC2PB": "/nowhere"})
                 self.assertEqual(ran, (status, warning + said, ""))
 
     def test_each_roster_that_breaks_a_rule_is_named(self):
         one = self.changed(ROSTER, "Amara Tue Day Charge", "Amara Mon Late Nurse", "one.txt")
         other = self.changed(ROSTER, "Bruno Mon Day Nurse", "Chen Mon Day Charge", "other.txt")
-        status, printed, _ = run("check", *WEEK_OPTIONS, "--roster", one, "--roster", ROSTER, "--roster", other)
+        status, printed, _ = run("roster", "check", *WEEK_OPTIONS, "--roster", one, "--roster", ROSTER, "--roster", other)
         self.assertEqual((status, [line.split(":")[0] for line in printed.splitlines()]), (1, [f"{one} line 6", f"{other} line 10"]))
 
     def test_rules_need_the_whole_week(self):
-        status, printed, _ = run("check", "--sce", SCENARIO, "--roster", ROSTER)
+        status, printed, _ = run("roster", "check", "--sce", SCENARIO, "--roster", ROSTER)
         warning = "warning: hard rules are not checked without the whole week: give --his and --week too"
         self.assertEqual((status, printed), (0, f"{warning}\nNo mistake found.\n"))
 
@@ -200,18 +200,18 @@ class Mistakes(HelperTest):
         ward = self.changed(SCENARIO, "Day (2,5)", "Day (5,2)", "ward.txt")
         week = self.changed(WEEK, "Day Charge (1,1)", "Day Charge (5,5)", "week.txt")
         history = self.changed(HISTORY, "Bruno 0 0 None 0 0 2", "Bruno 0 0 None 0 1 2", "history.txt")
-        status, printed, _ = run("check", "--sce", ward, "--his", history, "--week", week)
+        status, printed, _ = run("roster", "check", "--sce", ward, "--his", history, "--week", week)
         self.assertEqual(status, 0)
         for part in ("the minimum of (5,2) is above its maximum", "at least 5 are needed, and", "Bruno was off on Sunday"):
             self.assertIn(part, printed)
 
     def test_no_file(self):
-        line = "inrc2pb-check: no scenario is given: give --sce FILE, and the files to check; is WEEK set in this terminal?"
-        self.assert_fault(run("check"), line)
+        line = "inrc2pb-roster: no scenario is given: give --sce FILE, and the files to check; is WEEK set in this terminal?"
+        self.assert_fault(run("roster", "check"), line)
 
     def test_a_file_that_is_missing(self):
         missing = self.folder / "ward.txt"
-        status, printed, _ = run("check", "--sce", missing)
+        status, printed, _ = run("roster", "check", "--sce", missing)
         self.assertEqual((status, printed), (1, f"{missing}: No such file or directory: look at its name and folder\n"))
 
 
@@ -234,19 +234,19 @@ class Misfits(HelperTest):
             with self.subTest(reason):
                 fix = self.solution(*rows)
                 said = f"{fix} line {line}: {reason}: no roster can have this row"
-                self.assertEqual(run("check", *WEEK_OPTIONS, "--fix", fix), (1, said + "\n", ""))
+                self.assertEqual(run("roster", "check", *WEEK_OPTIONS, "--fix", fix), (1, said + "\n", ""))
                 fix = self.solution(*rows, week=3)
-                self.assertEqual(run("check", *WEEK_OPTIONS, "--fix", fix), (1, f"{said}; {self.other_week}\n", ""))
+                self.assertEqual(run("roster", "check", *WEEK_OPTIONS, "--fix", fix), (1, f"{said}; {self.other_week}\n", ""))
 
     def test_a_file_of_another_week_or_ward(self):
         for named, hint in (({"week": 3}, self.other_week), ({"ward": "icu"}, self.other_ward)):
             for option in ("--fix", "--roster"):
                 with self.subTest(option, **named):
                     path = self.solution(*ROSTER.read_text().splitlines()[4:], **named)
-                    ran = run("check", *WEEK_OPTIONS, option, path)
+                    ran = run("roster", "check", *WEEK_OPTIONS, option, path)
                     self.assertEqual(ran, (0, f"{path}: warning: {hint}\nNo mistake found.\n", ""))
                     path = self.solution("Amara Mon Day Charge", "Zoe Mon Day Nurse", **named)
-                    status, printed, _ = run("check", *WEEK_OPTIONS, option, path)
+                    status, printed, _ = run("roster", "check", *WEEK_OPTIONS, option, path)
                     self.assertEqual((status, printed.count("\n")), (1, 1), printed)
                     self.assertTrue(printed.startswith(f"{path} line 6: 'Zoe' is no nurse of NURSES"), printed)
                     self.assertTrue(printed.endswith(f"; {hint}\n"), printed)
@@ -262,9 +262,9 @@ class Misfits(HelperTest):
             with self.subTest(reason):
                 roster = self.changed(ROSTER, old, new)
                 said = f"{roster}{where}: roster breaks {reason}\n"
-                self.assertEqual(run("check", *WEEK_OPTIONS, "--roster", roster), (1, said, ""))
+                self.assertEqual(run("roster", "check", *WEEK_OPTIONS, "--roster", roster), (1, said, ""))
         said = f"{ROSTER}: roster breaks H5: the held row 'Grace Sat Day Nurse' is missing\n"
-        self.assertEqual(run("check", *WEEK_OPTIONS, "--fix", fix, "--roster", ROSTER), (1, said, ""))
+        self.assertEqual(run("roster", "check", *WEEK_OPTIONS, "--fix", fix, "--roster", ROSTER), (1, said, ""))
 
 
 if __name__ == "__main__":

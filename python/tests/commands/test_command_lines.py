@@ -12,68 +12,98 @@ import unittest
 from ward import HELPERS, HISTORY, ROSTER, SCENARIO, WEEK, WEEK_OPTIONS, HelperTest, program, run
 
 NAMES = sorted(path.name[len("inrc2pb-") :] for path in HELPERS.glob("inrc2pb-*"))
+FILES = ("--sce", SCENARIO, "--his", HISTORY)
 
 
-class Words(unittest.TestCase):
+class Words(HelperTest):
     def test_words_that_do_not_fit_have_their_advice(self):
-        improve, week = ("improve", "--sol", "best.txt"), ("--sce", SCENARIO, "--his", HISTORY, "--week")
-        for words, line in (
-            ((*improve, *week, "my", "week.txt"), "unrecognized arguments: week.txt: rename a file or folder whose path has a blank, and write an option before each file"),
-            ((*improve, *week, WEEK, "--tine", "5"), "unrecognized arguments: --tine 5: --tine: did you mean --time?"),
-            (("keep", "--keep", "Mon,", "Tue,", "Wed", ROSTER), f"unrecognized arguments: Wed {ROSTER}: write no blank between the days or names, as in Mon,Tue"),
-            (("next", *week, WEEK, ROSTER), f"unrecognized arguments: --sce --his --week {ROSTER}: "
-             "give the files without options, in this order: scenario, history, roster"),
-            (("check", "--scenario", SCENARIO), f"unrecognized arguments: --scenario {SCENARIO}: --scenario: did you mean --sce?"),
-            ((*improve, *week[:2], "--history", HISTORY, "--week", WEEK),
-             "the following arguments are required: --his: --history: did you mean --his?"),
-            (("check", "--sce a --his b --week c"), "'--sce a --his b --week c' is one word: write $WEEK without quotes, in bash"),
-            (("table", "--sce a --his b", ROSTER), "'--sce a --his b' is one word: write $WEEK without quotes, in bash"),
-            (improve, "the following arguments are required: --sce, --his, --week: is WEEK set in this terminal?"),
-            ((*improve, *week, WEEK, "--time", "2,5"), "argument --time: '2,5' is no number: give seconds, such as 60 or 2.5"),
-            (("simulate", *week, WEEK, "--timeout", "1m"), "argument --timeout: '1m' is no number: give seconds, such as 60 or 2.5"),
-            (("period", *week, WEEK, "--time", ""), "argument --time: '' is no number: give seconds, such as 60 or 2.5"),
+        solve, check = ("solve", "--out", "best.txt"), ("roster", "check")
+        for words, command, line in (
+            ((*solve, *FILES, "--week", WEEK, "--tine", "5"), "solve", "unrecognized arguments: --tine 5: --tine: did you mean --time?"),
+            (
+                ("roster", "fits", "Mon,", "Tue", *FILES, "--week", WEEK),
+                "roster fits",
+                "unrecognized arguments: Mon, Tue: write no blank between the days or names, as in Mon,Tue",
+            ),
+            (("roster", "next", *FILES, ROSTER), "roster next", "the following arguments are required: --roster"),
+            ((*check, "--scenario", SCENARIO), "roster check", f"unrecognized arguments: --scenario {SCENARIO}: --scenario: did you mean --sce?"),
+            (
+                (*solve, *FILES[:2], "--history", HISTORY, "--week", WEEK),
+                "solve",
+                "the following arguments are required: --his: --history: did you mean --his?",
+            ),
+            ((*check, "--sce a --his b --week c"), "roster check", "'--sce a --his b --week c' is one word: write $WEEK without quotes, in bash"),
+            (
+                ("roster", "show", "--sce a --his b", "--roster", ROSTER),
+                "roster show",
+                "'--sce a --his b' is one word: write $WEEK without quotes, in bash",
+            ),
+            (solve, "solve", "the following arguments are required: --sce, --his, --week: is WEEK set in this terminal?"),
+            ((*solve, *FILES, "--week", WEEK, "--time", "2,5"), "solve", "argument --time: '2,5' is no number: give seconds, such as 60 or 2.5"),
+            (
+                ("solve", "--inrc2", *FILES, "--week", WEEK, "--timeout", "1m"),
+                "solve",
+                "argument --timeout: '1m' is no number: give seconds, such as 60 or 2.5",
+            ),
+            ((*solve, *FILES, "--week", WEEK, "--time", ""), "solve", "argument --time: '' is no number: give seconds, such as 60 or 2.5"),
         ):
             with self.subTest(words):
                 status, printed, said = run(*words)
-                self.assertEqual((status, printed, said.splitlines()[-1]), (2, "", f"inrc2pb-{words[0]}: error: {line}"))
+                self.assertEqual((status, printed, said.splitlines()[-1]), (2, "", f"inrc2pb-{command}: error: {line}"))
+
+    def test_a_path_with_a_blank(self):
+        status, _, said = run("solve", "--out", "my", "best.txt", *FILES, "--week", WEEK)
+        advice = "rename a file or folder whose path has a blank, and write an option before each file"
+        self.assertEqual((status, said.splitlines()[-1]), (2, f"inrc2pb-solve: error: unrecognized arguments: best.txt: {advice}"))
+
+    def test_the_verb_comes_first(self):
+        names = "show, why, swap, check, next, fits"
+        for words, line in (
+            (("chek", *FILES), "'chek' is no verb: did you mean check?"),
+            (("tables", *FILES), f"'tables' is no verb: write one of {names}"),
+            ((*FILES[:1], "show"), f"the verb comes first: write one of {names}, then the options"),
+            ((), f"the verb comes first: write one of {names}, then the options"),
+        ):
+            with self.subTest(words):
+                self.assert_fault(run("roster", *words), f"inrc2pb-roster: {line}")
 
     def test_options_are_written_out(self):
-        for helper, words in (("simulate", ("--time", 3)), ("lp", ("model", "--l", "week.lp"))):
-            status, printed, said = run(helper, *words)
+        for words in (("--inrc2", "--time", 3), ("--model", "--ou", "week.lp")):
+            status, printed, said = run("solve", *words)
             self.assertEqual((status, printed), (2, ""))
             self.assertIn("error:", said)
-        self.assertNotIn("--lp", said.splitlines()[-1])
+        self.assertIn("--ou week.lp: --ou: did you mean --out?", said.splitlines()[-1])
 
     def test_a_solver_in_capitals(self):
         for name in ("CBC", "Clasp"):
-            status, _, said = run("improve", *WEEK_OPTIONS, "--sol", "best.txt", "--solver", name)
-            self.assertEqual((status, said), (1, f"inrc2pb-improve: there is no solver {name}: did you mean {name.lower()}?\n"))
+            status, _, said = run("solve", *WEEK_OPTIONS, "--out", "best.txt", "--solver", name)
+            self.assertEqual((status, said), (1, f"inrc2pb-solve: there is no solver {name}: did you mean {name.lower()}?\n"))
 
 
 class Twice(HelperTest):
     def test_an_option_is_given_once(self):
         for words, option in (
-            (("check", *WEEK_OPTIONS, "--week", WEEK), "--week"),
-            (("check", *WEEK_OPTIONS, f"--sce={SCENARIO}"), "--sce"),
-            (("check", *WEEK_OPTIONS, "--early", "--early"), "--early"),
-            (("improve", *WEEK_OPTIONS, "--sol", "a", "--time", 1, "--time", 1), "--time"),
-            (("improve", *WEEK_OPTIONS, "--sol", "a", "--from", ROSTER, "--from", ROSTER), "--from"),
-            (("keep", "--keep", "Mon", "--keep", "Tue", ROSTER), "--keep"),
-            (("lp", "model", "--lp", "a", "--lp", "b"), "--lp"),
-            (("next", SCENARIO, HISTORY, ROSTER, "--out", "a", "--out", "b"), "--out"),
-            (("period", *WEEK_OPTIONS, "--out", "a", "--his", HISTORY), "--his"),
-            (("simulate", *WEEK_OPTIONS, "--sol", "a", "--sol", "b"), "--sol"),
-            (("table", "--csv", "--csv", ROSTER), "--csv"),
+            (("roster", "check", *WEEK_OPTIONS, f"--sce={SCENARIO}"), "--sce"),
+            (("roster", "check", *WEEK_OPTIONS, "--early", "--early"), "--early"),
+            (("solve", *WEEK_OPTIONS, "--out", "a", "--time", 1, "--time", 1), "--time"),
+            (("solve", *WEEK_OPTIONS, "--out", "a", "--his", HISTORY), "--his"),
+            (("solve", "--model", "--out", "a", "--out", "b"), "--out"),
+            (("solve", "--inrc2", *WEEK_OPTIONS, "--sol", "a", "--sol", "b"), "--sol"),
+            (("solve", "--inrc2", *WEEK_OPTIONS, "--week", WEEK, "--sol", "a"), "--week"),
+            (("roster", "next", *FILES, "--roster", ROSTER, "--roster", ROSTER), "--roster"),
+            (("roster", "show", "--csv", "--csv", "--roster", ROSTER), "--csv"),
         ):
             with self.subTest(words):
                 status, printed, said = run(*words)
                 self.assertEqual((status, printed), (2, ""))
                 self.assertRegex(said.splitlines()[-1], f"^inrc2pb-.*: error: argument {option}: it is given twice: give it once$")
 
-    def test_some_options_may_be_repeated(self):
-        self.assertEqual(run("check", *WEEK_OPTIONS, "--roster", ROSTER, "--roster", ROSTER)[0], 0)
-        week = ("--sce", SCENARIO, "--his", HISTORY, "--week", WEEK, "--week", WEEK)
-        self.assertEqual(run("table", *week, "--fix", f"0={ROSTER}", "--fix", f"1={ROSTER}", ROSTER, ROSTER)[0], 0)
+    def test_files_of_several_weeks_may_follow_one_option_or_several(self):
+        self.assertEqual(run("roster", "check", *WEEK_OPTIONS, "--roster", ROSTER, "--roster", ROSTER)[0], 0)
+        self.assertEqual(run("roster", "check", *WEEK_OPTIONS, "--roster", ROSTER, ROSTER)[0], 0)
+        fixes, rosters = ("--fix", f"1={ROSTER}", "--fix", f"2={ROSTER}"), ("--roster", ROSTER, ROSTER)
+        shown = [run("roster", "show", *FILES, *weeks, *fixes, *rosters) for weeks in (("--week", WEEK, "--week", WEEK), ("--week", WEEK, WEEK))]
+        self.assertEqual((shown[0][0], shown[0][1]), (0, shown[1][1]))
 
 
 class Starting(HelperTest):
@@ -81,11 +111,13 @@ class Starting(HelperTest):
         version = program.run_program("--version")
         for name in NAMES:
             self.assertEqual(run(name, "--version"), (0, version, ""))
-        line = "inrc2pb-check: there is no program /nowhere: correct or unset the variable INRC2PB"
-        self.assert_fault(run("check", "--version", environment={"INRC2PB": "/nowhere"}), line, 127)
+        for words in (("roster", "show"), ("solve", "--inrc2"), ("solve", "--model"), ("solve", "--answer", "a")):
+            self.assertEqual(run(*words, "--version"), (0, version, ""))
+        line = "inrc2pb-roster: there is no program /nowhere: correct or unset the variable INRC2PB"
+        self.assert_fault(run("roster", "check", "--version", environment={"INRC2PB": "/nowhere"}), line, 127)
 
     def interrupted(self, name):
-        """The end of a helper that gets INT while it reads its library."""
+        """The end of a command that gets INT while it reads its library."""
         ran = subprocess.run([sys.executable, str(self.folder / f"inrc2pb-{name}")], stdout=subprocess.PIPE, stderr=subprocess.PIPE)
         return ran.returncode, ran.stdout, ran.stderr
 
@@ -100,7 +132,7 @@ class Starting(HelperTest):
     def test_ctrl_c_later_is_caught(self):
         running = self.folder / "running"
         environment = {**os.environ, **self.slow_to_encode(running)}
-        command = [sys.executable, str(HELPERS / "inrc2pb-check"), *map(str, WEEK_OPTIONS)]
+        command = [sys.executable, str(HELPERS / "inrc2pb-roster"), "check", *map(str, WEEK_OPTIONS)]
         with subprocess.Popen(command, stdout=subprocess.PIPE, stderr=subprocess.PIPE, env=environment) as check:
             while not running.exists() and check.poll() is None:
                 time.sleep(0.05)
@@ -109,7 +141,7 @@ class Starting(HelperTest):
 
     def test_a_conversion_that_is_ended_leaves_no_file(self):
         for number in (signal.SIGTERM, signal.SIGHUP):
-            command = [sys.executable, str(HELPERS / "inrc2pb-lp"), "model", "--lp", str(self.folder / "week.lp")]
+            command = [sys.executable, str(HELPERS / "inrc2pb-solve"), "--model", "--out", str(self.folder / "week.lp")]
             # A gate that runs on after its terminal is closed ignores HUP, and so would the conversion.
             heeds = functools.partial(signal.signal, number, signal.SIG_DFL)
             with subprocess.Popen(
@@ -123,7 +155,7 @@ class Starting(HelperTest):
 
     def test_a_fault_counts_also_if_the_caller_ignores_children(self):
         roster = self.changed(ROSTER, "Amara Mon Day Charge", "Amara Tue Late Charge")
-        command = [sys.executable, str(HELPERS / "inrc2pb-check"), *map(str, WEEK_OPTIONS), "--roster", str(roster)]
+        command = [sys.executable, str(HELPERS / "inrc2pb-roster"), "check", *map(str, WEEK_OPTIONS), "--roster", str(roster)]
         ran = subprocess.run(command, stdout=subprocess.PIPE, preexec_fn=lambda: signal.signal(signal.SIGCHLD, signal.SIG_IGN))
         self.assertEqual(ran.returncode, 1, ran)
 

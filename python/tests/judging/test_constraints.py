@@ -1,10 +1,11 @@
-"""Tests of the constraints that `inrc2pb-check --constraint` explains."""
+"""Tests of the order of the constraints in the model: `constraint` knows the rule of each by docs/model.md."""
 
 import unittest
+from dataclasses import replace
 
-from ward import HISTORY, SCENARIO, WARD, WEEK, WEEK_FILES, WEEK_OPTIONS, HelperTest, files, program, run
+import constraint
+from ward import HISTORY, SCENARIO, WARD, WEEK, WEEK_FILES, HelperTest, files, program
 
-from inrc2pb.judging import constraint
 from inrc2pb.week.faults import Misuse
 
 
@@ -16,23 +17,25 @@ class Constraints(HelperTest):
         count = int(model.read_text().split("\n", 1)[0].split()[-1])
         self.assertEqual(sum(block.size for block in constraint.blocks(week)), count)
 
+    def explained(self, number, early=False):
+        """What `explain` says of a constraint of the ward's week."""
+        model, of_week = self.folder / "week.opb", replace(WEEK_FILES, early=early)
+        program.encode(of_week, model)
+        return constraint.explain(number, model, files.read_files(SCENARIO, HISTORY, WEEK), early=early)
+
     def test_a_constraint_has_its_line_rule_and_names(self):
-        status, printed, said = run("check", *WEEK_OPTIONS, "--constraint", 60)
-        lines = printed.splitlines()
-        self.assertEqual((status, said, lines[0]), (0, "", "constraint 60, line 62 of the model: H2: Wed Day Nurse needs at least 1"))
+        lines = self.explained(60)
+        self.assertEqual(lines[0], "constraint 60, line 62 of the model: H2: Wed Day Nurse needs at least 1")
         self.assertIn("+1 [Amara Wed Day Nurse]", lines[2])
-        without = ["The model is the one without --fix and --early: give these options too if encode had them."]
-        self.assertEqual(lines[3:], without)
-        self.assertEqual(run("check", *WEEK_OPTIONS, "--early", "--constraint", 60)[1].splitlines()[3:], [])
+        self.assertEqual(self.explained(60, early=True), lines)
 
     def test_a_constraint_of_a_run_names_its_limit(self):
         for number, limit in ((298, "at most 5"), (299, "at least 2")):
-            _, printed, _ = run("check", *WEEK_OPTIONS, "--constraint", number)
-            self.assertIn(f": S2: runs of Day of Chen should be {limit}\n", printed)
+            self.assertTrue(self.explained(number)[0].endswith(f": S2: runs of Day of Chen should be {limit}"))
 
     def test_the_unit_variable_says_what_is_wrong_with_an_answer(self):
-        _, printed, _ = run("check", *WEEK_OPTIONS, "--constraint", 1)
-        self.assertIn(": it has to be true; an answer that violates it is cut off, or is of another week\n", printed)
+        wrong = ": it has to be true; an answer that violates it is cut off, or is of another week"
+        self.assertTrue(self.explained(1)[0].endswith(wrong))
 
     def test_a_model_that_ends_before_it(self):
         model = self.folder / "week.opb"
@@ -42,8 +45,8 @@ class Constraints(HelperTest):
             constraint.row_of(2, model)
 
     def test_a_number_that_the_model_has_not(self):
-        _, _, said = run("check", *WEEK_OPTIONS, "--constraint", 99999)
-        self.assertIn("there is no constraint 99999", said)
+        with self.assertRaisesRegex(Misuse, "there is no constraint 99999: the model of this week has [0-9]+"):
+            self.explained(99999)
 
 
 class LastWeek(HelperTest):

@@ -1,4 +1,4 @@
-"""Tests of what `inrc2pb-check` counts before planning, of `--tell` and of `--why-none`."""
+"""Tests of what `inrc2pb-roster check` counts before planning, of `--tell` and of `--why-none`."""
 
 import itertools
 import random
@@ -148,18 +148,18 @@ class Telling(HelperTest):
         weeks = [DescribedWeek(3, replace(DATA, requests=())), DescribedWeek(4, fewer, {("Ewa", 5): "leave", ("Ewa", 6): "leave"}),
                  DescribedWeek(5, other, {("Ewa", 0): "leave", ("Chen", 1): "off"})]  # fmt: skip
         self.assertEqual(list(weeks_sentences(WARD, weeks, lambda days: " ".join(map(str, sorted(days)))))[2:], [
-            "Late Nurse: 1 on all days; week 4: 0 on Fri.", "Night Nurse: 1 on all days; week 5: 0 on all days.",
+            "Late Nurse: 1 on all days; week 5: 0 on Fri.", "Night Nurse: 1 on all days; week 6: 0 on all days.",
             "Always off: Chen on Tue.", "Leave: Ewa on 12 13 14.", "Would rather be off: Ewa on 7 (2 requests).",
         ])  # fmt: skip
 
     def test_check_tells_held_shifts(self):
         fix = self.solution("Grace Sat Day Nurse", "Chen Mon Late Nurse", "Grace Sun Day Nurse")
-        printed = run("check", *WEEK_OPTIONS, "--fix", fix, "--tell")[1]
+        printed = run("roster", "check", *WEEK_OPTIONS, "--fix", fix, "--tell")[1]
         self.assertIn("\nFor certain: Grace Day Nurse on Sat and Sun; Chen Late Nurse on Mon.\n", printed)
-        self.assertNotIn("For certain", run("check", *WEEK_OPTIONS, "--tell")[1])
+        self.assertNotIn("For certain", run("roster", "check", *WEEK_OPTIONS, "--tell")[1])
 
     def test_check_tells(self):
-        status, printed, said = run("check", *WEEK_OPTIONS, "--tell")
+        status, printed, said = run("roster", "check", *WEEK_OPTIONS, "--tell")
         self.assertEqual((status, said), (0, ""))
         after, last = "Late: 2 to 4 days in a row. After Late, the next day no Day.", "Night on Sunday: Dilek for 2 days in a row, with 2 days of work."
         for line in (after, last, "The week asks for 26 to 33 shifts; the contracts supply 25 to 32 a week.", "No mistake found."):
@@ -170,28 +170,26 @@ class Telling(HelperTest):
 class WhyNone(HelperTest):
     def test_the_numbers_to_lower(self):
         words = ("--sce", EIGHT / "ward.txt", "--his", EIGHT / "history-1.txt", "--week", EIGHT / "week-1.txt")
-        status, printed, _ = run("check", *words, "--why-none")
+        status, printed, _ = run("roster", "check", *words, "--why-none")
         lines = printed.splitlines()
         self.assertEqual((status, lines[0]), (0, "No roster meets all minimum numbers. Lower these by 1 in all; no roster can do with less:"))
         self.assertRegex(lines[1], "^(Wed|Thu) (Early|Late|Night) HeadNurse: lower 1 to 0$")
         self.assertEqual({line.split()[0] for line in lines[2:]}, {"Ada", "Emil"})
 
     def test_a_week_that_has_a_roster(self):
-        self.assertEqual(run("check", *WEEK_OPTIONS, "--why-none")[:2], (0, "A roster exists that meets all minimum numbers.\n"))
+        self.assertEqual(run("roster", "check", *WEEK_OPTIONS, "--why-none")[:2], (0, "A roster exists that meets all minimum numbers.\n"))
 
     def test_a_skill_that_is_away(self):
-        away = self.folder / "away.txt"
-        words = [word for nurse in ("Amara", "Bruno", "Ewa") for word in ("--away", f"{nurse}=Fri")]
-        run("wish", *WEEK_OPTIONS[:2], *WEEK_OPTIONS[4:], *words, "--out", away)
-        _, printed, _ = run("check", *WEEK_OPTIONS[:4], "--week", away, "--why-none")
+        away = self.away("Amara=Fri", "Bruno=Fri", "Ewa=Fri")
+        _, printed, _ = run("roster", "check", *WEEK_OPTIONS[:4], "--week", away, "--why-none")
         said = "No roster meets all minimum numbers, and keeps every absence. Lower these by 1 in all; no roster can do with less:"
         rows = ["Fri Day Charge: lower 1 to 0", "    Amara is away", "    Bruno is away", "    Ewa is away"]
         self.assertEqual(printed.splitlines()[1:], [said, *rows])
 
     def test_faults(self):
-        self.assert_fault(run("check", "--sce", SCENARIO, "--why-none"), "inrc2pb-check: --why-none needs the whole week: give --sce, --his and --week")
+        self.assert_fault(run("roster", "check", "--sce", SCENARIO, "--why-none"), "inrc2pb-roster: --why-none needs the whole week: give --sce, --his and --week")
         fix = self.solution("Chen Mon Day Nurse", "Chen Mon Late Nurse")
-        self.assertEqual(run("check", *WEEK_OPTIONS, "--fix", fix, "--why-none")[0], 1)
+        self.assertEqual(run("roster", "check", *WEEK_OPTIONS, "--fix", fix, "--why-none")[0], 1)
 
 
 if __name__ == "__main__":

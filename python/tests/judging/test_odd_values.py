@@ -1,4 +1,4 @@
-"""Tests of the warnings of `inrc2pb-check`."""
+"""Tests of the warnings of `inrc2pb-roster check`."""
 
 import unittest
 
@@ -39,7 +39,7 @@ class Warnings(HelperTest):
         ward = self.folder / "latin.txt"
         for letter, warnings in ((b"\xe4", 1), ("\u00e4".encode(), 0)):
             ward.write_bytes(SCENARIO.read_bytes().replace(b"Amara", b"Am" + letter + b"ra"))
-            status, printed, said = run("check", "--sce", ward)
+            status, printed, said = run("roster", "check", "--sce", ward)
             self.assertEqual((status, said, printed.count("warning: it is not saved as UTF-8")), (0, "", warnings))
 
     def test_each_odd_value_has_its_warnings(self):
@@ -49,7 +49,7 @@ class Warnings(HelperTest):
                 words = {"--sce": SCENARIO, option: changed}
                 said = "".join(f"{changed}: warning: {line}\n" for line in (warning or "").splitlines())
                 end = "No mistake found, but see the warnings." if "no roster can meet it" in said else "No mistake found."
-                self.assertEqual(run("check", *(word for pair in words.items() for word in pair)), (0, f"{said}{end}\n", ""))
+                self.assertEqual(run("roster", "check", *(word for pair in words.items() for word in pair)), (0, f"{said}{end}\n", ""))
 
     def test_a_shift_type_that_is_closed(self):
         text, zeros = WEEK.read_text(), " ".join(["(0,0)"] * 7)
@@ -57,7 +57,7 @@ class Warnings(HelperTest):
         week = self.folder / "week.txt"
         for rows, warned in (([], True), ([f"Late Nurse {zeros}"], True), ([f"Late Nurse {zeros}", f"Late Charge {zeros}"], False)):
             week.write_text(closed.replace("REQUIREMENTS\n", "\n".join(["REQUIREMENTS", *rows, ""]), 1))
-            _, printed, _ = run("check", "--sce", SCENARIO, "--week", week)
+            _, printed, _ = run("roster", "check", "--sce", SCENARIO, "--week", week)
             self.assertEqual("nobody is asked for Late on any day" in printed, warned, printed)
 
     def test_the_examples_have_none(self):
@@ -67,7 +67,7 @@ class Warnings(HelperTest):
         weeks += [(month / "ward.txt", month / "history-0.txt", month / f"week-{number}.txt") for number in range(4)]
         for scenario, history, week in weeks:
             with self.subTest(week):
-                self.assertEqual(run("check", "--sce", scenario, "--his", history, "--week", week), (0, "No mistake found.\n", ""))
+                self.assertEqual(run("roster", "check", "--sce", scenario, "--his", history, "--week", week), (0, "No mistake found.\n", ""))
 
 
 if __name__ == "__main__":

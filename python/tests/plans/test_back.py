@@ -204,7 +204,7 @@ class Over(BackTest):
         self.assertEqual(lines[:3], [
             "Bruno: ill, Mon 30 Nov", "Bruno, Mon 30 Nov: ill instead of Day Nurse", "Chen, Tue 1 Dec: Late Nurse instead of off",
         ])
-        self.assertIn("week 0 is over: the plan goes on from Mon 7 Dec", lines)
+        self.assertIn("week 1 is over: the plan goes on from Mon 7 Dec", lines)
         del before["Bruno", 0]
         self.assertEqual(self.cells(), {**before, ("Chen", 1): ("Late", "Nurse")})
         self.assertEqual(read_state(self.last()).absences, (DayWord("Bruno", 0, "ill"),))
@@ -293,7 +293,7 @@ class Over(BackTest):
         self.lines("over", "Bruno", "Mon", "ill")
         lines = self.lines("over", "Bruno", "Tue", "ill")
         self.assertIn("Bruno, Tue 8 Dec: ill instead of Day Nurse", lines)
-        self.assertIn("week 1 is over, and with it the period is over", lines)
+        self.assertIn("week 2 is over, and with it the period is over", lines)
         text = (self.ward / "worked-2026-11-30.html").read_text()
         self.assertEqual(text.count('>ill<'), 2)
         # The next period begins without the absences of this one.
@@ -332,5 +332,5 @@ class Asked(ServedPage):
         self.assertEqual(len(list((self.ward / "plans").glob("0*"))), 1)
         page = self.sends(verb="over", corrections="Bruno Mon ill, Chen Tue Late")
         self.assertIn("Bruno: ill, Mon 30 Nov\nBruno, Mon 30 Nov: ill instead of Day Nurse\nChen, Tue 1 Dec: Late Nurse instead of off\n", page)
-        self.assertIn("week 0 is over: the plan goes on from Mon 7 Dec", page)
+        self.assertIn("week 1 is over: the plan goes on from Mon 7 Dec", page)
         self.assertIn(">ill<", (self.ward / "worked-2026-11-30.html").read_text())

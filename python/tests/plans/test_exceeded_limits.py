@@ -61,7 +61,7 @@ class Lines(ExceededTest):
         self.assertEqual(list(exceeded_lines(self.read())), [])
 
     def test_shifts_that_no_plan_takes_away(self):
-        # Grace worked five shifts in week 0, and has none in week 1. Two days count as 4 * 2 / 14 shifts, rounded up to 1.
+        # Grace worked five shifts in week 1, and has none in week 2. Two days count as 4 * 2 / 14 shifts, rounded up to 1.
         self.limits("4", "5!")
         self.days(*[""] * 5, "ill", "ill")
         cells = [cell for cell in self.plan.cells if cell.nurse != "Grace" or cell.day < 7]
@@ -100,7 +100,7 @@ class Lines(ExceededTest):
         self.rows["contracts"][1][4] = "4!"
         self.write()
         says = [line for line in exceeded_lines(self.read()) if "Grace" in line]
-        rows = ((0, "Mon 30 Nov to Fri 4 Dec"), (1, "Mon 7 Dec to Fri 11 Dec"))
+        rows = ((1, "Mon 30 Nov to Fri 4 Dec"), (2, "Mon 7 Dec to Fri 11 Dec"))
         run_of = "week {} exceeds a limit that holds: Grace has 5 days of work in a row, {}, of at most 4: plan again, or allow her more"
         self.assertEqual(says, [run_of.format(*row) for row in rows])
 

@@ -217,7 +217,7 @@ class Undone(FolderPages):
     def test_undo_of_the_second_week_leaves_the_first_one_on_its_page(self):
         self.lines("over", "over")
         text = (self.ward / "worked-2026-11-30.html").read_text()
-        self.assertTrue("week 0" in text and "weeks 0 to 1" not in text)
+        self.assertTrue("week 1" in text and "weeks 1 to 2" not in text)
 
     def test_undo_of_the_first_plan_of_a_period_leaves_no_roster(self):
         said = self.lines("page", "over", "over", "plan_again")

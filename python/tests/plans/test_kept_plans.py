@@ -57,13 +57,13 @@ class Words(KeptTest):
     def test_a_change_of_skill_is_told_and_the_nurse_is_called(self):
         old, new = [Cell("Amara", 0, "Day", "Nurse")], [Cell("Amara", 0, "Day", "Charge")]
         changes = shift_changes(old, new)
-        self.assertEqual(change_lines(changes, BARE), ["Amara, Mon of week 0: Day Charge instead of Day Nurse"])
+        self.assertEqual(change_lines(changes, BARE), ["Amara, Mon of week 1: Day Charge instead of Day Nurse"])
         self.assertEqual(call_lines(changes), ["1 nurse to call: Amara"])
 
     def test_who_is_away_on_a_changed_day_is_not_called(self):
         old, new = [Cell("Amara", 0, "Day", "Nurse")], [Cell("Bruno", 0, "Day", "Nurse")]
         changes, away = shift_changes(old, new), {("Amara", 0): "ill"}
-        says = ["Amara, Mon of week 0: ill instead of Day Nurse", "Bruno, Mon of week 0: Day Nurse instead of off"]
+        says = ["Amara, Mon of week 1: ill instead of Day Nurse", "Bruno, Mon of week 1: Day Nurse instead of off"]
         self.assertEqual((change_lines(changes, BARE, away), call_lines(changes, away)), (says, ["1 nurse to call: Bruno"]))
 
     def test_who_works_though_she_is_away_is_told(self):
@@ -72,10 +72,10 @@ class Words(KeptTest):
         self.rows["plan"][1][1] = "leave"
         self.write()
         says = [
-            "week 0: no plan was found that keeps every absence: Amara works Day on Mon 30 Nov, Grace works Day on Wed 2 Dec and Fri 4 Dec",
-            "week 0: lower the minimum of Charge and Nurse in the sheet needs, or give someone the skill",
-            "week 1: no plan was found that keeps every absence: Grace works Day on Fri 11 Dec",
-            "week 1: lower the minimum of Nurse in the sheet needs, or give someone the skill",
+            "week 1: no plan was found that keeps every absence: Amara works Day on Mon 30 Nov, Grace works Day on Wed 2 Dec and Fri 4 Dec",
+            "week 1: lower the minimum of Charge and Nurse in the sheet needs, or give someone the skill",
+            "week 2: no plan was found that keeps every absence: Grace works Day on Fri 11 Dec",
+            "week 2: lower the minimum of Nurse in the sheet needs, or give someone the skill",
         ]
         self.assertEqual(unkept_lines(self.read(), unkept(self.read())), says)
         self.assertEqual(unkept_lines(self.plan, unkept(self.plan)), [])
@@ -224,7 +224,7 @@ class Words(KeptTest):
     def test_who_leaves_with_too_many_shifts_is_named_and_an_earlier_day_takes_one(self):
         self.rows["contracts"][1][1:3] = ["0", "8!"]
         self.write()
-        status, out, _ = run("plan", self.ward, "away", "Grace", "Sat", "Sun", "1", "--time", "10")
+        status, out, _ = run("plan", self.ward, "away", "Grace", "Sat", "Sun", "2", "--time", "10")
         self.assertIn("Grace has 5 shifts of at most 3, above on Thu 3 Dec and Fri 4 Dec", out)
         self.assertIn("shifts before Sat 5 Dec stay: plan from an earlier day can take some of them away", out)
         self.assertEqual(status, 6)
@@ -292,9 +292,9 @@ class Weeks(KeptTest):
     def test_a_week_after_which_the_plan_breaks_a_rule(self):
         printed = self.does("over", "Bruno", "Sun", "Night,", "Finn", "Fri", "off,")
         cure = "after these corrections the plan does not fit any more: plan again, from Mon 7 Dec on"
-        self.assertIn("week 1, not allowed on the day after: Bruno may not work Day on Mon after Night on the Sunday before\n", printed)
+        self.assertIn("week 2, not allowed on the day after: Bruno may not work Day on Mon after Night on the Sunday before\n", printed)
         self.assertIn(f"{cure}\n", printed)
-        self.assertIn("week 0, below the minimum number: Fri Late Nurse has 0 nurses and needs at least 1\n", printed)
+        self.assertIn("week 1, below the minimum number: Fri Late Nurse has 0 nurses and needs at least 1\n", printed)
         self.assertIn("if it was not worked so: undo, then over with other corrections", printed)
         self.assertNotIn("to call", printed)
         cells = files.read_solution(self.last() / "roster-0.txt").cells
@@ -305,13 +305,13 @@ class Weeks(KeptTest):
         self.rows["contracts"][1][4] = "5!"
         self.write()
         printed = self.does("over", "Grace", "Sat", "Day", "Grace", "Sun", "Day")
-        self.assertIn("week 0 exceeds a limit that holds: Grace has 7 days of work in a row", printed)
-        self.assertIn("week 1 exceeds a limit that holds: Grace has 12 days of work in a row, to Fri 11 Dec, of at most 5", printed)
+        self.assertIn("week 1 exceeds a limit that holds: Grace has 7 days of work in a row", printed)
+        self.assertIn("week 2 exceeds a limit that holds: Grace has 12 days of work in a row, to Fri 11 Dec, of at most 5", printed)
         self.assertIn("plan again, from Mon 7 Dec on", printed)
 
     def test_the_page_for_the_wall(self):
-        # On Friday of week 1 one nurse fewer is best, as on a bank holiday; the other cells are as in all weeks.
-        self.rows["needs"].append(["1", "Day", "Nurse", *[""] * 4, "1", "", ""])
+        # On Friday of week 2 one nurse fewer is best, as on a bank holiday; the other cells are as in all weeks.
+        self.rows["needs"].append(["2", "Day", "Nurse", *[""] * 4, "1", "", ""])
         self.rows["nurses"][6][4] = "Wed"
         self.write()
         self.does("page")
@@ -319,8 +319,8 @@ class Weeks(KeptTest):
         words = ["".join(head.itertext()) for head in page.iter("th")]
         marked = [text for text in words if "as on a bank holiday" in text]
         self.assertEqual([(text[:3], text[-6:]) for text in marked], [("Fri", "11 Dec")])
-        self.assertIn("week 1, calendar week 50", words)
-        self.assertRegex("".join(next(page.iter("p")).itertext()), "^weeks 0 to 1: 7 nurses, 66 shifts; as of [A-Z][a-z]+day, [0-9]+ ")
+        self.assertIn("week 2, calendar week 50", words)
+        self.assertRegex("".join(next(page.iter("p")).itertext()), "^weeks 1 to 2: 7 nurses, 66 shifts; as of [A-Z][a-z]+day, [0-9]+ ")
         finn = next(row for row in page.iter("tr") if "".join(row[0].itertext()) == "Finn")
         # Nobody reads on the wall why she is away.
         self.assertEqual("".join(finn[3].itertext()), "away")
@@ -363,12 +363,12 @@ class Weeks(KeptTest):
 
         # Late Nurse has nobody on Friday, so the week has no cost.
         text = "".join(page.getroot().itertext())
-        self.assertIn("Week 0 has no cost, since it breaks rule H2.", text)
+        self.assertIn("Week 1 has no cost, since it breaks rule H2.", text)
         self.assertNotIn("Nothing is charged", text)
         self.does("over")
         text = (self.ward / "worked-2026-11-30.html").read_text()
-        self.assertIn("<p>Week 0 has no cost, since it breaks rule H2: the sums on this page are without it.</p>", text)
-        self.assertNotIn("Week 1 has no cost", text)
+        self.assertIn("<p>Week 1 has no cost, since it breaks rule H2: the sums on this page are without it.</p>", text)
+        self.assertNotIn("Week 2 has no cost", text)
 
     def test_a_correction_with_its_skill(self):
         self.does("over", "Amara", "Thu", "Day/Nurse")
@@ -417,8 +417,8 @@ class NotKept(KeptTest):
         self.write()
         status, printed, said = run("plan", self.ward, "plan", "--time", "5")
         self.assertEqual(status, 6, said)
-        self.assertRegex(printed, "(?m)^week 1: no plan was found that keeps every limit: .* has [0-9]+ shifts of at most 2, above on ")
-        self.assertRegex(printed, "(?m)^week 1: lower minimum numbers, hold fewer shifts, or allow these nurses more; ")
+        self.assertRegex(printed, "(?m)^week 2: no plan was found that keeps every limit: .* has [0-9]+ shifts of at most 2, above on ")
+        self.assertRegex(printed, "(?m)^week 2: lower minimum numbers, hold fewer shifts, or allow these nurses more; ")
         self.assertIn("\nthis plan is written, but it does not keep what the first lines say: ", printed)
         self.assertNotIn("costs less", printed)
 
@@ -480,7 +480,7 @@ class Agreed(KeptTest):
     def test_an_absence_that_lifts_a_held_shift(self):
         self.rows["plan"][1][8] = "Day/Charge"
         self.write()
-        self.assertIn("Amara, Mon 7 Dec: leave lifts Day, which the spreadsheet holds\n", self.does("leave", "Amara", "Mon 1"))
+        self.assertIn("Amara, Mon 7 Dec: leave lifts Day, which the spreadsheet holds\n", self.does("leave", "Amara", "Mon 2"))
 
     def test_later_verbs_keep_a_swap(self):
         self.assertEqual(self.agreed(), self.days)

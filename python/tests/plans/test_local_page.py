@@ -298,10 +298,10 @@ class Page(ServedPage):
         self.assertEqual(self.asks(path=worked)[0], 404)
         for _ in range(2):
             self.assertIn(f'href="{worked}">Weeks that are over, from 30 Nov 2026 on</a>', self.sends(verb="over"))
-            self.assertIn("weeks 0" if _ else "week 0", self.asks(path=worked)[1])
+            self.assertIn("weeks 1" if _ else "week 1", self.asks(path=worked)[1])
         # The period is over: the page says what to write into the spreadsheet, and undo goes back.
         page = self.asks()[1]
-        self.assertRegex(page, '<pre role="status">[^<]*\nweek 1 is over, and with it the period is over\n'
+        self.assertRegex(page, '<pre role="status">[^<]*\nweek 2 is over, and with it the period is over\n'
                          "write the days of the next one, from 2026-12-14 on, into the sheet plan")  # fmt: skip
         self.assertIn("Write the days of the next period into the sheet plan of ", page)
         self.assertNotIn("Correct that", page)

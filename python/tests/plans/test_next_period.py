@@ -68,7 +68,7 @@ class NextPeriod(KeptTest):
         self.end_period()
         self.assertEqual(self.worked(), ["worked-0.html"])
         before = (self.ward / "worked-0.html").read_text()
-        self.assertIn("weeks 0 to 1", before)
+        self.assertIn("weeks 1 to 2", before)
         self.plan_next()
         self.does("over")
         self.assertEqual(self.worked(), ["worked-1.html", "worked-0.html"])
@@ -79,10 +79,10 @@ class NextPeriod(KeptTest):
         self.assertEqual(self.linked(), ["worked-0.html"])
 
     def test_weeks_of_the_needs_count_anew(self):
-        # The last row of the needs is of a bank holiday in week 1.
-        self.rows["needs"].append(["1", "Day", "Nurse", *[""] * 4, "1", "", ""])
+        # The last row of the needs is of a bank holiday in week 2.
+        self.rows["needs"].append(["2", "Day", "Nurse", *[""] * 4, "1", "", ""])
         self.write()
-        row = f"sheet needs, row {len(self.rows['needs'])}: weeks count anew, and this is week 1, now Mon 21 Dec to Sun 27 Dec: "
+        row = f"sheet needs, row {len(self.rows['needs'])}: weeks count anew, and this is week 2, now Mon 21 Dec to Sun 27 Dec: "
         self.assertNotIn("count anew", run("plan", self.ward, "check")[1])
         self.assertIn(row, self.end_period())
         self.write_next(MONDAY + datetime.timedelta(days=14))
@@ -92,7 +92,7 @@ class NextPeriod(KeptTest):
         self.write()
         self.assertIn(f"warning: {row}", run("plan", self.ward, "check")[1])
         # After the row, its week or its days were corrected, or the row was emptied, the warning is gone.
-        right = ["1", "day", "Nurse", *[""] * 4, "1", "", ""]
+        right = ["2", "day", "Nurse", *[""] * 4, "1", "", ""]
         for other in (["0", *right[1:]], [*right[:3], "1", *right[4:7], "", "", ""], [*right[:7], "2", "", ""], [*right[:7], "", "", ""]):
             self.rows["needs"][-1] = other
             self.write()

@@ -78,7 +78,7 @@ class Outcomes(KeptTest):
             Event("ill", ("Grace", "Fri", DATES[0])),
             Event("back", ("Grace", "Fri")),
             Event("swap", ("Grace", "Mon"), do=True),
-            Event("over", ("Grace", "Mon 1", "off")),
+            Event("over", ("Grace", "Mon 2", "off")),
         ):
             with self.subTest(event), self.assertRaises(Misuse):
                 self.verbs.asked(event)

@@ -1,4 +1,4 @@
-"""Tests of `inrc2pb-plan` and of the plans of a ward's folder, on the example of `inrc2pb-ward` with two weeks."""
+"""Tests of `inrc2pb-plan` and of the plans of a ward's folder, on the example of `new` with two weeks."""
 
 import contextlib
 import csv
@@ -44,25 +44,25 @@ class Days(unittest.TestCase):
             (DATED, 0, "Fri", 4, "Fri 4 Dec"),
             (DATED, 5, "fri", 11, "Fri 11 Dec"),
             (DATED, 4, "Friday", 4, "Fri 4 Dec"),
-            (DATED, 0, "Fri 1", 11, "Fri 11 Dec"),
+            (DATED, 0, "Fri 2", 11, "Fri 11 Dec"),
             (DATED, 9, "2026-12-01", 1, "Tue 1 Dec"),
             (DATED, 9, "1.12.", 1, "Tue 1 Dec"),
             (DATED, 0, "13.12.2026", 13, "Sun 13 Dec"),
             (DATED, 9, "1 Dec", 1, "Tue 1 Dec"),
             (DATED, 9, "Tue 1 dec", 1, "Tue 1 Dec"),
-            (BARE, 0, "Sun 1", 13, "Sun of week 1"),
+            (BARE, 0, "Sun 2", 13, "Sun of week 2"),
         ):
             with self.subTest(text):
                 self.assertEqual(days.number(text, near), number)
                 self.assertEqual(days.text(number), name)
-        self.assertEqual((DATED.head(4), BARE.head(11)), ("2026-12-04", "Fri 1"))
+        self.assertEqual((DATED.head(4), BARE.head(11)), ("2026-12-04", "Fri 2"))
 
     def test_a_date_without_its_year_after_new_year(self):
         days = PlanDays(datetime.date(2026, 12, 28), 1)
         self.assertEqual((days.number("31.12.", 0), days.number("2.1.", 0)), (3, 5))
 
     def test_days_that_the_plan_does_not_have(self):
-        for text in ("2026-11-29", "2026-12-14", "Mon 2", "29.11.2026"):
+        for text in ("2026-11-29", "2026-12-14", "Mon 3", "29.11.2026"):
             with self.subTest(text), self.assertRaises(OtherPlan):
                 DATED.number(text, 0)
         for days, text in ((DATED, "2026-02-30"), (DATED, "soon"), (DATED, "Wed 1 Dec"), (BARE, "2026-12-01"), (BARE, "1 Dec")):
@@ -80,8 +80,8 @@ class Words(unittest.TestCase):
         for line, nurse, day in (
             ("Anna Koch Fri", "Anna_Koch", 4),
             ("anna w 4.12.", "Anna_Wolf", 4),
-            ("łuk Sat 1", "Łukasz_Nowak", 12),
-            ("Sun Li Mon 1", "Sun_Li", 7),
+            ("łuk Sat 2", "Łukasz_Nowak", 12),
+            ("Sun Li Mon 2", "Sun_Li", 7),
             ("Sun Li Tue 1 Dec", "Sun_Li", 1),
             ("Sun Li 1 dec", "Sun_Li", 1),
         ):
@@ -91,7 +91,7 @@ class Words(unittest.TestCase):
                 words.end()
 
     def test_a_nurse_with_the_name_of_a_month(self):
-        words = Wording("Mon 1 Jan Li".split(), (*self.NURSES, "Jan_Li"), DATED, 0, "swap Sun Li Mon Jan")
+        words = Wording("Mon 2 Jan Li".split(), (*self.NURSES, "Jan_Li"), DATED, 0, "swap Sun Li Mon Jan")
         self.assertEqual((words.day(), words.nurse()), (7, "Jan_Li"))
 
     def test_faults_of_words(self):
@@ -193,7 +193,7 @@ class FolderTest(HelperTest):
             roster, target = last / f"roster-{number}.txt", self.folder / f"history-{number + 1}.txt"
             found.append(program.penalty_of(program.WeekFiles(last / "ward.txt", history, last / f"week-{number}.txt"), roster))
             if not number:
-                self.assertEqual(run("next", last / "ward.txt", history, roster, "--out", target)[0], 0)
+                self.assertEqual(run("roster", "next", "--sce", last / "ward.txt", "--his", history, "--roster", roster, "--out", target)[0], 0)
                 history = target
         return found
 
@@ -233,7 +233,7 @@ class Verbs(FolderTest):
         printed = run("plan", self.ward, "plan", "--time", "1")[1]
         first, second = self.points()
         self.assertLessEqual(first + second, before)
-        self.assertIn(f"week 0: {first} points\nweek 1: {second} points\n2 weeks: {first + second} points\n", printed)
+        self.assertIn(f"week 1: {first} points\nweek 2: {second} points\n2 weeks: {first + second} points\n", printed)
 
     def test_a_plan_that_hangs_on_the_wall_changes_little(self):
         self.begin()
@@ -275,7 +275,7 @@ class Verbs(FolderTest):
         status, printed, said = run("plan", self.ward, "plan", "--time", "3")
         self.assertEqual(status, 5, said)
         says = "Lower these by 1 in all; no roster can do with less:\nSat 5 Dec Day Charge: lower 4 to 3\n$"
-        self.assertRegex(printed, f"^week 0: No roster .* {says}")
+        self.assertRegex(printed, f"^week 1: No roster .* {says}")
         self.assertFalse(list((self.ward / "plans").glob("0*")))
 
     def test_a_nurse_who_comes_and_one_who_leaves(self):
@@ -285,7 +285,7 @@ class Verbs(FolderTest):
         self.rows["plan"].append(["Ida", *["away"] * 7, *[""] * 7])
         self.rows["plan"][4][8:15] = ["away"] * 7
         self.write()
-        self.does("plan", "Mon 1")
+        self.does("plan", "Mon 2")
         nurses = {nurse for nurse, day in self.cells() if day >= 7}
         self.assertNotIn("Dilek", nurses)
         self.assertFalse({nurse for nurse, day in self.cells() if nurse == "Ida" and day < 7})
@@ -296,7 +296,7 @@ class Verbs(FolderTest):
         self.write()
         status, _, said = run("plan", self.ward, "plan", "--time", "10")
         cure = "write it again, with away in the plan from her last day on"
-        self.assertEqual((status, said), (1, f"inrc2pb-plan: Dilek worked in week 0, and has no row in the sheet nurses: {cure}\n"))
+        self.assertEqual((status, said), (1, f"inrc2pb-plan: Dilek worked in week 1, and has no row in the sheet nurses: {cure}\n"))
 
     def test_swaps(self):
         self.begin()
@@ -383,7 +383,7 @@ class Verbs(FolderTest):
         status, _, said = run("plan", self.ward, "ill", "Chen", "2026-12-01")
         line = "Tue 1 Dec is in a week that is over: the plan goes on from Mon 7 Dec"
         self.assertEqual((status, said), (1, f"inrc2pb-plan: {line}\n"))
-        self.assertIn("week 1 is over, and with it the period is over\n", self.does("over"))
+        self.assertIn("week 2 is over, and with it the period is over\n", self.does("over"))
         status, _, said = run("plan", self.ward, "plan")
         self.assertEqual((status, said.split(":")[1]), (1, " a period is over"))
         later = [str(MONDAY + datetime.timedelta(days=14 + day)) for day in range(7)]
@@ -448,8 +448,8 @@ class Refused(FolderTest):
             self.assertTrue(lines[0].startswith("warning: sheet plan: Bruno has no row: "), lines[0])
             self.assertEqual(lines[first : first + 4], [
                 "my wärd: 7 nurses, 2 weeks in a period.",
-                "Week 0, Mon 30 Nov: asks for 26 to 33 shifts; the contracts supply 24 to 36 a week.",
-                "Week 1, Mon 7 Dec: asks for 26 to 33 shifts; the contracts supply 20 to 32 a week.", "",
+                "Week 1, Mon 30 Nov: asks for 26 to 33 shifts; the contracts supply 24 to 36 a week.",
+                "Week 2, Mon 7 Dec: asks for 26 to 33 shifts; the contracts supply 20 to 32 a week.", "",
             ])  # fmt: skip
 
     def test_a_ward_without_a_mistake(self):
@@ -482,8 +482,8 @@ class Refused(FolderTest):
     def test_wrong_verbs_and_options(self):
         for says, *words in (
             ("'plna' is no verb: did you mean plan?", "plna"),
-            ("'sick' is no verb: write one of check, plan, ill, back, swap, over, page, undo, serve, away, leave, unpaid, training\n", "sick"),
-            ("a verb is missing after the folder: write one of check, plan, ",),
+            ("'sick' is no verb: write one of new, check, plan, ill, back, swap, over, page, undo, serve, files, away, leave, unpaid, training\n", "sick"),
+            ("a verb is missing after the folder: write one of new, check, plan, ",),
             ("'Chen' is a word too many: page has none", "page", "Chen"),
             ("--do is for swap: leave it out", "plan", "--do"),
             ("--free is for plan: leave it out", "page", "--free"),

@@ -104,15 +104,15 @@ class Finding(HelperTest):
         for number, name in ((9, "SIGKILL"), (34, "SIGRTMIN"), (40, "signal 40")):
             self.assertEqual(str(self.fault_of(f"#!/bin/sh\nkill -{number} $$\n")), f"inrc2pb: ended by {name}")
 
-    def test_a_helper_runs_through_a_link(self):
-        link = self.folder / "table"
-        link.symlink_to(HELPERS / "inrc2pb-table")
-        ran = subprocess.run([str(link), str(ROSTER)], cwd="/", stdout=subprocess.PIPE, stderr=subprocess.PIPE)
-        self.assertEqual((ran.stdout[:28], ran.stderr), (b"ward, week 0: 33 assignments", b""))
+    def test_a_command_runs_through_a_link(self):
+        link = self.folder / "roster"
+        link.symlink_to(HELPERS / "inrc2pb-roster")
+        ran = subprocess.run([str(link), "show", "--roster", str(ROSTER)], cwd="/", stdout=subprocess.PIPE, stderr=subprocess.PIPE)
+        self.assertEqual((ran.stdout[:28], ran.stderr), (b"ward, week 1: 33 assignments", b""))
 
-    def test_a_helper_of_another_name(self):
+    def test_a_command_of_another_name(self):
         ran = subprocess.run([str(HELPERS / "launcher.py")], stdout=subprocess.PIPE, stderr=subprocess.PIPE)
-        self.assertEqual((ran.returncode, ran.stderr[:46]), (1, b"launcher.py: no helper has this name: give it "))
+        self.assertEqual((ran.returncode, ran.stderr[:47]), (1, b"launcher.py: no command has this name: give it "))
 
     def test_a_clone_uses_its_own_program(self):
         clone, other = self.folder / "clone", self.folder / "other"
@@ -121,13 +121,13 @@ class Finding(HelperTest):
             folder.mkdir()
             self.script("inrc2pb", f"echo {version}").rename(folder / "inrc2pb")
         environment = {**os.environ, "PATH": f"{other}:{os.environ['PATH']}", "INRC2PB": ""}
-        words = [str(clone / "python" / "inrc2pb-check"), "--version"]
+        words = [str(clone / "python" / "inrc2pb-roster"), "--version"]
         self.assertEqual(subprocess.run(words, env=environment, stdout=subprocess.PIPE).stdout, b"inrc2pb 2\n")
 
     def test_a_full_disk_behind_standard_error(self):
         with open("/dev/full", "w") as full:
-            for words, status in (([], 2), ([str(self.folder / "missing")], 3), (["--fix", "a", "--fix", "b", str(ROSTER)], 1)):
-                self.assertEqual(subprocess.run([str(HELPERS / "inrc2pb-table"), *words], stderr=full).returncode, status)
+            for words, status in (([], 2), (["--roster", str(self.folder / "missing")], 3), (["--fix", "2=a", "--roster", str(ROSTER)], 1)):
+                self.assertEqual(subprocess.run([str(HELPERS / "inrc2pb-roster"), "show", *words], stderr=full).returncode, status)
 
 
 class CommandLines(unittest.TestCase):

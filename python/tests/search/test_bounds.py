@@ -176,8 +176,8 @@ class Commands(FakeProver):
     def improve(self, how):
         """The report of a week that prices alone do not prove, and what was said."""
         self.prover(how)
-        words = (*CASES_FILES.options(), "--sol", self.folder / "best.txt", "--proof", self.proof, "--time", 300)
-        status, report, said = run("improve", *words, environment=self.environment)
+        words = (*CASES_FILES.options(), "--out", self.folder / "best.txt", "--proof", self.proof, "--time", 300)
+        status, report, said = run("solve", *words, environment=self.environment)
         self.assertEqual(status, 0, said)
         return report, said
 
@@ -199,7 +199,7 @@ class Commands(FakeProver):
 
     def test_the_bound_of_a_period_is_that_of_the_program(self):
         self.prover(5)
-        status, printed, said = run("period", *self.words, 8, "--proof", self.proof, environment=self.environment)
+        status, printed, said = run("solve", *self.words, 8, "--proof", self.proof, environment=self.environment)
         self.assertEqual(status, 0, said)
         self.assertRegex(printed.splitlines()[-1], f"^lower bound 5 of the sum \\({PROVER}\\): the gap is ")
         self.assertEqual(self.given()["texts"]["--proof"], self.proof.read_text())
@@ -208,14 +208,14 @@ class Commands(FakeProver):
     def test_the_end_of_the_time_ends_the_program_some_seconds_later(self):
         self.prover("hang")
         began = time.monotonic()
-        status, printed, said = run("period", *self.words, 1, environment=self.environment)
+        status, printed, said = run("solve", *self.words, 1, environment=self.environment)
         self.assertEqual(status, 0, said)
         self.assertRegex(printed.splitlines()[-1], f"^lower bound [0-9]+ of the sum \\({PLAIN}\\): ")
         self.assertLess(time.monotonic() - began, 2 * 1 + BEYOND + 10)
 
     def test_a_stop_ends_the_program(self):
         self.prover("hang")
-        command = [sys.executable, str(HELPERS / "inrc2pb-period"), *map(str, self.words), "3"]
+        command = [sys.executable, str(HELPERS / "inrc2pb-solve"), *map(str, self.words), "3"]
         environment = {**os.environ, **self.environment}
         with subprocess.Popen(command, stdout=subprocess.PIPE, stderr=subprocess.PIPE, env=environment) as period:
             self.given()
@@ -227,7 +227,7 @@ class Commands(FakeProver):
         self.assertEqual(period.returncode, 130, said)
         *_, line, stopped = printed.decode().splitlines()
         self.assertRegex(line, f"^lower bound [0-9]+ of the sum \\({PLAIN}\\): ")
-        self.assertEqual(stopped, "stopped: weeks 0 to 1 are planned")
+        self.assertEqual(stopped, "stopped: weeks 1 to 2 are planned")
         self.assertNotIn(b"failed", said)
         process = Path("/proc", str(self.given()["process"]), "cmdline")
         self.assertFalse(process.exists() and b"fake_prover" in process.read_bytes())
@@ -237,11 +237,11 @@ class Commands(FakeProver):
             (("--ahead",), "with --ahead there is no certificate: leave out --proof"),
             (("--solver", "sh -c 'echo s UNKNOWN'"), "with --solver there is no certificate: leave out --proof"),
         ):
-            self.assert_fault(run("period", *OPTIONS, "--out", self.folder, "--proof", self.proof, *words), f"inrc2pb-period: {says}")
+            self.assert_fault(run("solve", *OPTIONS, "--out", self.folder, "--proof", self.proof, *words), f"inrc2pb-solve: {says}")
         self.proof.write_bytes(SECOND.read_bytes())
         words = (*OPTIONS[:6], "--week", self.proof, "--out", self.folder / "out", "--proof", self.proof)
-        says = f"inrc2pb-period: {self.proof} is read, so the certificate cannot be written to it: choose another file"
-        self.assert_fault(run("period", *words), says)
+        says = f"inrc2pb-solve: {self.proof} is read, so the certificate cannot be written to it: choose another file"
+        self.assert_fault(run("solve", *words), says)
 
 
 if __name__ == "__main__":

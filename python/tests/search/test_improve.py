@@ -1,4 +1,4 @@
-"""Tests of `inrc2pb-improve`: searches, bad input, and a stop."""
+"""Tests of `inrc2pb-solve` for one week: searches, bad input, and a stop."""
 
 import os
 import re
@@ -44,7 +44,7 @@ class Searches(HelperTest):
     @unittest.skipUnless(HAS_CBC, "needs cbc")
     def test_a_small_week_is_proved(self):
         proof = self.folder / "certificate.txt"
-        status, report, progress = run("improve", *WEEK_OPTIONS, "--sol", self.target, "--proof", proof)
+        status, report, progress = run("solve", *WEEK_OPTIONS, "--out", self.target, "--proof", proof)
         self.assertEqual(status, 0)
         self.assertIn("status OPTIMUM FOUND\nobjective 20\npenalty 20\n", report)
         self.assertRegex(report, f"\nlower bound 20 \\(({PROVER}|{PLAIN})\\)\nno roster costs less(, proved)?\n$")
@@ -71,7 +71,7 @@ class Searches(HelperTest):
     def test_without_a_solver_a_line_says_what_to_install(self):
         tools = self.folder / "tools"
         tools.mkdir()
-        status, report, said = run("improve", *WEEK_OPTIONS, "--sol", self.target, environment={"PATH": str(tools)})
+        status, report, said = run("solve", *WEEK_OPTIONS, "--out", self.target, environment={"PATH": str(tools)})
         self.assertEqual(status, 0)
         self.assertTrue(report.endswith("no lower bound\n"))
         self.assertEqual(said.count("there is no cbc, clp or glpsol, so this is only a first roster: install one (Debian: apt-get install coinor-cbc)\n"), 1)
@@ -82,13 +82,13 @@ class Searches(HelperTest):
         tools.mkdir()
         for week, ward, costs in ((0, "ward", True), (1, "ward", False), (0, "other", False)):
             target = self.solution(*rows, week=week, ward=ward)
-            status, report, _ = run("improve", *WEEK_OPTIONS, "--sol", target, environment={"PATH": str(tools)})
+            status, report, _ = run("solve", *WEEK_OPTIONS, "--out", target, environment={"PATH": str(tools)})
             self.assertEqual((status, "penalty 20\n" in report), (0, costs))
             self.assertTrue(target.read_text().startswith("SOLUTION\n0 ward\n"))
 
     @unittest.skipUnless(HAS_CBC, "needs cbc")
     def test_a_roster_written_to_standard_output(self):
-        status, printed, _ = run("improve", *WEEK_OPTIONS, "--sol", "/dev/stdout", "--time", 60)
+        status, printed, _ = run("solve", *WEEK_OPTIONS, "--out", "/dev/stdout", "--time", 60)
         self.assertEqual(status, 0)
         self.assertIn("SOLUTION\n0 ward\n", printed)
         self.assertIn("penalty 20\n", printed)
@@ -96,7 +96,7 @@ class Searches(HelperTest):
     @unittest.skipUnless(HAS_CBC, "needs cbc")
     def test_held_rows_and_early_stay(self):
         promised = self.solution("Grace Sat Day Nurse", name="promised.txt")
-        status, report, _ = run("improve", *WEEK_OPTIONS, "--fix", promised, "--early", "--sol", self.target)
+        status, report, _ = run("solve", *WEEK_OPTIONS, "--fix", promised, "--early", "--out", self.target)
         self.assertEqual(status, 0)
         self.assertIn("Grace Sat Day Nurse\n", self.target.read_text())
         held = program.WeekFiles(*WEEK_FILES.options()[1::2], promised, True)
@@ -133,25 +133,25 @@ class Lines(unittest.TestCase):
 
 class BadInput(HelperTest):
     def assert_refused(self, status, says, *words):
-        ran = run("improve", *words, *(() if "--time" in words else ("--time", 3)))
+        ran = run("solve", *words, *(() if "--time" in words else ("--time", 3)))
         self.assertEqual((ran[0], ran[1]), (status, ""), ran[2])
         self.assertIn(says, ran[2])
         self.assertEqual(ran[2].count("\n"), 1, ran[2])
 
     def test_one_line(self):
-        target = ("--sol", self.folder / "best.txt")
+        target = ("--out", self.folder / "best.txt")
         two = self.changed(ROSTER, "Amara Mon Day Charge", "Amara Tue Late Charge")
-        says = f"inrc2pb-improve: {two} line 6: roster breaks H1: Amara has two places on Tue: correct its file, or leave it out\n"
-        self.assert_refused(6, says, *WEEK_OPTIONS, *target, "--from", two)
-        self.assert_refused(3, "missing.txt", *WEEK_OPTIONS, *target, "--from", self.folder / "missing.txt")
-        self.assert_refused(3, "no_folder", *WEEK_OPTIONS, "--sol", self.folder / "no_folder" / "best.txt")
+        says = f"inrc2pb-solve: {two} line 6: roster breaks H1: Amara has two places on Tue: correct its file, or leave it out\n"
+        self.assert_refused(6, says, *WEEK_OPTIONS, *target, "--roster", two)
+        self.assert_refused(3, "missing.txt", *WEEK_OPTIONS, *target, "--roster", self.folder / "missing.txt")
+        self.assert_refused(3, "no_folder", *WEEK_OPTIONS, "--out", self.folder / "no_folder" / "best.txt")
         kept = shutil.copy(ROSTER, self.folder / "kept.txt")
-        self.assert_refused(1, f"{kept} is read, so the roster cannot be written to it", *WEEK_OPTIONS, "--sol", kept, "--fix", kept)
+        self.assert_refused(1, f"{kept} is read, so the roster cannot be written to it", *WEEK_OPTIONS, "--out", kept, "--fix", kept)
         self.assert_refused(1, "gets the roster, so the certificate cannot be written to it", *WEEK_OPTIONS, *target, "--proof", self.folder / "best.txt")
         says = "no roster was found, and no proof that none exists: try --solver clasp"
         self.assert_refused(5, says, *WEEK_OPTIONS, *target, "--solver", "sh -c 'echo s UNKNOWN'")
         for seconds in ("nan", "inf", 0, "1e12"):
-            line = "inrc2pb-improve: --time has to be a number of seconds above 0, and at most 10000000\n"
+            line = "inrc2pb-solve: --time has to be a number of seconds above 0, and at most 10000000\n"
             self.assert_refused(1, line, *WEEK_OPTIONS, *target, "--time", seconds)
         broken = self.changed(SCENARIO, "Chen Full", "Chen Ful", "broken.txt")
         self.assert_refused(1, "line 26", "--sce", broken, *WEEK_OPTIONS[2:], *target)
@@ -163,16 +163,16 @@ class BadInput(HelperTest):
         writer = threading.Thread(target=lambda: pipe.write_bytes(WEEK.read_bytes()), daemon=True)
         writer.start()
         says = f"{pipe} is a pipe, which can be read only once: give a file\n"
-        self.assert_refused(1, says, *WEEK_OPTIONS[:4], "--week", pipe, "--sol", self.folder / "best.txt")
-        self.assert_refused(1, says, *WEEK_OPTIONS, "--from", pipe, "--sol", self.folder / "best.txt")
-        self.assert_refused(1, f"{pipe} is a pipe, which can be written only once: name a file\n", *WEEK_OPTIONS, "--sol", pipe)
+        self.assert_refused(1, says, *WEEK_OPTIONS[:4], "--week", pipe, "--out", self.folder / "best.txt")
+        self.assert_refused(1, says, *WEEK_OPTIONS, "--roster", pipe, "--out", self.folder / "best.txt")
+        self.assert_refused(1, f"{pipe} is a pipe, which can be written only once: name a file\n", *WEEK_OPTIONS, "--out", pipe)
         # Nobody has read from the pipe, so the writer still waits.
         self.assertEqual(pipe.read_bytes(), WEEK.read_bytes())
         writer.join()
 
     @unittest.skipUnless(HAS_CBC, "needs cbc")
     def test_held_rows_that_do_not_fit(self):
-        fix, words = self.folder / "rows.txt", (*WEEK_OPTIONS, "--sol", self.folder / "best.txt", "--fix", self.folder / "rows.txt")
+        fix, words = self.folder / "rows.txt", (*WEEK_OPTIONS, "--out", self.folder / "best.txt", "--fix", self.folder / "rows.txt")
         self.solution("Amara Tue Day Charge", "Chen Mon Day Charge")
         self.assert_refused(1, f"{fix} line 6: Chen does not have the skill Charge: no roster can have this row\n", *words)
         self.solution("Zoe Mon Day Nurse", week=2, ward="icu")
@@ -181,7 +181,7 @@ class BadInput(HelperTest):
         # Every nurse is held on the late shift of Monday, so nobody is left for the others.
         late = [f"{nurse} Mon Late Nurse" for nurse in ("Amara", "Bruno", "Chen", "Ewa", "Finn", "Grace")]
         self.solution(*late)
-        ran = run("improve", *words)
+        ran = run("solve", *words)
         self.assertEqual((ran[0], ran[1]), (5, ""))
         self.assertRegex(ran[2], rf"no roster keeps the hard rules and has the rows of {fix} \(({PROVER}|{PLAIN})\): ")
 
@@ -189,22 +189,22 @@ class BadInput(HelperTest):
     def test_files_of_another_week(self):
         other = self.solution(*ROSTER.read_text().splitlines()[4:], week=3)
         target = self.folder / "best.txt"
-        words = (*WEEK_OPTIONS, "--sol", target, "--time", 60)
-        status, report, said = run("improve", *words, "--fix", other)
+        words = (*WEEK_OPTIONS, "--out", target, "--time", 60)
+        status, report, said = run("solve", *words, "--fix", other)
         self.assertEqual(status, 0, said)
         hint = "line 2 has week 3, and the history has week 0: is the file of another week?"
-        self.assertEqual(said.splitlines()[0], f"inrc2pb-improve: {other}: {hint}")
+        self.assertEqual(said.splitlines()[0], f"inrc2pb-solve: {other}: {hint}")
         self.assertIn("penalty 20\n", report)
-        self.assertEqual(run("improve", *words, "--from", other)[0], 0)
+        self.assertEqual(run("solve", *words, "--roster", other)[0], 0)
         self.assertTrue(target.read_text().startswith("SOLUTION\n0 ward\n"))
         broken = self.changed(other, "Amara Tue Day Charge", "Amara Mon Late Nurse")
-        self.assert_refused(6, f"inrc2pb-improve: {broken} breaks a hard rule; {hint}\n", *words, "--from", broken)
+        self.assert_refused(6, f"inrc2pb-solve: {broken} breaks a hard rule; {hint}\n", *words, "--roster", broken)
 
     @unittest.skipUnless(HAS_CBC, "needs cbc")
     def test_a_week_that_no_roster_meets(self):
         eight = ROOT / "examples" / "eight"
         words = ("--sce", eight / "ward.txt", "--his", eight / "history-1.txt", "--week", eight / "week-1.txt")
-        status, report, said = run("improve", *words, "--sol", self.folder / "best.txt", "--time", 60)
+        status, report, said = run("solve", *words, "--out", self.folder / "best.txt", "--time", 60)
         self.assertEqual((status, report), (5, ""))
         self.assertRegex(said.splitlines()[-1], rf"no roster keeps the hard rules \(({PROVER}|{PLAIN})\): ")
 
@@ -213,7 +213,7 @@ class Stops(HelperTest):
     def stopped(self, running, *words, environment=None):
         """A search of ten minutes that gets Ctrl-C when the file `running` exists: its status and its report."""
         words = [*WEEK_FILES.options(), "--time", "600", *words]
-        command = [sys.executable, str(HELPERS / "inrc2pb-improve"), *map(str, words)]
+        command = [sys.executable, str(HELPERS / "inrc2pb-solve"), *map(str, words)]
         search = subprocess.Popen(command, stdout=subprocess.PIPE, stderr=subprocess.DEVNULL, env={**os.environ, **(environment or {})})
         self.addCleanup(search.kill)
         while not running.exists() and search.poll() is None:
@@ -226,7 +226,7 @@ class Stops(HelperTest):
         answer, target, running = self.folder / "answer.txt", self.folder / "best.txt", self.folder / "running"
         answer.write_text(program.answer_with(WEEK_FILES, ROSTER))
         slow = self.script("slow.sh", f"trap 'cat {answer}; exit' TERM\ntouch {running}\nwhile :; do sleep 0.1; done\n")
-        status, report = self.stopped(running, "--sol", target, "--solver", slow)
+        status, report = self.stopped(running, "--out", target, "--solver", slow)
         self.assertEqual(status, 0)
         self.assertIn("penalty 20\n", report)
         self.assertEqual(program.penalty_of(WEEK_FILES, target), 20)
@@ -234,9 +234,9 @@ class Stops(HelperTest):
     def test_a_stop_does_not_wait_for_a_model(self):
         running = self.folder / "running"
         slow = self.slow_to_encode(running)
-        for start, status, says in ((("--from", ROSTER), 0, "penalty 20\n"), ((), 5, "")):
+        for start, status, says in ((("--roster", ROSTER), 0, "penalty 20\n"), ((), 5, "")):
             with self.subTest(start):
-                ran = self.stopped(running, "--sol", self.folder / f"best-{status}.txt", "--solver", "true", *start, environment=slow)
+                ran = self.stopped(running, "--out", self.folder / f"best-{status}.txt", "--solver", "true", *start, environment=slow)
                 self.assertEqual(ran[0], status)
                 self.assertIn(says, ran[1])
             running.unlink(missing_ok=True)
@@ -245,9 +245,9 @@ class Stops(HelperTest):
     def test_the_best_roster_is_reported(self):
         for number in (signal.SIGINT, signal.SIGTERM):
             target = self.folder / f"{number}.txt"
-            words = [*THIRTY_FILES.options(), "--sol", target, "--time", "600"]
+            words = [*THIRTY_FILES.options(), "--out", target, "--time", "600"]
             search = subprocess.Popen(
-                [sys.executable, str(HELPERS / "inrc2pb-improve"), *map(str, words)], stdout=subprocess.PIPE, stderr=subprocess.PIPE)
+                [sys.executable, str(HELPERS / "inrc2pb-solve"), *map(str, words)], stdout=subprocess.PIPE, stderr=subprocess.PIPE)
             line = search.stderr.readline()
             self.assertIn(b"penalty", line)
             search.send_signal(number)

@@ -151,43 +151,43 @@ class Commands(HelperTest):
         says = f"Dilek has 5 shifts of at most 3, above on {worked[-2]} and {worked[-1]}"
         given = self.give(Claim(Choice(1, "Chen", chen.day, None)), Claim(Charged("SHIFTS", "Dilek", 0)))
         words = ("--sce", few, *WEEK_OPTIONS[2:], *given)
-        status, printed, _ = run("check", *words, "--roster", ROSTER)
+        status, printed, _ = run("roster", "check", *words, "--roster", ROSTER)
         day = ("Mon", "Tue", "Wed", "Thu", "Fri", "Sat", "Sun")[chen.day]
         wanted = [f"{ROSTER}: Chen works {chen.shift} on {day}, and is away", f"{ROSTER}: {says}, and this limit holds"]
         self.assertEqual((status, [line for line in printed.splitlines() if "warning" not in line]), (1, wanted))
-        table = run("table", *words, ROSTER)[1]
+        table = run("roster", "show", *words, "--roster", ROSTER)[1]
         self.assertIn(f"above a limit that holds: {says}", table)
         self.assertIn("# = on duty while away, or on a shift type that she never works\n", table)
-        self.assertIn(f"above a limit that holds: {says}", run("table", *words, "--why", ROSTER)[1])
-        self.assertIn("Dilek: never more than 3 shifts.", run("check", *words, "--tell")[1])
+        self.assertIn(f"above a limit that holds: {says}", run("roster", "why", *words, "--roster", ROSTER)[1])
+        self.assertIn("Dilek: never more than 3 shifts.", run("roster", "check", *words, "--tell")[1])
 
     def test_the_reason_of_an_absence_is_shown(self):
         off = next((nurse, day) for nurse in WARD.nurses for day in range(7) if (nurse, day) not in {(cell.nurse, cell.day) for cell in self.rows})
         given = self.give(Claim(Choice(1, *off, None)))
         reasons = self.folder / "reasons.txt"
         reasons.write_text(f"REASONS\nward\n\nROWS = 1\n1 {off[0]} {('Mon', 'Tue', 'Wed', 'Thu', 'Fri', 'Sat', 'Sun')[off[1]]} leave\n")
-        words = (*WEEK_OPTIONS, *given, "--reasons", reasons, ROSTER)
-        self.assertIn(" leave ", run("table", *words)[1])
-        self.assertIn(">leave</span>", run("table", *words, "--html")[1])
+        words = (*WEEK_OPTIONS, *given, "--reasons", reasons, "--roster", ROSTER)
+        self.assertIn(" leave ", run("roster", "show", *words)[1])
+        self.assertIn(">leave</span>", run("roster", "show", *words, "--html")[1])
 
     def test_options_that_need_others(self):
         given = self.give()
-        self.assert_fault(run("check", "--sce", SCENARIO, *given), "inrc2pb-check: --given needs the whole week: give --sce, --his and --week")
-        self.assert_fault(run("table", *given, ROSTER), "inrc2pb-table: --given needs --sce and --week: give them too")
+        self.assert_fault(run("roster", "check", "--sce", SCENARIO, *given), "inrc2pb-roster: --given needs the whole week: give --sce, --his and --week")
+        self.assert_fault(run("roster", "show", *given, "--roster", ROSTER), "inrc2pb-roster: --given needs --sce and --week: give them too")
         wrong = self.give(Claim(Choice(2, "Chen", 4, "Day")))
         line = f"{self.facts}: 'HOLDS CHOICE 2 Chen Fri Day' is neither an absence nor a limit of a nurse: remove it"
-        self.assert_fault(run("improve", *WEEK_OPTIONS, *wrong, "--sol", self.folder / "r.txt", "--time", 1), f"inrc2pb-improve: {line}")
+        self.assert_fault(run("solve", *WEEK_OPTIONS, *wrong, "--out", self.folder / "r.txt", "--time", 1), f"inrc2pb-solve: {line}")
 
     @unittest.skipUnless(HAS_CBC, "needs cbc")
     def test_a_search_keeps_absences_and_limits(self):
         target = self.folder / "roster.txt"
         claims = [Claim(Choice(1, "Chen", 4, None)), Claim(Choice(1, "Grace", 6, "Day"), False), *(Claim(Charged(kind, None, 0)) for kind in ("WORK_DAYS", "WEEKENDS"))]
-        status, report, said = run("improve", *WEEK_OPTIONS, *self.give(*claims), "--sol", target, "--time", 20)
+        status, report, said = run("solve", *WEEK_OPTIONS, *self.give(*claims), "--out", target, "--time", 20)
         self.assertEqual((status, "no roster was found" in said), (0, False), said)
         self.assertRegex(report, "\nlower bound [0-9]+ ")
         cells = files.read_solution(target).cells
         self.assertFalse([cell for cell in cells if cell[:2] == ("Chen", 4) or cell[:3] == ("Grace", 6, "Day")])
-        self.assertEqual(run("check", *WEEK_OPTIONS, *self.give(*claims), "--roster", target)[1], "No mistake found.\n")
+        self.assertEqual(run("roster", "check", *WEEK_OPTIONS, *self.give(*claims), "--roster", target)[1], "No mistake found.\n")
 
     @unittest.skipUnless(HAS_CBC, "needs cbc")
     def test_absences_come_before_limits(self):
@@ -196,15 +196,15 @@ class Commands(HelperTest):
         away = [Claim(Choice(1, nurse, day, None)) for nurse in ("Amara", "Bruno") for day in range(6)]
         target = self.folder / "roster.txt"
         given = self.give(*away, Claim(Charged("WORK_DAYS", "Ewa", 0)))
-        status, _, said = run("improve", *WEEK_OPTIONS, *given, "--sol", target, "--time", 20)
+        status, _, said = run("solve", *WEEK_OPTIONS, *given, "--out", target, "--time", 20)
         self.assertEqual(status, 0, said)
         self.assertIn("no roster was found that keeps every limit: Ewa has 6 days of work in a row, Mon to Sat, of at most 3\n", said)
         self.assertIn("lower minimum numbers, hold fewer shifts, or allow these nurses more; nobody with these skills has shifts left", said)
         self.assertFalse([cell for cell in files.read_solution(target).cells if cell.nurse in ("Amara", "Bruno") and cell.day < 6])
         period = self.folder / "period"
-        status, printed, said = run("period", *WEEK_OPTIONS, "--week", WEEK, *given, "--out", period, "--time", 8)
+        status, printed, said = run("solve", *WEEK_OPTIONS, "--week", WEEK, *given, "--out", period, "--time", 8)
         self.assertEqual(status, 0, said)
-        self.assertIn("week 0: no plan was found that keeps every limit: Ewa has 6 days of work in a row, Mon to Sat, of at most 3\n", said)
+        self.assertIn("week 1: no plan was found that keeps every limit: Ewa has 6 days of work in a row, Mon to Sat, of at most 3\n", said)
         self.assertNotIn("absence", said)
 
     @unittest.skipUnless(HAS_CBC, "needs cbc")
@@ -213,7 +213,7 @@ class Commands(HelperTest):
         few = self.changed(SCENARIO, "WEEKS = 4", "WEEKS = 2", "few.txt")
         few.write_text(few.read_text().replace("Full (17,21)", "Full (4,8)").replace("Half (8,11)", "Half (4,8)"))
         words = ("--sce", few, *WEEK_OPTIONS[2:], "--week", WEEK, *self.give(Claim(Charged("SHIFTS", None, 0))), "--out", self.folder / "period", "--time", 10)
-        status, printed, said = run("period", *words)
+        status, printed, said = run("solve", *words)
         self.assertEqual((status, "no plan was found" in said), (0, False), said)
         cells = [cell for number in (0, 1) for cell in files.read_solution(self.folder / "period" / f"roster-{number}.txt").cells]
         self.assertLessEqual(max(sum(cell.nurse == nurse for cell in cells) for nurse in WARD.nurses), 8)

@@ -1,4 +1,4 @@
-"""The spreadsheet of the tests, a change of the example of `--template`, and the files that `inrc2pb-ward` makes of it."""
+"""The spreadsheet of the tests, a change of the example of `inrc2pb-plan FOLDER new`, and the files that `files` makes of it."""
 
 import copy
 from pathlib import Path
@@ -33,10 +33,10 @@ _ROWS = {
     ],
     "needs": [
         *EXAMPLE["needs"],
-        (1, "Day", "Nurse", "0+1", *["1+1"] * 4, "0+1", "0+1"),
+        (2, "Day", "Nurse", "0+1", *["1+1"] * 4, "0+1", "0+1"),
     ],
     "plan": [
-        ("nurse", *(f"{day} {week}" for week in (0, 1) for day in DAYS)),
+        ("nurse", *(f"{day} {week}" for week in (1, 2) for day in DAYS)),
         ("Amara Koch", *_EMPTY, "leave", "leave", *[""] * 5),
         ("Bruno", *_EMPTY, *_EMPTY),
         ("Chen", "", "", "", "", "", "wish", "", *_EMPTY),
@@ -50,15 +50,15 @@ _ROWS = {
 SHEETS = {name: [[str(cell) for cell in row] for row in rows] for name, rows in _ROWS.items()}
 
 
-def made(sheets, reasons=(), name="ward", weeks=2, requests=False):
+def made(sheets, reasons=(), name="ward", requests=False):
     """The files of these sheets, with warnings."""
     book = Book(Path("ward.ods"), sheets)
-    return ward.ward_files(book, name, read_days(book), weeks, reasons, requests)
+    return ward.ward_files(book, name, read_days(book), reasons, requests)
 
 
-def texts(sheets, reasons=(), name="ward", weeks=2):
+def texts(sheets, reasons=(), name="ward"):
     """The files of these sheets, without warnings."""
-    return made(sheets, reasons, name, weeks).texts
+    return made(sheets, reasons, name).texts
 
 
 def changed(sheet, row, column, text):

@@ -73,9 +73,11 @@ class Formats(HelperTest):
 
     def assert_same(self, path):
         book = read_book(path)
-        self.assertEqual(ward.ward_files(book, "ward", read_days(book), 2, ()).texts, self.wanted)
+        self.assertEqual(ward.ward_files(book, "ward", read_days(book), ()).texts, self.wanted)
 
     def test_files_that_libreoffice_wrote(self):
+        # Their row of one week is of the first.
+        self.wanted = texts(changed("needs", 6, 0, "1"))
         for name in ("libreoffice.ods", "libreoffice.xlsx"):
             self.assert_same(DATA / name)
 
@@ -102,7 +104,7 @@ class Formats(HelperTest):
                 csv.writer(text, delimiter=separator, lineterminator=end).writerows([[cell.replace("Chen", "Jürgen") for cell in row] for row in rows])
                 (folder / f"ward-{name.title()}.csv").write_bytes(text.getvalue().encode(encoding))
             book = read_book(folder)
-            found = ward.ward_files(book, "ward", read_days(book), 2, ()).texts
+            found = ward.ward_files(book, "ward", read_days(book), ()).texts
             self.assertEqual(found, {name: text.replace("Chen", "Jürgen") for name, text in self.wanted.items()})
 
     def test_decomposed_letters_and_other_blanks(self):
@@ -217,7 +219,7 @@ class Formats(HelperTest):
 
     def test_hidden_rows_and_empty_days(self):
         book = Book(Path("ward.ods"), changed("needs", 2, 5, ""), {"nurses": [4, 90], "plan": [2]})
-        warnings = ward.ward_files(book, "ward", read_days(book), 2, ()).warnings
+        warnings = ward.ward_files(book, "ward", read_days(book), ()).warnings
         self.assertIn("sheet nurses: row 4 hidden, and counted: show it, or delete it", warnings)
         self.assertIn("sheet needs, row 2: Wed empty, and counted as 0: write 0 if nobody is needed", warnings)
         self.assertEqual([line for line in warnings if "hidden" in line or "empty" in line], warnings[:2])

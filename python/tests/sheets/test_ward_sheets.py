@@ -1,4 +1,4 @@
-"""Tests of `inrc2pb-ward`: the files that it makes of sheets, and wrong cells."""
+"""Tests of the verbs `new` and `files` of `inrc2pb-plan`: the files that they make of sheets, and wrong cells."""
 
 import copy
 import csv
@@ -138,7 +138,8 @@ class Contents(unittest.TestCase):
             ("needs", 2, 3, "3..2", "row 2, column D: at least 3 are needed, and 2 are best: write the smaller number first"),
             ("needs", 2, 2, "Char", "row 2, column C: 'Char' is no skill of the sheet nurses: did you mean Charge?"),
             ("needs", 4, 1, "Day", "row 4, column B: Day Nurse has a row already: delete one, or write its week"),
-            ("needs", 2, 0, "2", "row 2, column A: 2 is more than 1: weeks are counted from 0, so write 1 for the last one"),
+            ("needs", 2, 0, "3", "row 2, column A: there is no week 3: weeks are counted from 1, so write 2 for the last one"),
+            ("needs", 2, 0, "0", "row 2, column A: there is no week 0: weeks are counted from 1, so write 2 for the last one"),
             ("plan", 2, 0, "Amara", "row 2, column A: 'Amara' is no nurse of the sheet nurses: did you mean Amara Koch?"),
             ("plan", 3, 0, "Legend: x", "row 3, column A: 'Legend: x' is no nurse of the sheet nurses: "
              "write one of Amara Koch, Bruno, Chen, Dilek, Ewa, Finn, Grace, Hana, or delete the row"),
@@ -154,7 +155,7 @@ class Contents(unittest.TestCase):
             ("plan", 1, 14, "", "it has 13 days: plan whole weeks, from Monday to Sunday"),
             ("plan", 1, 13, "", "row 1, column O: the column before this one is no day: delete it, or move it after the last day"),
             ("plan", 1, 13, "# Sat", "row 1, column O: the column before this one is no day: delete it, or move it after the last day"),
-            ("plan", 1, 1, "Sun 0", "row 1, column B: 'Sun 0' should be a Mon: the plan begins on a Monday, and has each day once"),
+            ("plan", 1, 1, "Sun 1", "row 1, column B: 'Sun 1' should be a Mon: the plan begins on a Monday, and has each day once"),
             ("plan", 1, 1, "2026-12-01", "row 1, column B: '2026-12-01' should be a Mon: the plan begins on a Monday, and has each day once"),
             ("plan", 1, 1, "46357", "row 1, column B: '2026-12-01' should be a Mon: the plan begins on a Monday, and has each day once"),
             ("plan", 1, 1, "2026-02-30", "row 1, column B: there is no day 2026-02-30: write a date such as 2026-11-30"),
@@ -164,8 +165,8 @@ class Contents(unittest.TestCase):
             ("plan", 1, 1, "1900-01-29",
              "row 1, column B: a spreadsheet makes 1900-01-29 of the number of a day: write whole dates, such as 2026-11-30"),
             ("contracts", 2, 2, "1,000", "row 2, column C: '1,000' is no whole number: write 1 or 1000"),
-            ("needs", 2, 0, "46381", "row 2, column A: '2026-12-25' is a date: write the number, its week from 0"),
-            ("needs", 2, 0, "25.12.2026", "row 2, column A: '25.12.2026' is a date: write the number, its week from 0"),
+            ("needs", 2, 0, "46381", "row 2, column A: '2026-12-25' is a date: write the number, its week from 1"),
+            ("needs", 2, 0, "25.12.2026", "row 2, column A: '25.12.2026' is a date: write the number, its week from 1"),
             *(("contracts", 2, 2, text, f"row 2, column C: '{text}' is no whole number: write a number such as 2, or leave the cell empty") for text in ("-", "n/a")),
             ("contracts", 2, 2, "0",
              "row 2, column B: the minimum 8 is above the maximum 0: correct one of the two; for no limit leave the cell empty"),
@@ -247,7 +248,7 @@ class Contents(unittest.TestCase):
             texts(sheets)
         self.assertIn("row 2, column C: 'Nurse Charge Nurse' is no skill", caught.exception.message)
         book = Book(Path("ward.ods"), changed("nurses", 2, 2, "Charge, Nurse, Wound care"))
-        found = ward.ward_files(book, "ward", read_days(book), 2, ())
+        found = ward.ward_files(book, "ward", read_days(book), ())
         self.assertIn("sheet nurses: no row of the sheet needs has the skill Wound_care", found.warnings)
 
     def test_more_absences_than_a_file_has_rows(self):
@@ -302,7 +303,7 @@ class Contents(unittest.TestCase):
 
     def test_an_empty_cell_of_a_week_is_the_cell_of_all_weeks(self):
         data = self.read(changed("needs", 6, 4, ""))[2][1]
-        # Week 1 has 0+1 on Monday, and nothing on Tuesday: all weeks have 1+1 there.
+        # Week 2 has 0+1 on Monday, and nothing on Tuesday: all weeks have 1+1 there.
         self.assertEqual([data.requirements[Place(day, "Day", "Nurse")] for day in (0, 1)], [Requirement(0, 1), Requirement(1, 2)])
 
     def test_the_date_of_a_bank_holiday(self):
@@ -310,7 +311,7 @@ class Contents(unittest.TestCase):
         sheets["plan"][0] = ["nurse", *(f"2026-{'11-30' if not day else f'12-{day:02}'}" for day in range(14))]
         with self.assertRaises(FileFault) as caught:
             texts(sheets)
-        self.assertEqual(caught.exception.message, "sheet needs, row 6, column A: '2026-12-08' is a date: write 1, its week from 0")
+        self.assertEqual(caught.exception.message, "sheet needs, row 6, column A: '2026-12-08' is a date: write 2, its week from 1")
 
     def test_signs_without_a_width(self):
         self.assertEqual(texts(changed("plan", 4, 0, "Chen\u200b")), texts(SHEETS))
@@ -348,76 +349,81 @@ class Contents(unittest.TestCase):
 
 class Command(HelperTest):
     def test_the_template_is_a_ward(self):
-        book, out = self.folder / "ward.ods", self.folder / "out"
-        status, printed, said = run("ward", "--template", book)
-        says = f"written: {book}; change its rows into those of your ward, then type: inrc2pb-plan {self.folder} check\n"
+        folder, out = self.folder / "new", self.folder / "out"
+        book = folder / "ward.ods"
+        status, printed, said = run("plan", folder, "new")
+        says = f"written: {book}; change its rows into those of your ward, then type: inrc2pb-plan {folder} check\n"
         self.assertEqual((status, printed, said), (0, says, ""))
-        status, printed, said = run("ward", book, "--out", out)
+        status, printed, said = run("plan", folder, "files", "--out", out)
         self.assertEqual((status, said), (0, ""))
         names = [*NAMES, "week-2.txt", "fix-2.txt", "week-3.txt", "fix-3.txt"]
         self.assertRegex(printed.splitlines()[0], "the best numbers ask for 132 shifts, .* and the contracts supply at most 131 beside absences")
         self.assertEqual(printed.split("\n", 1)[1], f"{out}: {', '.join(names)}\nChen: 3 days away count as 2 shifts in history-0.txt\nFinn: 1 day away counts as 1 shift in history-0.txt\n")
         words = ("--sce", out / "ward.txt", "--his", out / "history-0.txt", "--week", out / "week-0.txt", "--fix", out / "fix-0.txt")
-        status, printed, _ = run("check", *words)
+        status, printed, _ = run("roster", "check", *words)
         self.assertEqual((status, printed.splitlines()[-1]), (0, "No mistake found."))
         # Its notes are not read. A maximum with the sign, and the row of a bank holiday, are as they say.
         sheets = read_book(book).sheets
         self.assertEqual([row[4] for row in sheets["shifts"]], ["times", "07:00-15:30", "14:30-23:00", "22:30-07:15"])
         contracts, needs = sheets["contracts"], sheets["needs"]
         self.assertEqual((contracts[0][9], needs[0][10]), ("note", "note"))
-        example, words = texts(sheets, weeks=4), re.search("with (.+) for week, (.+) for shift, (.+) for skill, and (.+) for Fri", needs[2][10])
+        example, words = texts(sheets), re.search("with (.+) for week, (.+) for shift, (.+) for skill, and (.+) for Fri", needs[2][10])
         contracts[1][2] = contracts[1][9].split(" ")[0]
         needs.append([*words.groups()[:3], "", "", "", "", words[4]])
-        found = texts(sheets, weeks=4)
-        self.assertEqual([name for name in found if found[name] != example[name]], ["facts.txt", "week-3.txt"])
-        self.assertIn("Day Nurse (1,2) (1,2) (1,2) (1,2) (0,1) (0,1) (0,1)\n", found["week-3.txt"])
-        again = f"inrc2pb-ward: --template {book}: there is such a file, perhaps with your ward: give another name"
-        self.assert_fault(run("ward", "--template", book), again)
+        found = texts(sheets)
+        self.assertEqual([name for name in found if found[name] != example[name]], ["facts.txt", "week-2.txt"])
+        self.assertIn("Day Nurse (1,2) (1,2) (1,2) (1,2) (0,1) (0,1) (0,1)\n", found["week-2.txt"])
+        self.assert_fault(run("plan", folder, "new"), f"inrc2pb-plan: {folder} has a spreadsheet: give a new folder")
 
     def test_a_path_with_a_blank_is_printed_in_quotes(self):
         folder = self.folder / "my ward"
-        folder.mkdir()
-        self.assertIn(f"inrc2pb-plan '{folder}' check\n", run("ward", "--template", folder / "ward.ods")[1])
+        self.assertIn(f"inrc2pb-plan '{folder}' check\n", run("plan", folder, "new")[1])
 
-    def test_a_longer_period_and_warnings(self):
-        out = self.folder / "out"
-        self.assertEqual(run("ward", DATA / "libreoffice.ods", "--out", out, "--weeks", "4")[0], 0)
-        self.assertIn("WEEKS = 4\n", (out / "ward.txt").read_text())
+    def test_the_files_go_into_the_folder_of_the_ward(self):
+        folder = self.folder / "my ward"
+        self.assertEqual(run("plan", folder, "new")[0], 0)
+        self.assertEqual(run("plan", folder, "files", "--requests")[0], 0)
+        self.assertIn("SCENARIO = ward\n", (folder / "ward.txt").read_text())
+        self.assertEqual(run("plan", folder, "check")[0], 0)
+        # A spreadsheet may be given itself.
+        book, out = DATA / "libreoffice.ods", self.folder / "out"
+        self.assertEqual(run("plan", book, "files", "--out", out)[0], 0)
         self.assertIn("SCENARIO = libreoffice\n", (out / "ward.txt").read_text())
 
     def test_later_histories_without_the_credit_of_leave(self):
         out = self.folder / "out"
-        words = ("ward", DATA / "libreoffice.ods", "--out", out, "--weeks", "4", "--credit", "none")
-        said = f"{out}: warning: history-0.txt has new numbers of Amara Koch, and {{}} the old ones: make {{}} again with inrc2pb-next or inrc2pb-period"
+        words = ("plan", DATA / "libreoffice.ods", "files", "--out", out, "--credit", "none")
+        said = f"{out}: warning: history-0.txt has new numbers of Amara Koch, and {{}} the old ones: make {{}} again with inrc2pb-roster next or inrc2pb-solve"
         self.assertEqual(run(*words)[0], 0)
         (out / "history-1.txt").write_text("")
         self.assertNotIn("again", run(*words)[1])
-        # Two days of leave in week 1.
+        # Two days of leave in week 2.
         self.assertEqual(run(*words[:-2])[1].splitlines()[-1], said.format("history-1.txt", "it"))
         self.assertNotIn("again", run(*words[:-2])[1])
-        (out / "history-3.txt").write_text("")
-        self.assertEqual(run(*words)[1].splitlines()[-1], said.format("history-1.txt and history-3.txt", "them"))
+        self.assertEqual(run(*words)[1].splitlines()[-1], said.format("history-1.txt", "it"))
 
     def test_days_on_which_too_few_are_there(self):
         sheets = copy.deepcopy(SHEETS)
         for row in sheets["plan"][1:]:
             row[3] = "ill"
         book = Book(Path("ward.ods"), sheets)
-        warnings = ward.ward_files(book, "ward", read_days(book), 2, ()).warnings
-        self.assertIn(": no roster that keeps every absence can meet it: lower minimum numbers by ", [line for line in warnings if line.startswith("sheet needs, week 0: Wed: ")][0])
+        warnings = ward.ward_files(book, "ward", read_days(book), ()).warnings
+        self.assertIn(": no roster that keeps every absence can meet it: lower minimum numbers by ", [line for line in warnings if line.startswith("sheet needs, week 1: Wed: ")][0])
 
     def test_faults(self):
         book, out = DATA / "libreoffice.ods", self.folder / "out"
+        away = "away,ill,leave,unpaid,training, or none"
         for words, said in (
-            ((), "give a spreadsheet and --out with a folder for the ward's files, or --template alone, with the .ods file to write"),
-            ((book, "--out", out, "--weeks", "1"), "--weeks 1: the plan has 2 weeks, and a period 52 at most: give a number from 2 to 52"),
-            ((book, "--out", out, "--credit", "holiday"), "--credit holiday: 'holiday' is no reason to be away: give some of away,ill,leave,unpaid,training, or none"),
-            (("--template", "ward.xls"), "--template ward.xls: the example is an .ods file, which Excel opens too: end its name with .ods"),
+            ((self.folder, "files"), f"{self.folder} has no spreadsheet: put the ward's .ods or .xlsx file into it, or give a new folder and `new`"),
+            ((book, "files", "--out", out, "--credit", "holiday"), f"--credit holiday: 'holiday' is no reason to be away: give some of {away}"),
+            ((book, "check", "--out", out), "--out, --credit and --requests are for files: leave them out"),
+            ((book, "files", "Fri"), "'Fri' is a word too many: files has none"),
         ):
-            self.assert_fault(run("ward", *words), f"inrc2pb-ward: {said}")
+            self.assert_fault(run("plan", *words), f"inrc2pb-plan: {said}")
         self.assertFalse(out.exists())
         missing = self.folder / "none.ods"
-        self.assert_fault(run("ward", missing, "--out", out), f"inrc2pb-ward: {missing}: No such file or directory: look at its name and folder", 3)
+        line = f"inrc2pb-plan: {missing} is no folder: give the folder that has the ward's spreadsheet"
+        self.assert_fault(run("plan", missing, "files", "--out", out), line)
 
     def test_many_faults(self):
         folder = self.folder / "sheets"
@@ -427,21 +433,21 @@ class Command(HelperTest):
             text = io.StringIO()
             csv.writer(text).writerows(wrong if name == "plan" else rows)
             (folder / f"{name}.csv").write_text(text.getvalue())
-        status, printed, said = run("ward", folder, "--out", self.folder / "out")
+        status, printed, said = run("plan", folder, "files", "--out", self.folder / "out")
         lines = said.splitlines()
-        self.assertEqual((status, printed, len(lines), lines[-1]), (1, "", 21, "inrc2pb-ward: and 92 more such faults"))
-        self.assertTrue(lines[19].startswith(f"inrc2pb-ward: {folder}: sheet plan, row 3, column G: 'x' is no shift type"), lines[19])
+        self.assertEqual((status, printed, len(lines), lines[-1]), (1, "", 21, "inrc2pb-plan: and 92 more such faults"))
+        self.assertTrue(lines[19].startswith(f"inrc2pb-plan: {folder}: sheet plan, row 3, column G: 'x' is no shift type"), lines[19])
 
     def test_no_file_is_half_written(self):
         out = self.folder / "out"
         (out / "fix-1.txt").mkdir(parents=True)
-        line = f"inrc2pb-ward: {out / 'fix-1.txt'}: Is a directory: this is a folder: name a file in it"
-        self.assert_fault(run("ward", DATA / "libreoffice.ods", "--out", out), line, 3)
+        line = f"inrc2pb-plan: {out / 'fix-1.txt'}: Is a directory: this is a folder: name a file in it"
+        self.assert_fault(run("plan", DATA / "libreoffice.ods", "files", "--out", out), line, 3)
         self.assertEqual(os.listdir(out), ["fix-1.txt"])
         file = self.folder / "file"
         file.write_text("")
-        status, _, said = run("ward", DATA / "libreoffice.ods", "--out", file)
-        self.assertEqual((status, said), (3, f"inrc2pb-ward: {file}: File exists: choose another name, or remove this file\n"))
+        status, _, said = run("plan", DATA / "libreoffice.ods", "files", "--out", file)
+        self.assertEqual((status, said), (3, f"inrc2pb-plan: {file}: File exists: choose another name, or remove this file\n"))
 
 
 if __name__ == "__main__":

@@ -1,4 +1,4 @@
-"""Tests of charges in words: `inrc2pb-table --why`, `--swap`, and `--why` with `--old`."""
+"""Tests of charges in words: `inrc2pb-roster why`, also with `--old`, and `swap`."""
 
 import re
 import sys
@@ -68,7 +68,7 @@ class Why(HelperTest):
         asked = ["Amara Any Wed"] * 2 + ["Amara Day Wed"] + ["Chen Any Fri"] * 30
         week.write_text("\n".join(["WEEK_DATA\nward\n\nREQUIREMENTS", "Day Nurse" + " (0,0)" * 6 + " (0,2)", f"SHIFT_OFF_REQUESTS = {len(asked)}", *asked]) + "\n")
         roster = self.solution("Amara Tue Day Nurse", "Amara Wed Day Nurse", "Amara Thu Day Nurse", "Amara Sun Day Nurse", "Chen Fri Late Nurse")
-        status, printed, _ = run("table", "--sce", ward, "--his", history, "--week", week, "--why", roster)
+        status, printed, _ = run("roster", "why", "--sce", ward, "--his", history, "--week", week, "--roster", roster)
         self.assertEqual(status, 0)
         self.assertEqual(printed.splitlines(), [
             "   30  S1  Day Nurse, Sun: 1 of 2 nurses",
@@ -96,7 +96,7 @@ class Why(HelperTest):
         for week, answer in ((FIVE_FILES, FIVE / "answers" / "clasp-optimum.txt"), (replace(THIRTY_FILES, early=True), EARLY_ANSWER)):
             roster = self.folder / "roster.txt"
             report = program.decode(week, answer.read_text(), roster)
-            printed = run("table", *options(week), "--why", roster)[1]
+            printed = run("roster", "why", *options(week), "--roster", roster)[1]
             self.assertEqual(sums(printed), report.by_rule)
             self.assertIn(f"{report.penalty:5}  in all", printed)
 
@@ -116,13 +116,13 @@ class Why(HelperTest):
                     path.write_text(case[name])
                 of_week = program.WeekFiles(paths["sce"], paths["his"], paths["week"], early="early" in case)
                 report = program.extend(of_week, paths["roster"])[1]
-                self.assertEqual(sums(run("table", *options(of_week), "--why", paths["roster"])[1]), report.by_rule)
+                self.assertEqual(sums(run("roster", "why", *options(of_week), "--roster", paths["roster"])[1]), report.by_rule)
                 kept += 1
         self.assertGreater(kept, 30)
 
     def test_a_roster_that_breaks_hard_rules(self):
         roster = self.changed(ROSTER, "Chen Fri Night Nurse", "Chen Fri Day Charge")
-        self.assertEqual(run("table", *WEEK_OPTIONS, "--why", roster), (6, "\n".join([
+        self.assertEqual(run("roster", "why", *WEEK_OPTIONS, "--roster", roster), (6, "\n".join([
             "the roster breaks H2: Fri Night Nurse has 0 nurses and needs at least 1",
             "the roster breaks H3: Chen may not work Day on Fri after Late on Thu",
             "the roster breaks H4: Chen does not have the skill Charge\n"]), ""))  # fmt: skip
@@ -130,20 +130,20 @@ class Why(HelperTest):
 
 class Swaps(HelperTest):
     def test_a_swap_and_the_same_change_by_hand(self):
-        status, printed, said = run("table", *WEEK_OPTIONS, "--swap", "Chen Mon", "Grace Mon", ROSTER)
+        status, printed, said = run("roster", "swap", "Chen Mon", "Grace Mon", *WEEK_OPTIONS, "--roster", ROSTER)
         self.assertEqual((status, said), (0, ""))
         self.assertEqual(printed.splitlines()[:2], ["Chen Mon: Day Nurse instead of off", "Grace Mon: off instead of Day Nurse"])
         self.assertIn("  +60  S2  Chen, Mon: only 1 day with work, at least 3\n", printed)
         other = self.changed(ROSTER, "Grace Mon Day Nurse", "Chen Mon Day Nurse")
-        self.assertEqual(run("table", *WEEK_OPTIONS, "--why", "--old", ROSTER, other)[1], printed)
+        self.assertEqual(run("roster", "why", *WEEK_OPTIONS, "--old", ROSTER, "--roster", other)[1], printed)
         before, now = (program.penalty_of(WEEK_FILES, roster) for roster in (ROSTER, other))
         self.assertTrue(printed.splitlines()[-1].endswith(f"; penalty {now} instead of {before}"), printed)
         changed = sum(int(line.split()[0]) for line in printed.splitlines()[2:-1])
         self.assertEqual(changed, now - before)
 
     def test_a_swap_back_changes_nothing(self):
-        words = ("--swap", "Chen Mon", "Grace Tue")
-        self.assertEqual(run("table", *WEEK_OPTIONS, *words, *words, ROSTER), (0, "   +0  in all; penalty 20 instead of 20\n", ""))
+        words = ("Chen Mon", "Grace Tue")
+        self.assertEqual(run("roster", "swap", *words, *words, *WEEK_OPTIONS, "--roster", ROSTER), (0, "   +0  in all; penalty 20 instead of 20\n", ""))
 
     def test_a_swap_that_breaks_a_hard_rule(self):
         for pair, rule in (
@@ -151,26 +151,25 @@ class Swaps(HelperTest):
             (("Amara Mon", "Grace Mon"), "the new roster breaks H4: Grace does not have the skill Charge"),
             (("Ewa Tue", "Ewa Fri"), "the new roster breaks H2: Tue Night Nurse has 0 nurses and needs at least 1"),
         ):
-            status, printed, _ = run("table", *WEEK_OPTIONS, "--swap", *pair, ROSTER)
+            status, printed, _ = run("roster", "swap", *pair, *WEEK_OPTIONS, "--roster", ROSTER)
             self.assertEqual((status, printed.splitlines()[2]), (6, rule))
 
     def test_faults(self):
-        week = (*WEEK_OPTIONS, ROSTER, "--swap")
         for words, line in (
-            ((*week, "Chan Fri", "Grace Fri"), "--swap \"Chan Fri\": 'Chan' is no nurse: did you mean Chen?"),
-            ((*week, "Chen Fri", "Grace Friday"), "--swap \"Grace Friday\": 'Friday' is no day: did you mean Fri?"),
-            ((*week, "Chen Fri", "X Fri"), "--swap \"X Fri\": 'X' is no nurse: give one of Amara, Bruno, Chen, Dilek, Ewa, Finn, Grace"),
-            ((*week, "Chen", "Grace Fri"), '--swap "Chen": give a nurse and a day, as in "Chen Fri"'),
-            ((*week, "Chen Fri", "Chen Fri"), '--swap "Chen Fri" "Chen Fri": these are one cell: give two'),
-            ((ROSTER, "--swap", "Chen Fri", "Grace Fri"), "--swap needs --sce, --his and --week: give the files of each week"),
-            ((ROSTER, "--why"), "--why needs --sce, --his and --week: give the files of each week"),
-            ((*week, "Chen Fri", "Ewa Fri", "--old", ROSTER), "--swap and --old are two changes: give one of them"),
-            ((*WEEK_OPTIONS, "--week", WARD / "week-1.txt", ROSTER, ROSTER, "--swap", "Chen Fri", "Ewa Fri"),
-             "--swap is for one roster: change a copy of one of these, and give the others with --old"),
+            (("Chan Fri", "Grace Fri"), "swap \"Chan Fri\": 'Chan' is no nurse: did you mean Chen?"),
+            (("Chen Fri", "Grace Friday"), "swap \"Grace Friday\": 'Friday' is no day: did you mean Fri?"),
+            (("Chen Fri", "X Fri"), "swap \"X Fri\": 'X' is no nurse: give one of Amara, Bruno, Chen, Dilek, Ewa, Finn, Grace"),
+            (("Chen", "Grace Fri"), 'swap "Chen": give a nurse and a day, as in "Chen Fri"'),
+            (("Chen Fri", "Chen Fri"), 'swap "Chen Fri" "Chen Fri": these are one cell: give two'),
+            (("Chen Fri",), '"Chen Fri" has no second day: give pairs, as in "Chen Fri" "Grace Fri"'),
+            (
+                ("Chen Fri", "Ewa Fri", "--week", WARD / "week-1.txt", "--roster", ROSTER),
+                "swap is for one roster: change a copy of one of these, and give the others to why, with --old",
+            ),
         ):
             with self.subTest(words[-3:]):
-                status, printed, said = run("table", *words)
-                self.assertEqual((status, printed, said.splitlines()[-1]), (1, "", f"inrc2pb-table: {line}"))
+                status, printed, said = run("roster", "swap", *words, *WEEK_OPTIONS, "--roster", ROSTER)
+                self.assertEqual((status, printed, said.splitlines()[-1]), (1, "", f"inrc2pb-roster: {line}"))
 
 
 class Older(HelperTest):
@@ -178,29 +177,29 @@ class Older(HelperTest):
         other = self.solution("Ada Mon Day Nurse", ward="icu", name="other.txt")
         later = self.changed(ROSTER, "0 ward", "1 ward", "later.txt")
         for words, line in (
-            (("--old", other, ROSTER), f"{other} is a roster of 'icu', and {ROSTER} of 'ward': give two rosters of one ward"),
-            (("--old", later, ROSTER), f"{later} is a roster of week 1, and {ROSTER} of week 0: give two rosters of one week"),
-            (("--csv", "--old", ROSTER, ROSTER), "--old is for the table, --why and --html: leave it out"),
-            (("--old", ROSTER, "--old", ROSTER, ROSTER), "--old is given 2 times for 1 roster: give it once for each, in their order"),
+            (("--old", other, "--roster", ROSTER), f"{other} is a roster of 'icu', and {ROSTER} of 'ward': give two rosters of one ward"),
+            (("--old", later, "--roster", ROSTER), f"{later} is a roster of week 1, and {ROSTER} of week 0: give two rosters of one week"),
+            (("--csv", "--old", ROSTER, "--roster", ROSTER), "--old is for the table and --html: leave it out"),
+            (("--old", ROSTER, ROSTER, "--roster", ROSTER), "--old has 2 files for 1 roster: give one for each, in their order"),
         ):
-            self.assert_fault(run("table", *words), f"inrc2pb-table: {line}")
+            self.assert_fault(run("roster", "show", *words), f"inrc2pb-roster: {line}")
 
     def test_the_changes_below_a_table(self):
         other = self.changed(ROSTER, "Grace Mon Day Nurse", "Chen Mon Late Nurse")
-        lines = run("table", "--old", ROSTER, other)[1].splitlines()
+        lines = run("roster", "show", "--old", ROSTER, "--roster", other)[1].splitlines()
         self.assertEqual(lines[-2:], ["changed: Chen Mon: Late Nurse instead of off", "changed: Grace Mon: off instead of Day Nurse"])
-        self.assertEqual(Counter(line.startswith("changed") for line in run("table", "--old", ROSTER, ROSTER)[1].splitlines())[True], 0)
+        self.assertEqual(Counter(line.startswith("changed") for line in run("roster", "show", "--old", ROSTER, "--roster", ROSTER)[1].splitlines())[True], 0)
 
     def test_two_weeks(self):
         two = ("--sce", SCENARIO, "--his", HISTORY, "--week", WEEK, "--week", WARD / "week-1.txt")
         later = self.changed(ROSTER, "0 ward", "1 ward", "later.txt")
         other = self.changed(ROSTER, "Grace Mon Day Nurse", "Chen Mon Day Nurse", "other.txt")
-        status, printed, said = run("table", *two, "--why", other, later, "--old", ROSTER, "--old", later)
+        status, printed, said = run("roster", "why", *two, "--roster", other, later, "--old", ROSTER, "--old", later)
         self.assertEqual((status, said), (0, ""))
-        self.assertIn("week 0: Chen Mon: Day Nurse instead of off\n", printed)
-        self.assertIn("  +60  S2  week 0: Chen, Mon: only 1 day with work, at least 3\n", printed)
-        printed = run("table", *two, "--why", ROSTER, later)[1]
-        self.assertIn("   10  S4  week 0: Chen, Sat: on Night, and asked to be off\n", printed)
+        self.assertIn("week 1: Chen Mon: Day Nurse instead of off\n", printed)
+        self.assertIn("  +60  S2  week 1: Chen, Mon: only 1 day with work, at least 3\n", printed)
+        printed = run("roster", "why", *two, "--roster", ROSTER, later)[1]
+        self.assertIn("   10  S4  week 1: Chen, Sat: on Night, and asked to be off\n", printed)
 
 
 if __name__ == "__main__":

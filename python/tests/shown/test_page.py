@@ -1,4 +1,4 @@
-"""Tests of `inrc2pb-table --html` and `--ics`, of the totals, and of the mark of a nurse who works while she is away."""
+"""Tests of `inrc2pb-roster show --html` and `--ics`, of the totals, and of the mark of a nurse who works while she is away."""
 
 import csv
 import io
@@ -26,7 +26,7 @@ def words(part):
 class PageTest(HelperTest):
     def page(self, *given):
         """The page of a command without a fault."""
-        status, printed, said = run("table", "--html", *given)
+        status, printed, said = run("roster", "show", "--html", *given)
         self.assertEqual((status, said), (0, ""))
         self.assertTrue(printed.startswith("<!DOCTYPE html>\n<html lang=\"en\">"))
         return ElementTree.fromstring(printed)
@@ -48,7 +48,7 @@ class PageTest(HelperTest):
 
     def hostile_week(self):
         paths = [self.hostile(path, path.name) for path in (SCENARIO, HISTORY, WEEK, ROSTER)]
-        return "--sce", paths[0], "--his", paths[1], "--week", paths[2], paths[3]
+        return "--sce", paths[0], "--his", paths[1], "--week", paths[2], "--roster", paths[3]
 
 
 class Markup(unittest.TestCase):
@@ -60,7 +60,7 @@ class Markup(unittest.TestCase):
 
 class Page(PageTest):
     def test_each_table_can_be_heard(self):
-        page = self.page(*WEEK_OPTIONS, *MONDAY, "--old", ROSTER, self.changed(ROSTER, "Grace Mon Day Nurse", "Chen Mon Late Nurse"))
+        page = self.page(*WEEK_OPTIONS, *MONDAY, "--old", ROSTER, "--roster", self.changed(ROSTER, "Grace Mon Day Nurse", "Chen Mon Late Nurse"))
         tables = list(page.iter("table"))
         self.assertEqual(len(tables), 5)
         for one in tables:
@@ -75,7 +75,7 @@ class Page(PageTest):
         self.assertTrue(all(any(inner.get("class") == "hidden" for inner in part) for part in marks))
 
     def test_the_roster_and_its_dates(self):
-        page = self.page(*WEEK_OPTIONS, *MONDAY, "--times", "Late=13:00-21:15", "--times", "Day=6:00-14:15", "--times", "Night=22:00-06:15", ROSTER)
+        page = self.page(*WEEK_OPTIONS, *MONDAY, "--times", "Late=13:00-21:15", "--times", "Day=6:00-14:15", "--times", "Night=22:00-06:15", "--roster", ROSTER)
         self.assertEqual(words(page.find(".//h1")), "ward, 30 Nov to 6 Dec 2026 (calendar week 49)")
         rows = self.caption(page, "Shifts")
         self.assertEqual(rows[0], ["nurse", "Mon 30 Nov", "Tue 1 Dec", "Wed 2 Dec", "Thu 3 Dec", "Fri 4 Dec", "Sat 5 Dec", "Sun 6 Dec"])
@@ -85,7 +85,7 @@ class Page(PageTest):
         self.assertIn("Day, 06:00 to 14:15", [words(item) for item in page.iter("li")])
 
     def test_totals_coverage_wishes_and_charges(self):
-        page = self.page(*WEEK_OPTIONS, ROSTER)
+        page = self.page(*WEEK_OPTIONS, "--roster", ROSTER)
         rows = self.caption(page, "Totals")
         self.assertEqual(rows[0], "nurse,shifts,contract,difference,Day,Late,Night,weekends,at most,wishes,granted,missed,cost".split(","))
         self.assertIn("Chen,5,17 to 21,12 to 16 left,0,2,3,1,2,1,0,1,10".split(","), rows)
@@ -98,26 +98,26 @@ class Page(PageTest):
 
     def test_places_with_too_few_and_too_many(self):
         roster = self.changed(ROSTER, "Amara Mon Day Charge", "Amara Mon Day Nurse")
-        page = self.page(*WEEK_OPTIONS, roster)
+        page = self.page(*WEEK_OPTIONS, "--roster", roster)
         rows = self.caption(page, "Nurses at each place")
         self.assertEqual((rows[1][1], rows[2][1]), (
             "0 \u22121!1 too few, below the minimum 1\u20131minimum 1, best 1", "3 +11 too many 1\u20132minimum 1, best 2"))  # fmt: skip
         self.assertIn("the roster breaks H2: Mon Day Charge has 0 nurses and needs at least 1", [words(part) for part in page.iter("p")])
         self.assertEqual(list(page.iter("details")), [])
         # A page without costs does not explain the names of rules.
-        wall = self.page(*WEEK_OPTIONS, "--only-table", roster)
+        wall = self.page(*WEEK_OPTIONS, "--only-table", "--roster", roster)
         self.assertIn("below the minimum number: Mon Day Charge has 0 nurses and needs at least 1", [words(part) for part in wall.iter("p")])
 
     def test_changes(self):
         other = self.changed(ROSTER, "Grace Mon Day Nurse", "Chen Mon Late Nurse")
-        page = self.page(*MONDAY, "--old", ROSTER, other)
+        page = self.page(*MONDAY, "--old", ROSTER, "--roster", other)
         self.assertEqual(self.caption(page, "2 changes")[1:], [["Chen", "Mon 30 Nov", "off", "Late Nurse"], ["Grace", "Mon 30 Nov", "Day Nurse", "off"]])
         grace = next(row for row in self.caption(page, "Shifts") if row[0] == "Grace")
         self.assertEqual(grace[1], "off\u0394 changed since the older roster, instead of Day Nurse")
-        self.assertIn("Nothing is changed since the older roster.", [words(part) for part in self.page("--old", ROSTER, ROSTER).iter("p")])
+        self.assertIn("Nothing is changed since the older roster.", [words(part) for part in self.page("--old", ROSTER, "--roster", ROSTER).iter("p")])
 
     def test_only_the_table(self):
-        page = self.page(*WEEK_OPTIONS, "--fix", ROSTER, "--only-table", "--old", self.changed(ROSTER, "Grace Mon", "Chen Mon"), ROSTER)
+        page = self.page(*WEEK_OPTIONS, "--fix", ROSTER, "--only-table", "--old", self.changed(ROSTER, "Grace Mon", "Chen Mon"), "--roster", ROSTER)
         self.assertEqual([words(one) for one in page.iter("caption")], ["Shifts of each nurse"])
         self.assertEqual([words(one) for one in page.iter("p")], ["7 nurses, 33 shifts"])
         self.assertEqual([words(one) for one in page.iter("li")], ["\u0394 = changed since the older roster", "WE = weekends with work"])
@@ -126,27 +126,26 @@ class Page(PageTest):
         self.assertEqual((rows["nurse"], rows["Finn"], rows["Grace"]), (["Day", "Late", "Night", "WE"], [*"0501"], [*"5000"]))
 
     def test_absences_show_without_the_days_that_are_kept(self):
-        ill, kept, old = (self.folder / name for name in ("ill.txt", "kept.txt", "old.txt"))
-        self.assertEqual(run("wish", "--sce", SCENARIO, "--week", WEEK, "--away", "Amara=Thu", "--away", "Chen=Tue", "--out", ill)[0], 0)
-        self.assertEqual(run("keep", "--sce", SCENARIO, "--keep", "Mon,Tue", "--off-in", ill, ROSTER, "--out", kept)[0], 0)
+        old = self.folder / "old.txt"
+        ill, kept = self.away("Amara=Thu", "Chen=Tue", name="ill.txt"), self.away("Amara=Thu", "Chen=Mon,Tue", name="kept.txt")
         old.write_text(ROSTER.read_text().replace("Bruno Thu", "Amara Thu"))
         for week, monday in ((ill, ""), (kept, "away")):
-            page = self.page("--sce", SCENARIO, "--his", HISTORY, "--week", week, "--old", old, ROSTER)
+            page = self.page("--sce", SCENARIO, "--his", HISTORY, "--week", week, "--old", old, "--roster", ROSTER)
             rows = {row[0]: row for row in self.caption(page, "Shifts")}
             self.assertEqual((rows["Chen"][1:3], rows["Amara"][4][:4], rows["Amara"][5]), ([monday, "away"], "away", ""))
             # The older roster breaks the absence, so its penalty is left out.
             self.assertEqual(words(next(page.iter("p"))), "7 nurses, 33 shifts, penalty 20")
 
     def test_absences_in_tables_of_text(self):
-        self.assertEqual(run("wish", "--sce", SCENARIO, "--week", WEEK, "--away", "Amara=Thu", "--out", self.folder / "ill.txt")[0], 0)
-        self.assertRegex(run("table", "--sce", SCENARIO, "--week", self.folder / "ill.txt", ROSTER)[1], r"(?m)^Amara  (Day..... +){3}away +\.  ")
+        ill = self.away("Amara=Thu")
+        self.assertRegex(run("roster", "show", "--sce", SCENARIO, "--week", ill, "--roster", ROSTER)[1], r"(?m)^Amara  (Day..... +){3}away +\.  ")
         later = self.changed(ROSTER, "0 ward", "1 ward", "later.txt")
-        printed = run("table", "--sce", SCENARIO, "--week", self.folder / "ill.txt", "--week", WARD / "week-1.txt", ROSTER, later)[1]
+        printed = run("roster", "show", "--sce", SCENARIO, "--week", ill, "--week", WARD / "week-1.txt", "--roster", ROSTER, later)[1]
         self.assertRegex(printed, r"(?m)^Amara  D  D  D  -  \.  \| D  D   \|\|  D  D  D! \.  \.  \|")
         self.assertIn("\n- = away\n", printed)
 
     def test_colors_are_printed(self):
-        style = self.page(ROSTER).find("head/style").text
+        style = self.page("--roster", ROSTER).find("head/style").text
         printed = style[style.index("@media print {"):]
         self.assertIn("print-color-adjust: exact", printed)
         self.assertNotIn("background", printed[: printed.index("\n}\n")])
@@ -155,17 +154,17 @@ class Page(PageTest):
     def test_several_weeks(self):
         later = self.changed(ROSTER, "0 ward", "1 ward", "later.txt")
         two = ("--sce", SCENARIO, "--his", HISTORY, "--week", WEEK, "--week", WARD / "week-1.txt")
-        page = self.page(*two, *MONDAY, ROSTER, later)
+        page = self.page(*two, *MONDAY, "--roster", ROSTER, later)
         rows = self.caption(page, "Shifts")
-        self.assertEqual((rows[0], rows[1][8], len(rows[2])), (["", "week 0, calendar week 49", "week 1, calendar week 50"], "Mon 7 Dec", 15))
+        self.assertEqual((rows[0], rows[1][8], len(rows[2])), (["", "week 1, calendar week 49", "week 2, calendar week 50"], "Mon 7 Dec", 15))
         self.assertEqual(rows[2][1], "DcDay Charge")
         self.assertIn("c = Charge", [words(item) for item in page.iter("li")])
         self.assertIn("Amara,10,17 to 21,7 to 11 left,10,0,0,2,2,1,0,1,10".split(","), self.caption(page, "Totals"))
         # On a wall the heads of the sums name their weeks.
-        wall = self.page("--only-table", later, self.changed(ROSTER, "0 ward", "2 ward", "last.txt"))
-        self.assertEqual(self.caption(wall, "Shifts")[0], ["", "week 1", "week 2", "weeks 1 to 2"])
+        wall = self.page("--only-table", "--roster", later, self.changed(ROSTER, "0 ward", "2 ward", "last.txt"))
+        self.assertEqual(self.caption(wall, "Shifts")[0], ["", "week 2", "week 3", "weeks 2 to 3"])
         # A table of the roster has four weeks, and one of the coverage has two.
-        page = self.page(*[ROSTER] * 5)
+        page = self.page("--roster", *[ROSTER] * 5)
         self.assertEqual([len(one.find("thead")[0]) for one in page.iter("table")], [5, 2])
 
     def test_hostile_names(self):
@@ -177,7 +176,7 @@ class Page(PageTest):
         self.assertIn("Jose\u0301;\\n\ufffd", names)
 
     def test_faults(self):
-        week = (*WEEK_OPTIONS, ROSTER)
+        week = (*WEEK_OPTIONS, "--roster", ROSTER)
         none = self.folder / "none" / "page.html"
         for given, line in (
             (("--html", *MONDAY, "--out", none), f"{none}: No such file or directory: look at its name and folder"),
@@ -200,30 +199,30 @@ class Page(PageTest):
             (("--html", "--times", "Day=06:00-14:00"), "--times has no times of Late, Night: give them too, such as --times Late=06:00-14:15"),
         ):
             with self.subTest(given):
-                self.assertEqual(run("table", *week, *given)[1:], ("", f"inrc2pb-table: {line}\n"))
+                self.assertEqual(run("roster", "show", *week, *given)[1:], ("", f"inrc2pb-roster: {line}\n"))
         self.assertEqual(list(self.folder.iterdir()), [])
 
     def test_an_older_page_stays_after_a_fault(self):
         page = self.folder / "page.html"
         page.write_text("older")
-        self.assertEqual(run("table", *WEEK_OPTIONS, "--html", "--out", page, self.folder / "none.txt")[0], 3)
+        self.assertEqual(run("roster", "show", *WEEK_OPTIONS, "--html", "--out", page, "--roster", self.folder / "none.txt")[0], 3)
         self.assertEqual(page.read_text(), "older")
-        self.assertEqual(run("table", *WEEK_OPTIONS, "--html", "--out", page, ROSTER), (0, "", ""))
+        self.assertEqual(run("roster", "show", *WEEK_OPTIONS, "--html", "--out", page, "--roster", ROSTER), (0, "", ""))
         ElementTree.fromstring(page.read_text())
 
 
 class Totals(PageTest):
     def test_the_table_and_the_spreadsheet(self):
-        printed = run("table", *WEEK_OPTIONS, ROSTER)[1]
+        printed = run("roster", "show", *WEEK_OPTIONS, "--roster", ROSTER)[1]
         self.assertRegex(printed, r"(?m)^Chen .*  0 2 3  5/17-21  1/2       0/1       10  S4 10$")
-        self.assertNotIn("weekends", run("table", "--sce", SCENARIO, ROSTER)[1])
-        chen = next(row for row in csv.reader(io.StringIO(run("table", *WEEK_OPTIONS, "--csv", ROSTER)[1])) if row[0] == "Chen")
+        self.assertNotIn("weekends", run("roster", "show", "--sce", SCENARIO, "--roster", ROSTER)[1])
+        chen = next(row for row in csv.reader(io.StringIO(run("roster", "show", *WEEK_OPTIONS, "--csv", "--roster", ROSTER)[1])) if row[0] == "Chen")
         self.assertEqual(chen[8:], ["10", "S4 10", "5", "17", "21", "1", "2", "1", "0", "0", "2", "3"])
 
     def test_the_last_week_says_what_is_missed(self):
         ward = self.changed(SCENARIO, "WEEKS = 4", "WEEKS = 1", "ward.txt")
         ward.write_text(ward.read_text().replace("Half (8,11)", "Half (2,4)"))
-        rows = self.caption(self.page("--sce", ward, "--his", HISTORY, "--week", WEEK, ROSTER), "Totals")
+        rows = self.caption(self.page("--sce", ward, "--his", HISTORY, "--week", WEEK, "--roster", ROSTER), "Totals")
         self.assertEqual({row[0]: row[3] for row in rows}, {
             "nurse": "difference", "Amara": "12 too few", "Bruno": "12 too few", "Chen": "12 too few", "Dilek": "12 too few", "Ewa": "within",
             "Finn": "1 too many", "Grace": "12 too few"})  # fmt: skip
@@ -231,15 +230,15 @@ class Totals(PageTest):
     def test_on_duty_while_away(self):
         asked = "Chen Any Sat\n" * 30 + "Amara Any Thu\n" * 30 + "Grace Day Mon\n" * 30
         week = self.changed(WEEK, "SHIFT_OFF_REQUESTS = 5\n", f"SHIFT_OFF_REQUESTS = 95\n{asked}", "week.txt")
-        given = ("--sce", SCENARIO, "--his", HISTORY, "--week", week, ROSTER)
-        printed = run("table", *given)[1]
+        given = ("--sce", SCENARIO, "--his", HISTORY, "--week", week, "--roster", ROSTER)
+        printed = run("roster", "show", *given)[1]
         self.assertIn("Night Nu#", printed)
         self.assertIn("\n# = on duty while away, or on a shift type that she never works\n", printed)
         self.assertRegex(printed, r"(?m)^Grace  Day Nu#  ")
         # An absence is no wish.
         self.assertRegex(printed, r"(?m)^Chen .* 0 2 3  5/17-21  1/2       - ")
-        self.assertIn("Night Nurse #", run("table", *given, "--csv")[1])
-        self.assertIn("310  S4  Chen, Sat: on Night, while away (31 requests)\n", run("table", *given, "--why")[1])
+        self.assertIn("Night Nurse #", run("roster", "show", *given, "--csv")[1])
+        self.assertIn("310  S4  Chen, Sat: on Night, while away (31 requests)\n", run("roster", "why", *given)[1])
         rows = {row[0]: row for row in self.caption(self.page(*given), "Shifts")}
         self.assertEqual((rows["Chen"][6], rows["Amara"][4]), ("Night Nurse#, on duty while away, or on a shift type that she never works", "away"))
 
@@ -248,7 +247,7 @@ class Calendars(PageTest):
     def calendars(self, *given):
         """The lines of each calendar, unfolded."""
         folder = self.folder / "calendars"
-        self.assertEqual(run("table", "--csv", *MONDAY, "--ics", folder, *given)[::2], (0, ""))
+        self.assertEqual(run("roster", "show", "--csv", *MONDAY, "--ics", folder, *given)[::2], (0, ""))
         found = {}
         for path in sorted(folder.iterdir()):
             data = path.read_bytes()
@@ -259,7 +258,7 @@ class Calendars(PageTest):
         return found
 
     def test_the_events_are_the_shifts(self):
-        found = self.calendars("--times", "Late=13:00-21:15", "--times", "Day=06:00-14:15", "--times", "Night=22:00-06:15", ROSTER)
+        found = self.calendars("--times", "Late=13:00-21:15", "--times", "Day=06:00-14:15", "--times", "Night=22:00-06:15", "--roster", ROSTER)
         rows = files.read_solution(ROSTER).cells
         self.assertEqual({name: lines.count("BEGIN:VEVENT") for name, lines in found.items()}, Counter(f"{row.nurse}.ics" for row in rows))
         chen = found["Chen.ics"]
@@ -269,16 +268,16 @@ class Calendars(PageTest):
         numbers = [line for lines in found.values() for line in lines if line.startswith("UID:")]
         self.assertEqual(len(set(numbers)), len(rows))
         self.assertTrue(all("DTSTAMP:20261130T000000Z" in lines for lines in found.values()))
-        self.assertEqual(found, self.calendars("--times", "Late=13:00-21:15", "--times", "Day=06:00-14:15", "--times", "Night=22:00-06:15", ROSTER))
+        self.assertEqual(found, self.calendars("--times", "Late=13:00-21:15", "--times", "Day=06:00-14:15", "--times", "Night=22:00-06:15", "--roster", ROSTER))
 
     def test_a_nurse_without_shifts_and_hostile_names(self):
         found = self.calendars(*self.hostile_week())
         self.assertEqual(sorted(found), sorted(["_b__&'__b_.ics", "_._.._x.ics", "Jose\u0301;_n_.ics", *(f"{name}.ics" for name in ("Bruno", "Dilek", "Ewa", "Finn"))]))
         self.assertIn("SUMMARY:</td><script> Nurse", found["Ewa.ics"])
         roster = self.solution("Grace Mon Day Nurse", "Ben Sun Late \u00e9" + "\u00e9" * 60 + ";\\x", name="rows.txt")
-        found = self.calendars(roster)
+        found = self.calendars("--roster", roster)
         self.assertIn("SUMMARY:Late " + "\u00e9" * 61 + "\\;\\\\x", found["Ben.ics"])
-        found = self.calendars("--sce", SCENARIO, self.solution(name="none.txt"))
+        found = self.calendars("--sce", SCENARIO, "--roster", self.solution(name="none.txt"))
         event = found["Finn.ics"]
         self.assertEqual(event[-6:-2], ["DTSTART;VALUE=DATE:20261130", "DTEND;VALUE=DATE:20261207", "TRANSP:TRANSPARENT", "SUMMARY:no shift"])
 
@@ -289,12 +288,12 @@ class Calendars(PageTest):
     def test_a_folder_that_cannot_be_written(self):
         blocked = self.folder / "blocked"
         blocked.write_text("no folder")
-        ran = run("table", "--csv", *MONDAY, "--ics", blocked, ROSTER)
-        self.assert_fault(ran, f"inrc2pb-table: {blocked}: File exists: choose another name, or remove this file", 3)
+        ran = run("roster", "show", "--csv", *MONDAY, "--ics", blocked, "--roster", ROSTER)
+        self.assert_fault(ran, f"inrc2pb-roster: {blocked}: File exists: choose another name, or remove this file", 3)
         inside = self.folder / "calendars" / "Chen.ics"
         inside.mkdir(parents=True)
-        ran = run("table", "--csv", *MONDAY, "--ics", self.folder / "calendars", ROSTER)
-        self.assert_fault(ran, f"inrc2pb-table: {inside}: Is a directory: this is a folder: name a file in it", 3)
+        ran = run("roster", "show", "--csv", *MONDAY, "--ics", self.folder / "calendars", "--roster", ROSTER)
+        self.assert_fault(ran, f"inrc2pb-roster: {inside}: Is a directory: this is a folder: name a file in it", 3)
 
 
 if __name__ == "__main__":

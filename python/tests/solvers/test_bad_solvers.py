@@ -1,4 +1,4 @@
-"""Tests of `inrc2pb-improve --solver`: a user's own solver, also one that fails or claims what is wrong."""
+"""Tests of `inrc2pb-solve --solver`: a user's own solver, also one that fails or claims what is wrong."""
 
 import os
 import re
@@ -27,7 +27,7 @@ def fake(how):
 class OwnSolvers(HelperTest):
     def improve(self, *words):
         usual = () if "--time" in words else ("--time", 60)
-        return run("improve", *WEEK_OPTIONS, "--sol", self.folder / "best.txt", *usual, *words)
+        return run("solve", *WEEK_OPTIONS, "--out", self.folder / "best.txt", *usual, *words)
 
     def test_a_solver_that_fails_leaves_the_roster(self):
         rows = {
@@ -38,7 +38,7 @@ class OwnSolvers(HelperTest):
         }
         for how, says in rows.items():
             with self.subTest(how=how):
-                status, report, faults = self.improve("--solver", fake(how), "--from", ROSTER)
+                status, report, faults = self.improve("--solver", fake(how), "--roster", ROSTER)
                 self.assertEqual(status, 1)
                 self.assertIn("penalty 20\n", report)
                 self.assertTrue(report.endswith("no lower bound\n"), report)
@@ -47,14 +47,14 @@ class OwnSolvers(HelperTest):
 
     def test_a_solver_without_a_roster(self):
         for how in ("unsupported", "lazy", "liar"):
-            status, report, _ = self.improve("--solver", fake(how), "--from", ROSTER)
+            status, report, _ = self.improve("--solver", fake(how), "--roster", ROSTER)
             self.assertEqual((status, report.count("penalty 20\n")), (0, 1))
 
     def test_a_wrong_proof_does_not_count(self):
         answer, _ = program.extend(WEEK_FILES, self.swapped("Amara", "Bruno"))
         proud = self.folder / "answer.txt"
         proud.write_text(answer.replace("s SATISFIABLE", "s OPTIMUM FOUND"))
-        status, report, _ = self.improve("--solver", f"sh -c 'cat {proud}'", "--from", ROSTER)
+        status, report, _ = self.improve("--solver", f"sh -c 'cat {proud}'", "--roster", ROSTER)
         self.assertEqual(status, 0)
         self.assertIn("penalty 20\n", report)
         self.assertTrue(report.endswith("no lower bound\n"), report)
@@ -72,7 +72,7 @@ class OwnSolvers(HelperTest):
 
     def test_after_a_fault_the_roster_is_reported(self):
         # The solver removes the folder of the search, so that its answer cannot be kept.
-        status, report, faults = self.improve("--from", ROSTER, "--solver", f"sh -c 'rm -r \"${{0%/*}}\"; cat {self.answer()}' {{}}")
+        status, report, faults = self.improve("--roster", ROSTER, "--solver", f"sh -c 'rm -r \"${{0%/*}}\"; cat {self.answer()}' {{}}")
         self.assertEqual(status, 3)
         self.assertIn("penalty 20\n", report)
         self.assertEqual(faults.splitlines()[-1].count("write failed"), 1, faults)
@@ -85,8 +85,8 @@ class OwnSolvers(HelperTest):
 
     def test_after_a_fault_that_allows_no_report_there_is_the_fault_alone(self):
         mine = shutil.copy(program.find_program(), self.folder / "inrc2pb")
-        words = ("--sol", self.folder / "best.txt", "--solver", f"sh -c 'rm {mine}; echo s UNKNOWN'")
-        status, report, faults = run("improve", *WEEK_OPTIONS, *words, environment={"INRC2PB": str(mine)})
+        words = ("--out", self.folder / "best.txt", "--solver", f"sh -c 'rm {mine}; echo s UNKNOWN'")
+        status, report, faults = run("solve", *WEEK_OPTIONS, *words, environment={"INRC2PB": str(mine)})
         self.assertEqual((status, report), (127, ""))
         self.assertIn(f"there is no program {mine}", faults.splitlines()[-1])
 
@@ -125,7 +125,7 @@ class OwnSolvers(HelperTest):
 
     def test_the_last_line_of_standard_error(self):
         script = "echo first >&2; yes '' | head -c 300000 >&2; echo the license has ended >&2; exit 7"
-        status, _, faults = self.improve("--solver", f"sh -c '{script}'", "--from", ROSTER)
+        status, _, faults = self.improve("--solver", f"sh -c '{script}'", "--roster", ROSTER)
         self.assertEqual(status, 1)
         self.assertIn("sh has no answer: it printed no answer and ended with status 7: the license has ended; try", faults)
 
@@ -140,8 +140,8 @@ class OwnSolvers(HelperTest):
         self.assertTrue(solver.solve(WEEK_FILES, 10, self.folder, Processes()).answer.startswith("o 20\n"))
 
     @unittest.skipUnless(shutil.which("glpsol"), "needs glpsol")
-    def test_the_solver_of_the_page_on_helpers(self):
-        command = re.search('--solver "(glpsol .*)"$', (ROOT / "docs" / "helpers.md").read_text(), re.MULTILINE)[1]
+    def test_the_solver_of_the_page_on_commands(self):
+        command = re.search('--solver "(glpsol .*)"$', (ROOT / "docs" / "commands.md").read_text(), re.MULTILINE)[1]
         held = replace(WEEK_FILES, fix=ROSTER)
         outcome = find_solver(command).solve(held, 60, self.folder, Processes())
         self.assertEqual(program.decode(held, outcome.answer).penalty, 20)

@@ -1,4 +1,4 @@
-"""Tests of `inrc2pb-lp`: models as LP files, and the solution files of MIP solvers as answers."""
+"""Tests of `inrc2pb-solve --model` and `--answer`: models as LP files, and the solution files of MIP solvers as answers."""
 
 import io
 import os
@@ -18,7 +18,7 @@ from inrc2pb.solvers.solvers import answer_of as answer_of_file
 
 HERE = Path(__file__).resolve().parents[1]
 SOLUTIONS = HERE / "data" / "solutions"
-COMMAND = HELPERS / "inrc2pb-lp"
+COMMAND = HELPERS / "inrc2pb-solve"
 MAX_LINE = 560
 
 STATUS_OF = {"optimal": "OPTIMUM FOUND", "stopped": "SATISFIABLE", "none": "UNKNOWN", "infeasible": "UNSATISFIABLE"}
@@ -32,8 +32,8 @@ MAX_MEMORY = 60_000
 MEASURED = """
 import re, sys
 sys.path.insert(0, sys.argv[1])
-from inrc2pb.commands.lp import main
-main(["model", sys.argv[2], "--lp", sys.argv[3]])
+from inrc2pb.commands.solve import main
+main(["--model", sys.argv[2], "--out", sys.argv[3]])
 print(re.search("VmHWM: *([0-9]+) kB", open("/proc/self/status").read().replace("\\t", "")).group(1))
 """
 
@@ -66,16 +66,16 @@ def lp_of(text):
 class NoResult(HelperTest):
     def test_a_result_file_that_is_missing(self):
         missing = self.folder / "week.sol"
-        self.assertEqual(run("lp", "answer", missing, "--status", "infeasible"), (0, "s UNSATISFIABLE\n", ""))
-        self.assertEqual(run("lp", "answer", missing, "--status", "optimal")[0], 3)
-        self.assertEqual(run("lp", "answer", missing)[0], 3)
+        self.assertEqual(run("solve", "--answer", missing, "--status", "infeasible"), (0, "s UNSATISFIABLE\n", ""))
+        self.assertEqual(run("solve", "--answer", missing, "--status", "optimal")[0], 3)
+        self.assertEqual(run("solve", "--answer", missing)[0], 3)
 
     def test_a_result_file_that_is_far_too_long(self):
         huge = self.folder / "week.sol"
         huge.touch()
         os.truncate(huge, 8 << 30)
         began = time.monotonic()
-        self.assert_fault(run("lp", "answer", huge), f"inrc2pb-lp: {huge} has more than 256 MiB: this is no answer")
+        self.assert_fault(run("solve", "--answer", huge), f"inrc2pb-solve: {huge} has more than 256 MiB: this is no answer")
         outcome = answer_of_file(huge)
         self.assertEqual((outcome.answer, outcome.fault), ("", f"its result file has a fault: {huge} has more than 256 MiB: this is no answer"))
         self.assertLess(time.monotonic() - began, 10)
@@ -256,24 +256,24 @@ class Command(unittest.TestCase):
         cut = "* #variable= 1 #constraint= 2\n+1 x1 >= 1 ;\n"
         advice = "; the printed LP text is cut too: do not use it"
         with tempfile.TemporaryDirectory() as folder:
-            for words, ends in (((), advice), (("--lp", Path(folder, "week.lp")), "")):
-                ran = self.run_it("model", *words, given=cut)
+            for words, ends in (((), advice), (("--out", Path(folder, "week.lp")), "")):
+                ran = self.run_it("--model", *words, given=cut)
                 self.assertEqual(ran.returncode, 1)
                 self.assertTrue(ran.stderr.endswith(f"it is cut, so encode the week again{ends}\n"), ran.stderr)
 
     def test_both_directions(self):
         model = (SOLUTIONS / "model.opb").read_text()
-        ran = self.run_it("model", given=model)
+        ran = self.run_it("--model", given=model)
         self.assertEqual((ran.returncode, ran.stdout), (0, lp_of(model)[0]))
         with tempfile.TemporaryDirectory() as folder:
             lp = Path(folder, "model.lp")
-            self.assertEqual(self.run_it("model", SOLUTIONS / "model.opb", "--lp", lp).returncode, 0)
+            self.assertEqual(self.run_it("--model", SOLUTIONS / "model.opb", "--out", lp).returncode, 0)
             self.assertEqual(lp.read_text(), ran.stdout)
-        ran = self.run_it("answer", SOLUTIONS / "cbc-optimal.sol")
+        ran = self.run_it("--answer", SOLUTIONS / "cbc-optimal.sol")
         self.assertEqual((ran.returncode, ran.stdout), (0, f"s OPTIMUM FOUND\n{BEST}"))
 
     def test_faults_are_one_line(self):
-        for words in (("answer", "missing.sol"), ("model", "missing.opb"), ("answer", SOLUTIONS / "model.opb")):
+        for words in (("--answer", "missing.sol"), ("--model", "missing.opb"), ("--answer", SOLUTIONS / "model.opb")):
             with self.subTest(words=words):
                 ran = self.run_it(*words)
                 self.assertNotEqual(ran.returncode, 0)

@@ -14,7 +14,7 @@ class Lines(HelperTest):
 
     def test_a_name_with_the_codes_of_a_terminal(self):
         history = self.changed(HISTORY, "Bruno", "\x1b[2J")
-        status, printed, _ = run("check", "--sce", SCENARIO, "--his", history)
+        status, printed, _ = run("roster", "check", "--sce", SCENARIO, "--his", history)
         self.assertEqual((status, printed.split(": ")[1]), (1, "'\\x1b[2J' is no nurse of NURSES"))
 
 

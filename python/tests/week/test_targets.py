@@ -11,7 +11,7 @@ from unittest import mock
 from ward import HISTORY, ROSTER, SCENARIO, WEEK, WEEK_FILES, WEEK_OPTIONS, HelperTest, program, run
 
 from inrc2pb.commands import command
-from inrc2pb.commands.improve import main
+from inrc2pb.commands.solve import main
 
 # The advice of a fault of the operating system.
 FULL = "No space left on device: the disk is full: free some space, or choose another folder (TMPDIR has the temporary files)"
@@ -23,10 +23,10 @@ class Targets(HelperTest):
     """Rosters that cannot be written, also by root. The fault is one line with advice, the status is 3, and an older roster stays."""
 
     def improve(self, target):
-        return run("improve", *WEEK_OPTIONS, "--sol", target, "--time", 60)
+        return run("solve", *WEEK_OPTIONS, "--out", target, "--time", 60)
 
     def assert_not_written(self, target, says):
-        self.assert_fault(self.improve(target), f"inrc2pb-improve: {target}: {says}", 3)
+        self.assert_fault(self.improve(target), f"inrc2pb-solve: {target}: {says}", 3)
 
     @unittest.skipUnless(Path("/dev/full").exists(), "needs /dev/full")
     def test_a_full_disk(self):
@@ -35,9 +35,6 @@ class Targets(HelperTest):
     def test_a_missing_folder(self):
         self.assert_not_written(self.folder / "none" / "best.txt", "No such file or directory: look at its name and folder")
 
-    def test_a_folder_in_place_of_a_file(self):
-        self.assert_not_written(self.folder, "Is a directory: this is a folder: name a file in it")
-
     def test_a_file_in_place_of_a_folder(self):
         self.assert_not_written(ROSTER / "best.txt", "Not a directory: a part of its path is no folder")
 
@@ -45,7 +42,7 @@ class Targets(HelperTest):
     def test_a_folder_in_which_nobody_may_write(self):
         status, printed, said = self.improve("/sys/best.txt")
         self.assertEqual((status, printed), (3, ""), said)
-        self.assertRegex(said, f"^inrc2pb-improve: /sys/best.txt: [A-Z][a-z -]+: ({RIGHTS}|choose another folder)\n$")
+        self.assertRegex(said, f"^inrc2pb-solve: /sys/best.txt: [A-Z][a-z -]+: ({RIGHTS}|choose another folder)\n$")
 
     @unittest.skipIf(os.geteuid() == 0, "needs a user who is not root")
     def test_a_folder_without_write_permission(self):
@@ -70,13 +67,13 @@ class Targets(HelperTest):
         for target in (roster, link):
             with self.subTest(target.name), contextlib.redirect_stderr(io.TextIOWrapper(io.BytesIO())) as said:
                 shutil.copy(start, roster)
-                words = [*WEEK_OPTIONS, "--from", start, "--sol", target, "--time", 60]
+                words = [*WEEK_OPTIONS, "--roster", start, "--out", target, "--time", 60]
                 unchanged = mock.patch("inrc2pb.commands.command._catch_signals")
-                with mock.patch("sys.argv", ["inrc2pb-improve"]), mock.patch("os.open", self.full_after(2)), unchanged:
+                with mock.patch("sys.argv", ["inrc2pb-solve"]), mock.patch("os.open", self.full_after(2)), unchanged:
                     with self.assertRaises(SystemExit) as ended, contextlib.redirect_stdout(io.TextIOWrapper(io.BytesIO())):
                         command.run(lambda: main([str(word) for word in words]))
                 said.seek(0)
-                self.assertEqual((ended.exception.code, said.readlines()[-1]), (3, f"inrc2pb-improve: {target}: {FULL}\n"))
+                self.assertEqual((ended.exception.code, said.readlines()[-1]), (3, f"inrc2pb-solve: {target}: {FULL}\n"))
                 self.assertEqual(program.penalty_of(WEEK_FILES, roster), 110)
                 self.assertTrue(link.is_symlink())
                 self.assertEqual(sorted(path.name for path in self.folder.iterdir()), ["link.txt", "roster.txt", "start.txt"])
@@ -107,16 +104,18 @@ class InputsStay(HelperTest):
         shutil.copy(ROSTER, roster)
         week = {name: shutil.copy(path, self.folder / name) for name, path in (("history-1.txt", HISTORY), ("week.txt", WEEK))}
         of_week = ("--sce", SCENARIO, "--his", HISTORY, "--week", week["week.txt"])
-        period = ("period", "--time", 1, "--out", self.folder, "--solver", "false", "--sce", SCENARIO, "--his")
+        period = ("solve", "--time", 1, "--out", self.folder, "--solver", "false", "--sce", SCENARIO, "--his")
+        goes_on, competes = ("roster", "next", "--sce", SCENARIO, "--his"), ("solve", "--inrc2", *of_week)
         for input_file, target, what, words in (
-            (roster, "file", "the next history", ("next", SCENARIO, HISTORY, roster, "--out")),
-            (week["history-1.txt"], "file", "the next history", ("next", SCENARIO, week["history-1.txt"], roster, "--out")),
-            (roster, "file", "the kept rows", ("keep", "--keep", "Mon", roster, "--out")),
-            (model, "file", "the LP file", ("lp", "model", model, "--lp")),
-            (week["week.txt"], "file", "the roster", ("simulate", *of_week, "--solver", "false", "--sol")),
-            (week["week.txt"], "file", "the number of the next week", ("simulate", *of_week, "--sol", "/dev/null", "--cusOut")),
-            (roster, "folder", "the roster of week 0", (*period, HISTORY, "--week", WEEK, "--fix", f"0={roster}")),
-            (week["history-1.txt"], "folder", "the history of week 1", (*period, week["history-1.txt"], "--week", WEEK)),
+            (roster, "file", "the next history", (*goes_on, HISTORY, "--roster", roster, "--out")),
+            (week["history-1.txt"], "file", "the next history", (*goes_on, week["history-1.txt"], "--roster", roster, "--out")),
+            (roster, "file", "the table", ("roster", "show", "--roster", roster, "--out")),
+            (roster, "file", "the charges", ("roster", "why", *WEEK_OPTIONS, "--roster", roster, "--out")),
+            (model, "file", "the LP file", ("solve", "--model", model, "--out")),
+            (week["week.txt"], "file", "the roster", (*competes, "--solver", "false", "--sol")),
+            (week["week.txt"], "file", "the number of the next week", (*competes, "--sol", "/dev/null", "--cusOut")),
+            (roster, "folder", "the roster of week 1", (*period, HISTORY, "--week", WEEK, "--fix", f"1={roster}")),
+            (week["history-1.txt"], "folder", "the history of week 2", (*period, week["history-1.txt"], "--week", WEEK)),
         ):
             before = Path(input_file).read_bytes()
             link = self.folder / "link.txt"

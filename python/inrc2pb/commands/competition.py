@@ -1,4 +1,4 @@
-"""The command line of the INRC-II competition: `inrc2pb-simulate --sce F --his F --week F --sol F [..]`."""
+"""`inrc2pb-solve --inrc2`: the command line of the competition INRC-II, `--sce F --his F --week F --sol F [..]`."""
 
 import argparse
 import os
@@ -7,6 +7,7 @@ from pathlib import Path
 from typing import Optional, Sequence, Tuple
 
 from ..programs.clock import Clock
+from .arguments import Parser
 from .command import add_solver_option, check_seconds, number_of_seconds, parser
 from ..week.faults import Misuse, ProgramFault
 from ..week.files import write_solution
@@ -71,29 +72,30 @@ def _planned(given: argparse.Namespace, weeks: PlannedWeeks, seconds: float) -> 
     return outcome.report, outcome.fault
 
 
-def _options() -> argparse.ArgumentParser:
-    options = parser(
+def options() -> Parser:
+    """The parser of `--inrc2`."""
+    competition = parser(
         "Plans one week, with the command line that the simulator of the competition INRC-II calls: as the first week of a plan of\n"
         "all weeks that are left. The later ones are not known, and count with the numbers of this one.",
         "--cusIn and --cusOut carry a solver's own data from week to week. This one keeps none: it reads no --cusIn, and writes\n"
         "the number of the next week to --cusOut.",
     )
-    options.add_argument("--sce", metavar="FILE", type=Path, required=True, help="the scenario")
-    options.add_argument("--his", metavar="FILE", type=Path, required=True, help="the history with which the week begins")
-    options.add_argument("--week", metavar="FILE", type=Path, required=True, help="the week's requirements and requests")
-    options.add_argument("--sol", metavar="FILE", type=Path, required=True, help="the solution file to write")
-    options.add_argument("--cusIn", metavar="FILE", type=Path, help="a solver's data from the week before: not read")
-    options.add_argument("--cusOut", metavar="FILE", type=Path, help="the data for the next week: its number")
-    options.add_argument("--rand", metavar="N", type=int, help="the seed: not used")
+    competition.add_argument("--inrc2", action="store_true", required=True, help="the word that selects this command line")
+    competition.add_argument("--sce", metavar="FILE", type=Path, required=True, help="the scenario")
+    competition.add_argument("--his", metavar="FILE", type=Path, required=True, help="the history with which the week begins")
+    competition.add_argument("--week", metavar="FILE", type=Path, required=True, help="the week's requirements and requests")
+    competition.add_argument("--sol", metavar="FILE", type=Path, required=True, help="the solution file to write")
+    competition.add_argument("--cusIn", metavar="FILE", type=Path, help="a solver's data from the week before: not read")
+    competition.add_argument("--cusOut", metavar="FILE", type=Path, help="the data for the next week: its number")
+    competition.add_argument("--rand", metavar="N", type=int, help="the seed: not used")
     timeout = "seconds in which this process ends, its start included (default: 60)"
-    options.add_argument("--timeout", metavar="SECONDS", type=number_of_seconds, default=60, help=timeout)
-    add_solver_option(options)
-    return options
+    competition.add_argument("--timeout", metavar="SECONDS", type=number_of_seconds, default=60, help=timeout)
+    add_solver_option(competition)
+    return competition
 
 
-def main() -> Optional[int]:
-    """The command `inrc2pb-simulate`."""
-    given = _options().parse_args()
+def main(given: argparse.Namespace) -> int:
+    """Plans the week; the exit status."""
     check_seconds(given.timeout, "--timeout")
     files = PeriodFiles(given.sce, given.his, [given.week], ahead=True)
     check_no_pipes(files.all())

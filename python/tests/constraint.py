@@ -1,12 +1,21 @@
-"""Which rule the constraint N of a week's model belongs to, by the order of docs/model.md, and its row with names."""
+#!/usr/bin/env python3
+"""Which rule the constraint N of a week's model belongs to, by the order of docs/model.md, and its row with names.
 
+  python/tests/constraint.py --sce FILE --his FILE --week FILE [--fix FILE] [--early] N MODEL
+"""
+
+import argparse
 import re
+import sys
 from itertools import product
 from pathlib import Path
 from typing import Iterator, List, NamedTuple, Optional, Sequence, Tuple
 
-from ..week.faults import Misuse
-from ..week.records import DAYS, Cell, Limits, Place, Week
+sys.path.insert(0, str(Path(__file__).resolve().parents[1]))
+
+from inrc2pb.week.faults import FileFault, Misuse  # noqa: E402
+from inrc2pb.week.files import read_files, read_solution  # noqa: E402
+from inrc2pb.week.records import DAYS, Cell, Limits, Place, Week  # noqa: E402
 
 
 class Block(NamedTuple):
@@ -147,3 +156,38 @@ def named_row(row: str, week: Week) -> str:
         return f"[{names.get(number, 'the unit variable' if number == unit else f'slack x{number}')}]"
 
     return re.sub(r"x(\d+)", name, row)
+
+
+def explain(number: int, model: Path, week: Week, held: Sequence[Cell] = (), early: bool = False) -> List[str]:
+    """Where constraint `number` is in the model's file and its rule, its row, and its row with names, as lines.
+
+    Raises Misuse if the model has no such constraint.
+    """
+    block = block_of(number, week, held, early)
+    if block is None or number < 1:
+        count = sum(block.size for block in blocks(week, held, early))
+        raise Misuse(f"there is no constraint {number}: the model of this week has {count}")
+    line, row = row_of(number, model)
+    return [f"constraint {number}, line {line} of the model: {block.rule}: {block.origin}", row, named_row(row, week)]
+
+
+def main() -> None:
+    """Prints the lines of `explain`; a fault ends with status 1."""
+    options = argparse.ArgumentParser(description="Explains a constraint of a week's model.")
+    for name in ("--sce", "--his", "--week"):
+        options.add_argument(name, type=Path, required=True)
+    options.add_argument("--fix", type=Path)
+    options.add_argument("--early", action="store_true")
+    options.add_argument("number", metavar="N", type=int, help="the constraint's number, from 1")
+    options.add_argument("model", metavar="MODEL", type=Path, help="the model that `inrc2pb encode` wrote")
+    given = options.parse_args()
+    try:
+        week = read_files(given.sce, given.his, given.week)
+        held = read_solution(given.fix, week.scenario).cells if given.fix else ()
+        print("\n".join(explain(given.number, given.model, week, held, given.early)))
+    except (FileFault, Misuse, OSError) as fault:
+        sys.exit(str(fault))
+
+
+if __name__ == "__main__":
+    main()

@@ -1,4 +1,4 @@
-"""Tests of `inrc2pb-simulate`."""
+"""Tests of `inrc2pb-solve --inrc2`."""
 
 import os
 import shutil
@@ -8,20 +8,20 @@ import unittest
 
 from ward import HISTORY, SCENARIO, WEEK, WEEK_OPTIONS, HelperTest, program, run
 
-from inrc2pb.commands.simulate import search_seconds, seconds_since_start
+from inrc2pb.commands.competition import search_seconds, seconds_since_start
 
 
 class Simulation(HelperTest):
     def test_one_file_for_two_results(self):
         target = self.folder / "solution.txt"
-        line = f"inrc2pb-simulate: {target} gets the roster, so the number of the next week cannot be written to it: choose another file"
-        self.assert_fault(run("simulate", *WEEK_OPTIONS, "--sol", target, "--cusOut", target, "--solver", "false"), line)
+        line = f"inrc2pb-solve: {target} gets the roster, so the number of the next week cannot be written to it: choose another file"
+        self.assert_fault(run("solve", "--inrc2", *WEEK_OPTIONS, "--sol", target, "--cusOut", target, "--solver", "false"), line)
 
     def test_a_pipe_is_no_input(self):
         pipe = self.folder / "pipe"
         os.mkfifo(pipe)
         words = ("--sce", SCENARIO, "--his", pipe, "--week", WEEK, "--sol", self.folder / "solution.txt", "--timeout", 5)
-        self.assert_fault(run("simulate", *words), f"inrc2pb-simulate: {pipe} is a pipe, which can be read only once: give a file")
+        self.assert_fault(run("solve", "--inrc2", *words), f"inrc2pb-solve: {pipe} is a pipe, which can be read only once: give a file")
 
     def test_the_number_of_the_next_week_may_go_to_a_pipe(self):
         pipe = self.folder / "pipe"
@@ -30,7 +30,7 @@ class Simulation(HelperTest):
         reader = threading.Thread(target=lambda: numbers.append(pipe.read_text()), daemon=True)
         reader.start()
         words = ("--sol", self.folder / "solution.txt", "--cusOut", pipe, "--timeout", 30)
-        run("simulate", *WEEK_OPTIONS, *words, "--solver", self.answers_once(early=True))
+        run("solve", "--inrc2", *WEEK_OPTIONS, *words, "--solver", self.answers_once(early=True))
         reader.join(timeout=30)
         self.assertEqual(numbers, ["1\n"])
 
@@ -42,9 +42,9 @@ class Simulation(HelperTest):
 
     def test_without_a_roster_the_fault_names_the_time_that_was_given(self):
         words = ("--sol", self.folder / "solution.txt", "--timeout", 0.5, "--solver", "sh -c 'sleep 60'")
-        status, printed, said = run("simulate", *WEEK_OPTIONS, *words)
+        status, printed, said = run("solve", "--inrc2", *WEEK_OPTIONS, *words)
         self.assertEqual((status, printed), (5, ""))
-        self.assertRegex(said, "^inrc2pb-simulate: --timeout 0.5: no roster was found in 0.2 s: ")
+        self.assertRegex(said, "^inrc2pb-solve: --timeout 0.5: no roster was found in 0.2 s: ")
 
     def test_the_process_ends_in_its_time(self):
         # On a machine with other work a run may be late.
@@ -52,7 +52,7 @@ class Simulation(HelperTest):
             shutil.rmtree(self.folder / "called", ignore_errors=True)
             solver = f"{self.answers_once(early=True)[:-1]} || exec sleep 60'"
             began = time.monotonic()
-            status, printed, said = run("simulate", *WEEK_OPTIONS, "--sol", self.folder / "solution.txt", "--timeout", 3, "--solver", solver)
+            status, printed, said = run("solve", "--inrc2", *WEEK_OPTIONS, "--sol", self.folder / "solution.txt", "--timeout", 3, "--solver", solver)
             seconds = time.monotonic() - began
             self.assertEqual(status, 0, said)
             self.assertIn("penalty 20\n", printed)
@@ -64,7 +64,7 @@ class Simulation(HelperTest):
     def test_the_command_line_of_the_competition(self):
         solution, custom = self.folder / "solution.txt", self.folder / "custom.txt"
         words = ("--sol", solution, "--cusOut", custom, "--rand", 7, "--timeout", 20)
-        status, printed, said = run("simulate", *WEEK_OPTIONS, *words, "--solver", "clasp")
+        status, printed, said = run("solve", "--inrc2", *WEEK_OPTIONS, *words, "--solver", "clasp")
         self.assertEqual(status, 0, said)
         self.assertIn("penalty 20\n", printed)
         self.assertEqual(custom.read_text(), "1\n")

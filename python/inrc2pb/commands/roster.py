@@ -1,0 +1,196 @@
+"""The command `inrc2pb-roster`: shows, explains and checks rosters, and goes on from them."""
+
+import argparse
+import sys
+from pathlib import Path
+from typing import Callable, List, NamedTuple, Optional, Sequence
+
+from ..judging.next_history import next_history
+from ..programs.program import BROKEN_RULE, WeekFiles
+from ..shown.changes import swapped
+from ..shown.fits import fits_lines
+from ..shown.roster_files import RosterFiles, read_old, read_view
+from ..shown.roster_view import RosterView
+from ..shown.why import change_lines, why_lines
+from ..search.improving import read_week_given
+from ..week.faults import Misuse
+from ..week.files import history_text, read_history, read_scenario, read_solution
+from . import check, show
+from .arguments import Parser, check_verb, table_of
+from .command import add_given_option, add_rosters_option, add_weeks_options, fix_files, parser
+from .show import lines_text, warn, write_result
+
+
+class Verb(NamedTuple):
+    """What a verb does in one line, its parser, and what it does with the values of the command line; the exit status."""
+
+    purpose: str
+    options: Callable[[], Parser]
+    do: Callable[[argparse.Namespace], int]
+
+
+# ---- why and swap
+
+
+def _why_options() -> Parser:
+    options = parser(
+        "Writes each charge of the rosters of some weeks: its cost, its rule, who and when; or each hard rule that is broken.",
+        "Example: inrc2pb-roster why $WEEK --roster roster.txt",
+        "why",
+    )
+    add_weeks_options(options)
+    add_given_option(options)
+    add_rosters_option(options, "a roster of each week, in order, as a solution file", required=True)
+    options.add_argument(
+        "--old",
+        metavar="FILE",
+        type=Path,
+        nargs="+",
+        action="extend",
+        default=[],
+        help="an older roster of each week: what the change saves and costs",
+    )
+    options.add_argument("--out", metavar="FILE", type=Path, help="write to this file, not to standard output")
+    return options
+
+
+def _swap_options() -> Parser:
+    options = parser(
+        "Writes what it saves and costs, charge by charge, if two nurses swap these days in a roster.",
+        'Example: inrc2pb-roster swap "Chen Fri" "Grace Fri" $WEEK --roster roster.txt',
+        "swap",
+    )
+    options.add_argument(
+        "days", metavar='"NURSE DAY"', nargs="+", help="two nurses' days, right after the verb; more pairs are swapped in turn"
+    )
+    add_weeks_options(options)
+    add_given_option(options)
+    add_rosters_option(options, "the roster of the week, as a solution file", required=True)
+    options.add_argument("--out", metavar="FILE", type=Path, help="write to this file, not to standard output")
+    return options
+
+
+def _roster_files(given: argparse.Namespace) -> RosterFiles:
+    """The files of some weeks and their rosters."""
+    return RosterFiles(given.roster, given.sce, [given.his], given.week, fix_files(given.fix, len(given.roster)), given.early, given.facts)
+
+
+def _why(given: argparse.Namespace) -> int:
+    files = _roster_files(given)
+    view = read_view(files)
+    if not given.old:
+        return _explain(given, view, list(why_lines(view)))
+    return _explain(given, view, list(change_lines(read_old(files, given.old), view)))
+
+
+def _swap(given: argparse.Namespace) -> int:
+    if len(given.days) % 2:
+        raise Misuse(f'"{given.days[-1]}" has no second day: give pairs, as in "Chen Fri" "Grace Fri"')
+    view = read_view(_roster_files(given))
+    new = swapped(view, list(zip(given.days[::2], given.days[1::2])))
+    return _explain(given, new, list(change_lines(view, new)))
+
+
+def _explain(given: argparse.Namespace, view: RosterView, lines: Sequence[str]) -> int:
+    """Writes the lines. A roster that breaks a hard rule is told by the status."""
+    inputs = [given.sce, given.his, *given.week, *given.roster, given.facts, *fix_files(given.fix, len(given.roster)).values()]
+    write_result(lines_text(lines), given.out, [*inputs, *vars(given).get("old", [])], "the charges")
+    warn(view)
+    return BROKEN_RULE if any(week.breaches for week in view.weeks) else 0
+
+
+# ---- next
+
+
+def _next_options() -> Parser:
+    options = parser(
+        "Writes the history with which the week after this roster begins.",
+        "docs/rules.md says what each number is. Files of different weeks or wards are a fault, with status 1.\n"
+        "Example: inrc2pb-roster next --sce ward.txt --his history-0.txt --roster roster-0.txt --out history-1.txt",
+        "next",
+    )
+    options.add_argument("--sce", metavar="FILE", type=Path, required=True, help="the scenario")
+    options.add_argument("--his", metavar="FILE", type=Path, required=True, help="the history with which the week began")
+    options.add_argument("--roster", metavar="FILE", type=Path, required=True, help="the week's roster, as a solution file")
+    options.add_argument("--new-period", action="store_true", help="the next week is the first of a new period")
+    options.add_argument("--out", metavar="FILE", type=Path, help="write to this file, not to standard output")
+    return options
+
+
+def _next(given: argparse.Namespace) -> int:
+    scenario = read_scenario(given.sce)
+    history = read_history(given.his, scenario)
+    if history.scenario != scenario.name:
+        raise Misuse(f"{given.his} is of {history.scenario}, the scenario is {scenario.name}: give the files of one ward")
+    roster = read_solution(given.roster, scenario)
+    if (roster.week, roster.scenario) != (history.week, history.scenario):
+        raise Misuse(
+            f"{given.roster} is of week {roster.week} of {roster.scenario}, "
+            f"not of week {history.week} of {history.scenario}: give the roster and the history of one week"
+        )
+    try:
+        text = history_text(next_history(scenario, history, roster.cells, given.new_period))
+    except Misuse as fault:
+        raise Misuse(f"{given.roster}: {fault}") from fault
+    write_result(text, given.out, (given.sce, given.his, given.roster), "the next history")
+    return 0
+
+
+# ---- fits
+
+
+def _fits_options() -> Parser:
+    options = parser(
+        "Lists for each place of a week that needs nurses who could fill it: who has the skill, is not away, and, on Monday, may work the\n"
+        "shift type after her last one. A line has the day, the shift type, the skill, the minimum and the best number, and the nurses.",
+        "It helps if no roster exists: look for a place that few nurses could fill.\n"
+        "Example: inrc2pb-roster fits $WEEK | grep 'HeadNurse (1'",
+        "fits",
+    )
+    options.add_argument("--sce", metavar="FILE", type=Path, required=True, help="the scenario")
+    options.add_argument("--his", metavar="FILE", type=Path, required=True, help="the history with which the week begins")
+    options.add_argument("--week", metavar="FILE", type=Path, required=True, help="the requirements and requests of the week")
+    add_given_option(options)
+    return options
+
+
+def _fits(given: argparse.Namespace) -> int:
+    for line in fits_lines(read_week_given(WeekFiles(given.sce, given.his, given.week, given=given.facts))):
+        print(line)
+    return 0
+
+
+# ---- the command
+
+
+VERBS = {
+    "show": Verb("rosters as a table, a page, a spreadsheet or calendars", show.options, show.main),
+    "why": Verb("each charge of a roster, or what a change saves and costs", _why_options, _why),
+    "swap": Verb("what it saves and costs if two nurses swap days", _swap_options, _swap),
+    "check": Verb("the mistakes of files and rosters, and how to correct them", check.options, check.main),
+    "next": Verb("the history with which the next week begins", _next_options, _next),
+    "fits": Verb("the nurses who could fill each place of a week", _fits_options, _fits),
+}
+
+
+def _help() -> Parser:
+    purposes = table_of({name: verb.purpose for name, verb in VERBS.items()})
+    options = parser(
+        f"Shows, explains and checks rosters, and goes on from them.\n\n{purposes}",
+        "A roster is a solution file, as `inrc2pb decode` writes it. Each verb has --help.\n"
+        "Example: inrc2pb-roster show $WEEK --roster roster.txt",
+    )
+    options.add_argument("verb", metavar="VERB", help="what to do")
+    return options
+
+
+def main(words: Optional[List[str]] = None) -> int:
+    """The command `inrc2pb-roster`."""
+    given = sys.argv[1:] if words is None else words
+    if given[:1] in (["--help"], ["-h"], ["--version"]):
+        _help().parse_args(given[:1])
+    if not given or given[0].startswith("-"):
+        raise Misuse(f"the verb comes first: write one of {', '.join(VERBS)}, then the options")
+    check_verb(given[0], list(VERBS))
+    verb = VERBS[given[0]]
+    return verb.do(verb.options().parse_args(given[1:]))

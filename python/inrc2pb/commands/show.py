@@ -1,0 +1,140 @@
+"""The verb `show` of `inrc2pb-roster`: rosters as a table of nurses by days, as a page, as a spreadsheet, or as calendars."""
+
+import argparse
+import csv
+import io
+import os
+import sys
+from pathlib import Path
+from typing import Iterable, Optional, Sequence
+
+from ..shown.calendars import issue_now, shift_dates, write_calendars
+from ..shown.changes import changed_lines
+from .arguments import Parser
+from .command import add_given_option, add_rosters_option, fix_files, parser
+from ..week.dates import read_monday, read_times
+from ..week.faults import Misuse
+from ..shown.page import page_text
+from ..shown.page_tables import Content
+from ..shown.roster_files import RosterFiles, read_old, read_view
+from ..shown.roster_text import TextTable, spreadsheet
+from ..shown.roster_view import AWAY, HELD, REFUSED, RosterView
+from ..week.targets import check_inputs_stay
+from ..week.writing import write_text
+
+
+def options() -> Parser:
+    """The parser of the verb."""
+    shown = parser(
+        "Shows rosters as a table of nurses by days.",
+        "With --sce, --his and --week the table has what each nurse costs, by rule, and the places with too few or too many nurses.\n"
+        "The first week's --his is enough. In a terminal each shift type has a color, unless NO_COLOR is set.\n"
+        "Example: inrc2pb-roster show $WEEK --roster roster.txt",
+        "show",
+    )
+    add_rosters_option(shown, "a roster of each week, in order, as a solution file", required=True)
+    shown.add_argument("--sce", metavar="FILE", type=Path, help="the scenario: nurses and colors have its order")
+    histories = "the history with which the first week begins, or each week; needs --sce and --week"
+    shown.add_argument("--his", metavar="FILE", type=Path, nargs="+", action="extend", default=[], help=histories)
+    weeks = (
+        f"the requirements and requests of each week, in order: a cell that should be free has a {REFUSED}, "
+        f"of a nurse who is away a {AWAY}"
+    )
+    shown.add_argument("--week", metavar="FILE", type=Path, nargs="+", action="extend", default=[], help=weeks)
+    held = f"assignments that are held: their cells have a {HELD}; of week N of several as N=FILE, where N is 1 for the first roster"
+    shown.add_argument("--fix", metavar="[N=]FILE", action="append", default=[], help=held)
+    add_given_option(shown)
+    shown.add_argument("--reasons", metavar="FILE", type=Path, help="why nurses are away, as `inrc2pb-plan FOLDER files` writes it")
+    shown.add_argument("--early", action="store_true", help="count costs as inrc2pb does with --early")
+    old = "an older roster of each week: what has changed"
+    shown.add_argument("--old", metavar="FILE", type=Path, nargs="+", action="extend", default=[], help=old)
+    shown.add_argument("--monday", metavar="DATE", help="the date of the first Monday, such as 2026-11-30; for --html and --ics")
+    times = "when shifts of a type begin and end, such as Early=06:00-14:15; for --html and --ics; may be repeated"
+    shown.add_argument("--times", metavar="SHIFT=TIMES", action="append", default=[], help=times)
+    shown.add_argument("--ics", metavar="FOLDER", type=Path, help="also write a calendar for each nurse; needs --monday")
+    shown.add_argument("--only-table", action="store_true", help="with --html: no costs, totals and wishes, for a page on the wall")
+    shown.add_argument("--out", metavar="FILE", type=Path, help="write to this file, not to standard output")
+    form = shown.add_mutually_exclusive_group()
+    form.add_argument("--html", action="store_true", help="write a page to print, with totals, coverage, wishes and charges (HTML)")
+    form.add_argument("--csv", action="store_true", help="write rows for a spreadsheet (CSV), without the lines below the table")
+    return shown
+
+
+def main(given: argparse.Namespace) -> int:
+    """Shows the rosters; the exit status."""
+    fixes = fix_files(given.fix, len(given.roster))
+    inputs = [*given.roster, given.sce, *given.his, *given.week, given.facts, given.reasons, *given.old, *fixes.values()]
+    _check_options(given, inputs)
+    monday = read_monday(given.monday, len(given.roster)) if given.monday else None
+    files = RosterFiles(given.roster, given.sce, given.his, given.week, fixes, given.early, given.facts, given.reasons)
+    view = read_view(files)
+    old = read_old(files, given.old) if given.old else None
+    content = Content(view, old, monday, read_times(given.times, view.shifts), given.only_table)
+    warn(view)
+    text = _text(view, given, content)
+    if monday and given.ics:
+        issue = issue_now(shift_dates(content.old, monday)) if content.old else None
+        write_calendars(view, given.ics, monday, content.times, issue)
+    write_result(text, given.out, inputs, "the table")
+    return 0
+
+
+def warn(view: RosterView) -> None:
+    """Prints the warnings about the files of rosters."""
+    for warning in view.warnings:
+        print(f"{os.path.basename(sys.argv[0])}: {warning}", file=sys.stderr)
+
+
+def write_result(text: str, target: Optional[Path], inputs: Sequence[Optional[Path]], what: str) -> None:
+    """Writes the text to the file, or to standard output. Raises Misuse if the file is one of these, which are read."""
+    if target is None:
+        print(text, end="")
+        return
+    check_inputs_stay(inputs, target, what)
+    write_text(target, text)
+
+
+def _check_options(given: argparse.Namespace, inputs: Sequence[Optional[Path]]) -> None:
+    """Options that need others, or do not fit them."""
+    if given.old and given.csv:
+        raise Misuse("--old is for the table and --html: leave it out")
+    if given.only_table and not given.html:
+        raise Misuse("--only-table is for --html: give both")
+    if given.ics and not given.monday:
+        raise Misuse("--ics needs --monday: give the date of the first Monday, such as 2026-11-30")
+    for name, value in (("--monday", given.monday), ("--times", given.times)):
+        if value and not (given.html or given.ics):
+            raise Misuse(f"{name} is for --html and --ics: give one of them")
+    if given.out:
+        check_inputs_stay(inputs, given.out, "the table")
+    if given.ics and given.ics.is_dir():
+        for file in given.ics.glob("*.ics"):
+            check_inputs_stay(inputs, file, "a calendar", "folder")
+
+
+def _text(view: RosterView, given: argparse.Namespace, content: Content) -> str:
+    """What the verb writes."""
+    if given.html:
+        return page_text(content)
+    if given.csv:
+        return _csv_text(view)
+    lines = TextTable(view, not given.out and _wants_color()).lines()
+    if content.old:
+        lines += [f"changed: {line}" for line in changed_lines(content.old, view)]
+    return lines_text(lines)
+
+
+def lines_text(lines: Iterable[str]) -> str:
+    """The lines, each with its end."""
+    return "".join(f"{line}\n" for line in lines)
+
+
+def _csv_text(view: RosterView) -> str:
+    """The rows of `spreadsheet` as text."""
+    text = io.StringIO()
+    csv.writer(text, lineterminator="\n").writerows(spreadsheet(view))
+    return text.getvalue()
+
+
+def _wants_color() -> bool:
+    return sys.stdout.isatty() and not os.environ.get("NO_COLOR") and os.environ.get("TERM") != "dumb"
