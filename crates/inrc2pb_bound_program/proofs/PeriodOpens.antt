@@ -8,11 +8,14 @@ use Rattle.rota_pb.specs.declared.fault.Fault.TheVariants.{Memory}
 use Rattle.inrc2pb_job.specs.OpenCalls.{Opener, OpensAll, StopsOpening, opener_of}
 use Rattle.inrc2pb_job.specs.Opening.{OneRefused}
 use Rattle.inrc2pb_job.specs.Paths.{FileAt, Path, PathLog, with_paths}
-use Rattle.inrc2pb_job.proofs.OpeningLemmas.{opens_both, stops_early, stops_later}
+use Rattle.inrc2pb_job.specs.Jobs.{paths_of}
+use Rattle.inrc2pb_job.proofs.OpeningLemmas.{HasOpened, opens_both, stops_early, stops_later}
+use Rattle.std.specs.Prelude.{IsErrAnd, map, option_map, string_bytes}
 use Rattle.std.specs.List.{flat_map}
 use Rattle.std.specs.declared.string.String.{String}
+use Rattle.rota_bound_run.specs.declared.files.PeriodFiles.{PeriodFiles}
 use Rattle.rota_bound_run.specs.declared.files.WeekFiles.{WeekFiles}
-use Rattle.inrc2pb_bound_program.specs.BoundJobs.{paths_of_week}
+use Rattle.inrc2pb_bound_program.specs.BoundJobs.{bound_paths, paths_of_week}
 use Rattle.inrc2pb_bound_program.specs.PeriodOpening.{AreEach, IsUnopened}
 use Rattle.inrc2pb_bound_program.specs.PeriodOpening.IsUnopened.{refused, without_memory}
 
@@ -57,6 +60,12 @@ pub unopened_err : {F V : Type 0} (opener : Opener F) (paths : List Path) (r : R
     IsUnopened opener paths fault → IfErr r (IsUnopened opener paths)
 unopened_err opener paths r fault is unopened = rw is unopened
 
+-- the result of a call that returns the fault of the call that it made
+pub unopened_by : {F V : Type 0} {opener : Opener F} {paths : List Path} {fault : Fault} (r : Result V Fault) → IsErrAnd r (λ e. e ≡ fault) →
+    IsUnopened opener paths fault → IfErr r (IsUnopened opener paths)
+unopened_by (Ok value) is unopened = absurd is
+unopened_by {opener = opener} {paths = paths} (Err e) is unopened = subst (IsUnopened opener paths) (sym is) unopened
+
 module _ {F : Type 0} (port : Ghosts F) where
   -- the files were opened as they were before the other calls, which did not change the file system
   pub unopened_early : (at : Path → FileAt) (front back : List Path) (before after : PathLog) (fault : Fault) →
@@ -73,6 +82,12 @@ module _ {F : Type 0} (port : Ghosts F) where
   unopened_later at there front back before middle after fault same one (without_memory first rest of_these opened is) =
       without_memory (front ++ first) rest (ap (λ paths. front ++ paths) of_these ∙ sym (append_assoc front first rest))
       (opens_both at there front first before middle after same one opened) is
+
+  -- the files of the calls before were opened
+  pub unopened_next : {at there : Path → FileAt} {front back : List Path} {before middle after : PathLog} {fault : Fault} →
+      HasOpened at front before there middle → IsUnopened (opener_of port there middle after) back fault →
+      IsUnopened (opener_of port at before after) (front ++ back) fault
+  unopened_next done unopened = unopened_later _ _ _ _ _ _ _ _ done.same done.all unopened
 
   -- a call that found no file at one of these paths
   pub one_unopened : (at : Path → FileAt) (paths : List Path) (before after : PathLog) (fault : Fault) →
@@ -126,3 +141,44 @@ module _ {X : Type 0} (at : Path → FileAt) (week : WeekFiles (String X)) (befo
   pub one_week_refused : StopsOpening at (paths_of_week week) before after →
       StopsOpening at (flat_map paths_of_week (week ∷ [])) before after
   one_week_refused = subst (λ paths. StopsOpening at paths before after) (sym (append-nil (paths_of_week week)))
+
+-- ---- a period
+
+module _ {X : Type 0} (paths : PeriodFiles (String X)) where
+  abbrev scenario : List Path
+  scenario = string_bytes paths.scenario ∷ []
+
+  abbrev history : List Path
+  history = string_bytes paths.history ∷ []
+
+  abbrev weeks : List Path
+  weeks = flat_map paths_of_week paths.weeks.items
+
+  abbrev given : List Path
+  given = paths_of (option_map string_bytes paths.given)
+
+  abbrev proof : List Path
+  proof = paths_of (option_map string_bytes paths.proof)
+
+  abbrev rosters : List Path
+  rosters = map string_bytes paths.rosters.items
+
+  -- not all files before these were opened
+  module _ {F : Type 0} (port : Ghosts F) (at : Path → FileAt) (before after : PathLog) (fault : Fault) where
+    abbrev Unopened : List Path → Type 0
+    Unopened front = IsUnopened (opener_of port at before after) front fault
+
+    pub before_rosters : Unopened (scenario ++ history ++ weeks ++ given ++ proof) → Unopened (bound_paths paths)
+    before_rosters = unopened_early port at (scenario ++ history ++ weeks ++ given ++ proof) rosters before after fault
+
+    pub before_proof : Unopened (scenario ++ history ++ weeks ++ given) → Unopened (bound_paths paths)
+    before_proof unopened = before_rosters (unopened_early port at (scenario ++ history ++ weeks ++ given) proof before after fault unopened)
+
+    pub before_given : Unopened (scenario ++ history ++ weeks) → Unopened (bound_paths paths)
+    before_given unopened = before_proof (unopened_early port at (scenario ++ history ++ weeks) given before after fault unopened)
+
+    pub before_weeks : Unopened (scenario ++ history) → Unopened (bound_paths paths)
+    before_weeks unopened = before_given (unopened_early port at (scenario ++ history) weeks before after fault unopened)
+
+    pub before_history : Unopened scenario → Unopened (bound_paths paths)
+    before_history unopened = before_weeks (unopened_early port at scenario history before after fault unopened)

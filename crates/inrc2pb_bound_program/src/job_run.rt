@@ -1,5 +1,5 @@
 //! The job, performed over any files and any output.
-ghost use Rattle.inrc2pb_job.specs.OpenCalls.{opener_of};
+ghost use Rattle.inrc2pb_job.specs.Openers.{opener_at};
 ghost use Rattle.rota_pb.specs.RunPorts.{writer_of};
 ghost use Rattle.rota_bound_run.specs.PeriodFiles.{AreFiles};
 ghost use Rattle.inrc2pb_bound_program.specs.BoundPrograms.{BoundOutcome};
@@ -23,7 +23,7 @@ pub fn perform<O: Opens, W: Target>(
     output: &mut W,
 ) -> Result<(), PeriodFault>
     requires { AreFiles job.now.paths }
-    ensures { BoundOutcome (opener_of O.File.Source (O.at files.old) (O.log files.old) (O.log files.new))
+    ensures { BoundOutcome (opener_at O.Opens O.File.Source files.old files.new)
         job.now (writer_of W.Target output.old output.new) result }
 {
     let mut opened = open_period(alloc, files, &job.paths)?;

@@ -1,7 +1,7 @@
 //! The files of a job, open.
 ghost use Rattle.std.specs.Prelude.{◌≡◌, IfErr, IfOk, flat_map, map, option_map, string_bytes};
 ghost use Rattle.inrc2pb_job.specs.Jobs.{paths_of};
-ghost use Rattle.inrc2pb_job.specs.OpenCalls.{opener_of};
+ghost use Rattle.inrc2pb_job.specs.Openers.{opener_at};
 ghost use Rattle.inrc2pb_job.specs.Opening.{AllOpen, OneRefused};
 ghost use Rattle.inrc2pb_bound_program.specs.BoundJobs.{bound_paths, paths_of_week};
 ghost use Rattle.inrc2pb_bound_program.specs.PeriodOpening.{AreEach, ArePeriodOpen, IsOpenAt, IsOpenIfNamed};
@@ -21,9 +21,9 @@ pub fn open_period<O: Opens>(
     files: &mut O,
     paths: &PeriodFiles<String>,
 ) -> Result<PeriodFiles<O::File>, Fault>
-    ensures opened { IfOk result (AllOpen (opener_of O.File.Source (O.at files.old) (O.log files.old) (O.log files.new))
+    ensures opened { IfOk result (AllOpen (opener_at O.Opens O.File.Source files.old files.new)
         (bound_paths paths.now) (ArePeriodOpen O.File.Source (O.at files.old) paths.now)) }
-    ensures unopened { IfErr result (IsUnopened (opener_of O.File.Source (O.at files.old) (O.log files.old) (O.log files.new))
+    ensures unopened { IfErr result (IsUnopened (opener_at O.Opens O.File.Source files.old files.new)
         (bound_paths paths.now)) }
 {
     Ok(PeriodFiles {
@@ -42,10 +42,10 @@ fn open_weeks<O: Opens>(
     files: &mut O,
     weeks: &[WeekFiles<String>],
 ) -> Result<Vec<WeekFiles<O::File>>, Fault>
-    ensures opened { IfOk result (AllOpen (opener_of O.File.Source (O.at files.old) (O.log files.old) (O.log files.new))
+    ensures opened { IfOk result (AllOpen (opener_at O.Opens O.File.Source files.old files.new)
         (flat_map paths_of_week weeks.now)
         (λ opened. AreEach (IsWeekOpen O.File.Source (O.at files.old)) weeks.now opened.items)) }
-    ensures unopened { IfErr result (IsUnopened (opener_of O.File.Source (O.at files.old) (O.log files.old) (O.log files.new))
+    ensures unopened { IfErr result (IsUnopened (opener_at O.Opens O.File.Source files.old files.new)
         (flat_map paths_of_week weeks.now)) }
     ensures same { O.at files.new ≡ O.at files.old }
 {
@@ -64,9 +64,9 @@ fn open_week<O: Opens>(
     files: &mut O,
     paths: &WeekFiles<String>,
 ) -> Result<WeekFiles<O::File>, Fault>
-    ensures opened { IfOk result (AllOpen (opener_of O.File.Source (O.at files.old) (O.log files.old) (O.log files.new))
+    ensures opened { IfOk result (AllOpen (opener_at O.Opens O.File.Source files.old files.new)
         (paths_of_week paths.now) (IsWeekOpen O.File.Source (O.at files.old) paths.now)) }
-    ensures refused { IfErr result (OneRefused (opener_of O.File.Source (O.at files.old) (O.log files.old) (O.log files.new))
+    ensures refused { IfErr result (OneRefused (opener_at O.Opens O.File.Source files.old files.new)
         (paths_of_week paths.now)) }
     ensures same { O.at files.new ≡ O.at files.old }
 {
@@ -82,9 +82,9 @@ fn open_each<O: Opens>(
     files: &mut O,
     paths: &[String],
 ) -> Result<Vec<O::File>, Fault>
-    ensures opened { IfOk result (AllOpen (opener_of O.File.Source (O.at files.old) (O.log files.old) (O.log files.new))
+    ensures opened { IfOk result (AllOpen (opener_at O.Opens O.File.Source files.old files.new)
         (map string_bytes paths.now) (λ opened. AreEach (IsOpenAt O.File.Source (O.at files.old)) paths.now opened.items)) }
-    ensures unopened { IfErr result (IsUnopened (opener_of O.File.Source (O.at files.old) (O.log files.old) (O.log files.new))
+    ensures unopened { IfErr result (IsUnopened (opener_at O.Opens O.File.Source files.old files.new)
         (map string_bytes paths.now)) }
     ensures same { O.at files.new ≡ O.at files.old }
 {
@@ -100,9 +100,9 @@ fn open_each<O: Opens>(
 
 // Opens a file if it is named.
 fn open_if_named<O: Opens>(files: &mut O, path: &Option<String>) -> Result<Option<O::File>, Fault>
-    ensures opened { IfOk result (AllOpen (opener_of O.File.Source (O.at files.old) (O.log files.old) (O.log files.new))
+    ensures opened { IfOk result (AllOpen (opener_at O.Opens O.File.Source files.old files.new)
         (paths_of (option_map string_bytes path.now)) (IsOpenIfNamed O.File.Source (O.at files.old) path.now)) }
-    ensures refused { IfErr result (OneRefused (opener_of O.File.Source (O.at files.old) (O.log files.old) (O.log files.new))
+    ensures refused { IfErr result (OneRefused (opener_at O.Opens O.File.Source files.old files.new)
         (paths_of (option_map string_bytes path.now))) }
     ensures same { O.at files.new ≡ O.at files.old }
 {

@@ -1,7 +1,7 @@
 //! A run of the program, from its words to its status.
 ghost use Rattle.std.specs.Prelude.{IfErr, IfOk};
 ghost use Rattle.std.specs.Process.{exit_status as code_of};
-ghost use Rattle.inrc2pb_job.specs.OpenCalls.{opener_of};
+ghost use Rattle.inrc2pb_job.specs.Openers.{opener_at};
 ghost use Rattle.inrc2pb_frame.specs.Exits.{AreSound, printer_state};
 ghost use Rattle.inrc2pb_frame.specs.Given.{IsJobGiven, IsStopGiven};
 ghost use Rattle.inrc2pb_frame.specs.Runs.{IsJobFor, IsStopFor};
@@ -31,7 +31,7 @@ pub fn program<O: Opens, W: Target, H: Printer, E: Printer>(
     errors: &mut E,
 ) -> ExitCode
     requires { AreSound (H.has_failed help.old) (E.has_failed errors.old) }
-    ensures { BoundProgramOutcome (opener_of O.File.Source (O.at files.old) (O.log files.old) (O.log files.new)) words
+    ensures { BoundProgramOutcome (opener_at O.Opens O.File.Source files.old files.new) words
         (writer_of W.Target output.old output.new)
         (printer_state H.Printer help.old help.new) (printer_state E.Printer errors.old errors.new) (code_of result) }
 {
@@ -45,7 +45,7 @@ pub fn run<O: Opens, W: Target>(
     files: &mut O,
     output: &mut W,
 ) -> Result<(), Stop>
-    ensures { BoundRunOutcome (opener_of O.File.Source (O.at files.old) (O.log files.old) (O.log files.new)) words
+    ensures { BoundRunOutcome (opener_at O.Opens O.File.Source files.old files.new) words
         (writer_of W.Target output.old output.new) result }
 {
     let job = job_of_args(alloc, words)?;

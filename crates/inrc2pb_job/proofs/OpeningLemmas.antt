@@ -23,6 +23,22 @@ opens_both at then front back before middle after same one other = record {
   in_order = other.in_order ∙ ap (λ log. with_paths log back) one.in_order ∙ log_both before front back;
 }
 
+-- after some calls: a file was opened at each of these paths, and the contents of all paths stay as they were
+pub record HasOpened (at : Path → FileAt) (paths : List Path) (before : PathLog) (then : Path → FileAt) (after : PathLog) : Type 0 where
+  pub same : then ≡ at
+  pub all : OpensAll at paths before after
+
+-- the same after the first call
+pub opens_first : {at then : Path → FileAt} {paths : List Path} {before after : PathLog} → then ≡ at → OpensAll at paths before after →
+    HasOpened at paths before then after
+opens_first same one = record { same = same; all = one }
+
+-- and after one more
+pub opens_more : {at middle then : Path → FileAt} {front back : List Path} {before between after : PathLog} →
+    HasOpened at front before middle between → then ≡ middle → OpensAll middle back between after →
+    HasOpened at (front ++ back) before then after
+opens_more done same one = record { same = same ∙ done.same; all = opens_both _ _ _ _ _ _ _ done.same done.all one }
+
 -- files opened at the first paths, and then not at all of the others
 pub stops_later : (at then : Path → FileAt) (front back : List Path) (before middle after : PathLog) → then ≡ at →
     OpensAll at front before middle → StopsOpening then back middle after → StopsOpening at (front ++ back) before after

@@ -2,7 +2,7 @@
 ghost use Rattle.std.specs.Prelude.{◌≡◌, None, option_map, string_bytes};
 ghost use Rattle.inrc2pb_job.specs.JobOutcomes.{Decodes, Encodes, Extends, JobOutcome};
 ghost use Rattle.inrc2pb_job.specs.Jobs.{output_path_of};
-ghost use Rattle.inrc2pb_job.specs.OpenCalls.{opener_of};
+ghost use Rattle.inrc2pb_job.specs.Openers.{opener_at};
 ghost use Rattle.inrc2pb_job.specs.OpenInputs.{readers_of};
 ghost use Rattle.rota_pb.specs.Decoding.{decode_run};
 ghost use Rattle.rota_pb.specs.RunPorts.{reader_of, writer_of};
@@ -41,7 +41,7 @@ pub fn perform<O: Opens, A: Source, F: Target + HasPath, W: Target + HasPath>(
 ) -> Result<(), Fault>
     requires file { F.path file.old ≡ output_path_of job.now }
     requires output { W.path output.old ≡ None }
-    ensures { JobOutcome (opener_of O.File.Source (O.at files.old) (O.log files.old) (O.log files.new))
+    ensures { JobOutcome (opener_at O.Opens O.File.Source files.old files.new)
         job.now (reader_of A.Source input.old input.new)
         (writer_of F.Target file.old file.new) (writer_of W.Target output.old output.new) result }
 {
@@ -63,7 +63,7 @@ fn encode<O: Opens, W: Target>(
     inputs: &Inputs,
     out: &mut W,
 ) -> Result<(), Fault>
-    ensures { Encodes (opener_of O.File.Source (O.at files.old) (O.log files.old) (O.log files.new))
+    ensures { Encodes (opener_at O.Opens O.File.Source files.old files.new)
         inputs.now (writer_of W.Target out.old out.new) result }
 {
     let mut opened = open_inputs(files, inputs)?;
@@ -87,7 +87,7 @@ fn decode<O: Opens, A: Source, F: Target, W: Target>(
     sol: &mut F,
     report: &mut W,
 ) -> Result<(), Fault>
-    ensures { Decodes (opener_of O.File.Source (O.at files.old) (O.log files.old) (O.log files.new))
+    ensures { Decodes (opener_at O.Opens O.File.Source files.old files.new)
         inputs.now (option_map string_bytes answer.now) (reader_of A.Source input.old input.new)
         (writer_of F.Target sol.old sol.new) (writer_of W.Target report.old report.new) result }
 {
@@ -132,7 +132,7 @@ fn extend<O: Opens, W: Target>(
     from: &str,
     out: &mut W,
 ) -> Result<(), Fault>
-    ensures { Extends (opener_of O.File.Source (O.at files.old) (O.log files.old) (O.log files.new))
+    ensures { Extends (opener_at O.Opens O.File.Source files.old files.new)
         inputs.now from.now (writer_of W.Target out.old out.new) result }
 {
     let mut opened = open_inputs(files, inputs)?;

@@ -2,7 +2,7 @@
 ghost use Rattle.std.specs.Prelude.{◌≡◌, [], ◌∷◌, IfErr, IfOk, option_map, string_bytes};
 ghost use Rattle.inrc2pb_job.specs.Jobs.{paths_of, week_paths};
 ghost use Rattle.inrc2pb_job.specs.OpenInputs.{AreOpen, IsOptionalOpen};
-ghost use Rattle.inrc2pb_job.specs.OpenCalls.{opener_of};
+ghost use Rattle.inrc2pb_job.specs.Openers.{opener_at};
 ghost use Rattle.inrc2pb_job.specs.Opening.{AllOpen, OneRefused};
 ghost use Rattle.inrc2pb_job.specs.Paths.{IsNew};
 
@@ -37,9 +37,9 @@ impl<F: Drop> Drop for OpenInputs<F> {
 /// # Errors
 /// `Read` if an input does not open.
 pub fn open_inputs<O: Opens>(files: &mut O, inputs: &Inputs) -> Result<OpenInputs<O::File>, Fault>
-    ensures opened { IfOk result (AllOpen (opener_of O.File.Source (O.at files.old) (O.log files.old) (O.log files.new))
+    ensures opened { IfOk result (AllOpen (opener_at O.Opens O.File.Source files.old files.new)
         (week_paths inputs.now) (AreOpen O.File.Source (O.at files.old) inputs.now)) }
-    ensures refused { IfErr result (OneRefused (opener_of O.File.Source (O.at files.old) (O.log files.old) (O.log files.new))
+    ensures refused { IfErr result (OneRefused (opener_at O.Opens O.File.Source files.old files.new)
         (week_paths inputs.now)) }
     ensures same { O.at files.new ≡ O.at files.old }
 {
@@ -57,9 +57,9 @@ pub fn open_inputs<O: Opens>(files: &mut O, inputs: &Inputs) -> Result<OpenInput
 /// # Errors
 /// `Read` if the input does not open.
 pub fn open<O: Opens>(files: &mut O, path: &str) -> Result<O::File, Fault>
-    ensures opened { IfOk result (AllOpen (opener_of O.File.Source (O.at files.old) (O.log files.old) (O.log files.new))
+    ensures opened { IfOk result (AllOpen (opener_at O.Opens O.File.Source files.old files.new)
         (path.now ∷ []) (IsNew O.File.Source (O.at files.old path.now))) }
-    ensures refused { IfErr result (OneRefused (opener_of O.File.Source (O.at files.old) (O.log files.old) (O.log files.new))
+    ensures refused { IfErr result (OneRefused (opener_at O.Opens O.File.Source files.old files.new)
         (path.now ∷ [])) }
     ensures same { O.at files.new ≡ O.at files.old }
 {
@@ -77,10 +77,10 @@ pub fn open_optional<O: Opens>(
     files: &mut O,
     path: &Option<String>,
 ) -> Result<OptionalFile<O::File>, Fault>
-    ensures opened { IfOk result (AllOpen (opener_of O.File.Source (O.at files.old) (O.log files.old) (O.log files.new))
+    ensures opened { IfOk result (AllOpen (opener_at O.Opens O.File.Source files.old files.new)
         (paths_of (option_map string_bytes path.now))
         (IsOptionalOpen O.File.Source (O.at files.old) (option_map string_bytes path.now))) }
-    ensures refused { IfErr result (OneRefused (opener_of O.File.Source (O.at files.old) (O.log files.old) (O.log files.new))
+    ensures refused { IfErr result (OneRefused (opener_at O.Opens O.File.Source files.old files.new)
         (paths_of (option_map string_bytes path.now))) }
     ensures same { O.at files.new ≡ O.at files.old }
 {

@@ -6,7 +6,7 @@ ghost use Rattle.inrc2pb_frame.specs.Given.{IsJobGiven, IsStopGiven};
 ghost use Rattle.inrc2pb_frame.specs.Placing.{HaveNoPath, file_of};
 ghost use Rattle.inrc2pb_frame.specs.Runs.{IsJobFor, IsStopFor};
 ghost use Rattle.inrc2pb_program.specs.Programs.{IsEndOf, ProgramOutcome, RunOutcome, inrc2pb};
-ghost use Rattle.inrc2pb_job.specs.OpenCalls.{opener_of};
+ghost use Rattle.inrc2pb_job.specs.Openers.{opener_at};
 ghost use Rattle.rota_pb.specs.RunPorts.{reader_of, writer_of};
 
 use crate::command::NAME;
@@ -34,7 +34,7 @@ pub fn program<O: Opens, A: Source, F: OutputFile, W: Target + HasPath, H: Print
 ) -> ExitCode
     requires paths { HaveNoPath (F.path file.old) (W.path output.old) }
     requires printers { AreSound (H.has_failed help.old) (E.has_failed errors.old) }
-    ensures { ProgramOutcome (opener_of O.File.Source (O.at files.old) (O.log files.old) (O.log files.new))
+    ensures { ProgramOutcome (opener_at O.Opens O.File.Source files.old files.new)
         (file_of F.Target F.path file.old file.new) words (reader_of A.Source input.old input.new)
         (writer_of W.Target output.old output.new)
         (printer_state H.Printer help.old help.new) (printer_state E.Printer errors.old errors.new) (code_of result) }
@@ -57,7 +57,7 @@ pub fn run<O: Opens, A: Source, F: OutputFile, W: Target + HasPath>(
     output: &mut W,
 ) -> Result<(), Stop>
     requires { HaveNoPath (F.path file.old) (W.path output.old) }
-    ensures { RunOutcome (opener_of O.File.Source (O.at files.old) (O.log files.old) (O.log files.new))
+    ensures { RunOutcome (opener_at O.Opens O.File.Source files.old files.new)
         (file_of F.Target F.path file.old file.new) words (reader_of A.Source input.old input.new)
         (writer_of W.Target output.old output.new) result }
 {
