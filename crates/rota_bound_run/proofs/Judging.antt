@@ -13,10 +13,10 @@ use Rattle.rota_core.specs.declared.values.Past.{Past}
 use Rattle.rota_core.proofs.LogicWords.{AllByRecursion-append}
 use Rattle.rota_rules.specs.CostBounds.{penalty_limit}
 use Rattle.rota_rules.specs.Penalty.{penalty}
-use Rattle.rota_certificate.specs.CountedCharges.{HaveShapes, IsPlanned, numbers_in, plan_from}
+use Rattle.rota_certificate.specs.CountedCharges.{HaveShapes, IsPlanned, numbers_in}
+use Rattle.rota_certificate.specs.Plans.{History, after, history_after, plan_after, plan_cost, plan_from}
 use Rattle.rota_certificate.specs.PeriodBounds.{IsPeriod}
 use Rattle.rota_certificate.proofs.CountedPlans.{numbers-at}
-use Rattle.rota_certificate.specs.Plans.{History, after, history_after, plan_after, plan_cost}
 use Rattle.rota_bound_run.specs.Judging.{history_left}
 use Rattle.rota_bound_run.specs.JudgedWeeks.{ArePastsIn, IsJudgedWeek}
 use Rattle.rota_bound_run.specs.declared.judged_week.JudgedWeek.{JudgedWeek}

@@ -4,6 +4,7 @@ pub mod JudgedAfter
 pub mod Judging
 pub mod OtherHistories
 pub mod PastLists
+pub mod Penalties
 pub mod PeriodRuns
 pub mod PeriodWeeks
 pub mod PlanSteps

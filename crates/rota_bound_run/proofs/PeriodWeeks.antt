@@ -13,7 +13,7 @@ use Rattle.rota_core.specs.Limits.{max_number}
 use Rattle.rota_core.specs.ScenarioTables.{ScenarioTables, numbers_of}
 use Rattle.rota_certificate_read.specs.CertificateLayout.{IsCertificateOf}
 use Rattle.rota_certificate.specs.PeriodBounds.{AreGivenFor, IsForWeeks, IsPeriod}
-use Rattle.rota_certificate.specs.Plans.{AreOfOneWard, Continue}
+use Rattle.rota_certificate.specs.Periods.{AreOfOneWard, Continue}
 use Rattle.rota_bound_run.specs.WeeksRead.{AreWeeksFrom, IsWeekAt}
 use Rattle.rota_bound_run.specs.declared.ward.Ward.{Ward}
 

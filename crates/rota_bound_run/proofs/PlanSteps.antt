@@ -5,8 +5,8 @@ use Rattle.rota_core.specs.InstanceTables.{InstanceTables, problem_of}
 use Rattle.rota_core.specs.Problem.{Problem}
 use Rattle.rota_core.specs.Roster.{Roster}
 use Rattle.rota_core.specs.RosterTables.{HasShapeOf, RosterTables, set_of}
-use Rattle.rota_certificate.specs.CountedCharges.{HaveShapes, plan_from}
-use Rattle.rota_certificate.specs.Plans.{History, Plan, PlannedWeek, after, history_after, plan_after, plan_of}
+use Rattle.rota_certificate.specs.CountedCharges.{HaveShapes}
+use Rattle.rota_certificate.specs.Plans.{History, Plan, PlannedWeek, after, history_after, plan_after, plan_from, plan_of}
 use Rattle.rota_bound_run.specs.Judging.{history_before, history_left}
 
 -- a week with its roster after this history

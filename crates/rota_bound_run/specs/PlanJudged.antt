@@ -2,10 +2,10 @@
 use Rattle.std.specs.Prelude.{◌≡◌, ℕ, ⊤, List, [], ◌∷◌, ◌++◌, length, map, Option, None, Some, slice_get}
 use Rattle.rota_core.specs.InstanceTables.{InstanceTables, problem_of}
 use Rattle.rota_core.specs.RosterTables.{RosterTables, set_of}
-use Rattle.rota_certificate.specs.CountedCharges.{IsFirstUnmetCondition, plan_from}
+use Rattle.rota_certificate.specs.UnmetConditions.{IsFirstUnmetCondition}
+use Rattle.rota_certificate.specs.Plans.{plan_cost, plan_from}
 use Rattle.rota_certificate.specs.Facts.{Case}
 use Rattle.rota_certificate.specs.Optimality.{KeepAndMeet}
-use Rattle.rota_certificate.specs.Plans.{plan_cost}
 use Rattle.rota_certificate_read.specs.FactsLayout.{GivenTables}
 use Rattle.rota_pb.specs.RunPorts.{Reader}
 use Rattle.rota_pb.specs.declared.period_fault.PeriodFault.TheVariants.{Unmet}

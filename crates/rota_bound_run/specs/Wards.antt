@@ -1,6 +1,6 @@
 -- The scenario and the history before the first week, and how the history's number of the week grows.
 use Rattle.std.specs.Prelude.{◌≡◌, ℕ, ◌+◌}
-use Rattle.rota_core.specs.Parts.{history_of}
+use Rattle.rota_core.specs.PartsOfHistory.{history_of}
 use Rattle.rota_core.specs.ScenarioTables.{ScenarioTables, numbers_of}
 use Rattle.rota_core.specs.WeekTables.{HistoryTables, IsHistory}
 use Rattle.rota_core.specs.declared.fault.FileName.TheVariants as names

@@ -40,6 +40,7 @@ fn penalty_in(judged: &Option<Judged>) -> Option<u64>
 }
 
 /// The answer that the certificate gives, and for the rosters if they are judged.
+#[tactic(auto, using(crate::proofs::Penalties::penalty_is_cost))]
 pub(crate) fn answer_for(
     alloc: Global,
     weeks: &[Instance],

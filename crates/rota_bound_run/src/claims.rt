@@ -1,8 +1,7 @@
 //! The claim that a certificate proves about all plans of some weeks.
 ghost use Rattle.std.specs.Prelude.{◌≡◌, IfOk, if◌then◌else◌, map};
 ghost use Rattle.rota_core.specs.InstanceTables.{problem_of};
-ghost use Rattle.rota_certificate.specs.PeriodBounds.{AreEvidence};
-ghost use Rattle.rota_certificate.specs.Optimality.{AreOptimalAt};
+ghost use Rattle.rota_certificate.specs.PeriodBounds.{AreEvidence, AreOptimalAt};
 ghost use Rattle.rota_bound_run.specs.Claims.{Holds};
 ghost use Rattle.rota_bound_run.specs.ExactAnswers.{claim_of};
 ghost use Rattle.rota_bound_run.specs.declared.claims.Claim.TheVariants.{AtLeast, NoRoster, Unknown};

@@ -13,10 +13,11 @@ use Rattle.rota_core.specs.RosterTables.{HasShapeOf, RosterTables, set_of}
 use Rattle.rota_core.specs.Sizes.{Numbers}
 use Rattle.rota_core.specs.declared.certificate.ChargeKind.{ChargeKind}
 use Rattle.rota_core.specs.declared.values.Past.{Past}
-use Rattle.rota_certificate.specs.CountedCharges.{HaveShapes, numbers_in, plan_from}
+use Rattle.rota_certificate.specs.CountedCharges.{HaveShapes, numbers_in}
+use Rattle.rota_certificate.specs.Plans.{History, KeepRules, Plan, PlannedWeek, after, history_after, plan_after, plan_from, plan_of}
+use Rattle.rota_certificate.specs.Periods.{ArePeriod, Continue}
 use Rattle.rota_certificate.specs.Facts.{charges_in_week, charges_of_all, charges_of_nurse, has_choice, nurses_of, week_passes}
 use Rattle.rota_certificate.specs.Nearness.{IsNear}
-use Rattle.rota_certificate.specs.Plans.{ArePeriod, Continue, History, KeepRules, Plan, PlannedWeek, after, history_after, plan_after, plan_of}
 use Rattle.rota_certificate.proofs.Sums.{sum-none}
 use Rattle.rota_certificate.proofs.Tables.{history-near}
 

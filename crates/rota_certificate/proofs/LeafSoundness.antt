@@ -14,7 +14,8 @@ use Rattle.rota_certificate.specs.Facts.{Case, IsIn, charges_of_nurse, nurses_of
 use Rattle.rota_certificate.specs.LeafBounds.{bound_of_leaf, leaf_bound, leaf_place_bounds, leaf_weeks, nurse_count}
 use Rattle.rota_certificate.specs.NurseBounds.{LeafWeek, nurse_bound}
 use Rattle.rota_certificate.specs.NurseCosts.{AllowsPlan, nurse_cost, paid_in_plan}
-use Rattle.rota_certificate.specs.Plans.{ArePeriod, KeepRules, Plan, plan_after, plan_cost, plan_of}
+use Rattle.rota_certificate.specs.Plans.{KeepRules, Plan, plan_after, plan_cost, plan_of}
+use Rattle.rota_certificate.specs.Periods.{ArePeriod}
 use Rattle.rota_certificate.specs.Tariffs.{has_overdrawn, points_of, surcharged, tariff_of, weight}
 use Rattle.rota_certificate.specs.declared.surcharges.Surcharged.{Surcharged}
 use Rattle.rota_certificate.specs.declared.tariffs.Tariff.{Tariff}

@@ -16,7 +16,8 @@ use Rattle.rota_certificate.specs.LeafBounds.{leaf_place_bounds, leaf_weeks, may
 use Rattle.rota_certificate.specs.NurseBounds.{LeafWeek}
 use Rattle.rota_certificate.specs.NurseCosts.{AllowsPlan, paid, paid_in_plan}
 use Rattle.rota_certificate.specs.PlaceCases.{case_place_bounds}
-use Rattle.rota_certificate.specs.Plans.{ArePeriod, Continue, History, KeepRules, Plan, PlannedWeek, after, history_after, plan_after, plan_of}
+use Rattle.rota_certificate.specs.Plans.{History, KeepRules, Plan, PlannedWeek, after, history_after, plan_after, plan_of}
+use Rattle.rota_certificate.specs.Periods.{ArePeriod, Continue}
 use Rattle.rota_certificate.proofs.CaseChoices.{BeginsAt, KeepEach, all-allowed}
 use Rattle.rota_certificate.proofs.PlacePart.{case_place_bounds-within}
 use Rattle.rota_certificate.proofs.PlanParts.{HaveNurses, optimum_of}

@@ -14,7 +14,7 @@ use Rattle.rota_certificate.specs.CertificateBounds.{lists_of}
 use Rattle.rota_certificate.specs.Facts.{Case}
 use Rattle.rota_certificate.specs.LentLeaves.{AreFit, Fits, IsLeaf, LeafTables, prices_lent, week_lent}
 use Rattle.rota_certificate.specs.PeriodBounds.{IsForWeeks, IsPeriod}
-use Rattle.rota_certificate.specs.Plans.{ArePeriod, Continue}
+use Rattle.rota_certificate.specs.Periods.{ArePeriod, Continue}
 use Rattle.rota_certificate.specs.Evidence.{AreLent, bound_by}
 use Rattle.rota_certificate.specs.declared.stages.LentWeek.{LentWeek}
 use Rattle.rota_certificate.specs.declared.tree.Rules.{Rules}

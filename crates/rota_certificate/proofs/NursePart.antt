@@ -19,7 +19,8 @@ use Rattle.rota_certificate.specs.Facts.{charges_in_week}
 use Rattle.rota_certificate.specs.LeafBounds.{nurse_count}
 use Rattle.rota_certificate.specs.NurseBounds.{LeafWeek, Terms, charge_totals, least_days, nurse_bound, pay_for_history, rest_after}
 use Rattle.rota_certificate.specs.NurseCosts.{AllowsChoices, AllowsPlan, fixed_cost, nurse_cost, paid, paid_in_plan, tariff_cost}
-use Rattle.rota_certificate.specs.Plans.{ArePeriod, Continue, History, KeepRules, PlannedWeek, after, history_after, plan_after, plan_of}
+use Rattle.rota_certificate.specs.Plans.{History, KeepRules, PlannedWeek, after, history_after, plan_after, plan_of}
+use Rattle.rota_certificate.specs.Periods.{ArePeriod, Continue}
 use Rattle.rota_certificate.specs.declared.tariffs.Tariff.{Tariff}
 use Rattle.rota_certificate.proofs.OtherHistories.{history-free, week_after}
 use Rattle.rota_certificate.proofs.WeekDays.{days-bounded, totals_above, totals_charged, weighted-most}

@@ -1,5 +1,5 @@
 -- The number of a nurse's charges of a kind, as it is counted: day by day for runs, week by week for totals.
-use Rattle.std.specs.Prelude.{◌≡◌, ℕ, ◌-◌, ◌≤◌, ◌≢◌, ⊤, Option, List, [], ◌∷◌, is_some, length, map, slice_get, Some, take}
+use Rattle.std.specs.Prelude.{◌≡◌, ℕ, ◌-◌, ◌≤◌, ⊤, Option, List, [], ◌∷◌, is_some, length, map}
 use Rattle.rota_core.specs.Limits.{max_weeks}
 use Rattle.rota_core.specs.Problem.{Problem}
 use Rattle.rota_core.specs.InstanceTables.{InstanceTables, problem_of}
@@ -9,13 +9,13 @@ use Rattle.rota_core.specs.RosterTables.{HasShapeOf, RosterTables, set_of}
 use Rattle.rota_core.specs.Sizes.{Numbers}
 use Rattle.rota_core.specs.declared.certificate.ChargeKind.{ChargeKind}
 use Rattle.rota_core.specs.declared.certificate.ChargeKind.TheVariants.{Assignments, ShiftRuns, Weekends, WorkDays}
-use Rattle.rota_core.specs.declared.certificate.Condition.{Condition}
 use Rattle.rota_core.specs.declared.values.Past.{Past}
 use Rattle.rota_rules.specs.CountedTotals.{charged_excess}
 use Rattle.rota_certificate.specs.DayCharges.{over_charge, shift_charges}
-use Rattle.rota_certificate.specs.Facts.{Case, IsIn, charges_in_week, is_fact}
+use Rattle.rota_certificate.specs.Facts.{charges_in_week}
 use Rattle.rota_certificate.specs.FirstBelow.{first_below}
-use Rattle.rota_certificate.specs.Plans.{ArePeriod, KeepRules, Plan, history_after, plan_of}
+use Rattle.rota_certificate.specs.Plans.{KeepRules, history_after}
+use Rattle.rota_certificate.specs.Periods.{ArePeriod}
 use Rattle.rota_certificate.specs.declared.counted.CountedWeek.{CountedWeek}
 
 -- the nurse's first shift type of the day, if she works; if no two of her cells are on one day, it is her choice
@@ -44,10 +44,6 @@ pub record IsCountedWeek (kind : ChargeKind) (week : Problem) (roster : Roster) 
 
 -- ---- weeks with their rosters
 
--- the plan of these weeks with these rosters
-abbrev pub plan_from : List InstanceTables → List RosterTables → Plan
-plan_from weeks rosters = plan_of (map problem_of weeks) (map set_of rosters)
-
 -- there is a roster of the shape of each week
 abbrev pub HaveShapes : List InstanceTables → List RosterTables → Type 0
 HaveShapes [] [] = ⊤
@@ -66,10 +62,3 @@ pub record IsPlanned (weeks : List InstanceTables) (rosters : List RosterTables)
 abbrev pub numbers_in : List InstanceTables → Numbers
 numbers_in [] = record { nurses = 0; shifts = 0; skills = 0 }
 numbers_in (first ∷ later) = (problem_of first).numbers
-
--- the condition with this index is the first that the plan does not meet
-pub record IsFirstUnmetCondition (plan : Plan) (given : Case) (index : ℕ) : Type 0 where
-  pub condition : Condition
-  pub is : slice_get given index ≡ Some condition
-  pub unmet : is_fact plan condition.fact ≢ condition.holds
-  pub earlier : IsIn plan (take index given)

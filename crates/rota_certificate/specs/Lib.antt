@@ -15,6 +15,7 @@ pub mod NurseBounds
 pub mod NurseCosts
 pub mod Optimality
 pub mod PeriodBounds
+pub mod Periods
 pub mod PlaceBounds
 pub mod PlaceCases
 pub mod Plans
@@ -24,3 +25,4 @@ pub mod ShiftCharges
 pub mod StageFields
 pub mod Stages
 pub mod Tariffs
+pub mod UnmetConditions

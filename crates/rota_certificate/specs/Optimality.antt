@@ -1,5 +1,5 @@
 -- Rosters of the minimum cost, among those that keep the hard rules of some weeks and meet the given conditions.
-use Rattle.std.specs.Prelude.{◌≡◌, ℕ, ◌≤◌, List}
+use Rattle.std.specs.Prelude.{ℕ, ◌≤◌, List}
 use Rattle.rota_core.specs.Problem.{Problem}
 use Rattle.rota_core.specs.Roster.{Roster}
 use Rattle.rota_certificate.specs.Facts.{Case, IsIn}
@@ -19,11 +19,6 @@ pub record AreOptimal (weeks : List Problem) (given : Case) (rosters : List Rost
 -- no rosters that keep the hard rules of the weeks and meet the given conditions cost less than this number of points
 abbrev pub NoneCostLess : List Problem → (given : Case) → (points : ℕ) → Type 0
 NoneCostLess weeks given points = (rosters : List Roster) → KeepAndMeet weeks given rosters → points ≤ plan_cost (plan_of weeks rosters)
-
--- rosters that keep the hard rules of the weeks, meet the given conditions, and cost this number of points, are optimal
-abbrev pub AreOptimalAt : List Problem → (given : Case) → (points : ℕ) → Type 0
-AreOptimalAt weeks given points =
-    (rosters : List Roster) → KeepAndMeet weeks given rosters → plan_cost (plan_of weeks rosters) ≡ points → AreOptimal weeks given rosters
 
 -- no rosters keep the hard rules of the weeks and meet the given conditions
 abbrev pub HaveNoPlan : List Problem → (given : Case) → Type 0

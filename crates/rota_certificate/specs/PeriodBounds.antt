@@ -1,15 +1,18 @@
 -- Certificates for the weeks of a period. What their bounds prove is in `Optimality`.
-use Rattle.std.specs.Prelude.{◌≤◌, List, [], ◌∷◌, length, map}
+use Rattle.std.specs.Prelude.{◌≡◌, ℕ, ◌≤◌, List, [], ◌∷◌, length, map}
 use Rattle.rota_core.specs.Certificates.{AreConditionsFor, IsCertificateFor}
 use Rattle.rota_core.specs.InstanceTables.{InstanceTables, problem_of}
 use Rattle.rota_core.specs.Limits.{max_number, max_weeks}
 use Rattle.rota_core.specs.Problem.{Problem}
+use Rattle.rota_core.specs.Roster.{Roster}
 use Rattle.rota_core.specs.declared.certificate.Certificate.{Certificate}
 use Rattle.rota_certificate.specs.CertificateBounds.{HaveTables}
 use Rattle.rota_certificate.specs.CountedCharges.{numbers_in}
 use Rattle.rota_certificate.specs.Facts.{Case}
-pub use Rattle.rota_certificate.specs.Optimality.{AreOptimalAt, HaveNoPlan, NoneCostLess}
-use Rattle.rota_certificate.specs.Plans.{ArePeriod}
+use Rattle.rota_certificate.specs.Optimality.{AreOptimal, KeepAndMeet}
+pub use Rattle.rota_certificate.specs.Optimality.{HaveNoPlan, NoneCostLess}
+use Rattle.rota_certificate.specs.Periods.{ArePeriod}
+use Rattle.rota_certificate.specs.Plans.{plan_cost, plan_of}
 
 -- the weeks make a period of at most `max_weeks` weeks
 pub record IsPeriod (weeks : List InstanceTables) : Type 0 where
@@ -38,3 +41,8 @@ pub record AreEvidenceFor (first : Problem) (later : List Problem) (given : Case
   pub given_for : AreConditionsFor first.numbers (length (first ∷ later)) given
   pub is_for : IsCertificateFor first (length (first ∷ later)) certificate
   pub tables : HaveTables certificate
+
+-- rosters that keep the hard rules of the weeks, meet the given conditions, and cost this number of points, are optimal
+abbrev pub AreOptimalAt : List Problem → (given : Case) → (points : ℕ) → Type 0
+AreOptimalAt weeks given points =
+    (rosters : List Roster) → KeepAndMeet weeks given rosters → plan_cost (plan_of weeks rosters) ≡ points → AreOptimal weeks given rosters

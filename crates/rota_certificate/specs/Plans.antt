@@ -1,11 +1,13 @@
 -- Several weeks in order, planned together: the history that a week leaves, the rosters of all weeks, and their cost.
-use Rattle.std.specs.Prelude.{◌≡◌, ℕ, ◌+◌, false, ⊤, Option, List, [], ◌∷◌, length}
+use Rattle.std.specs.Prelude.{◌≡◌, ℕ, ◌+◌, Option, List, [], ◌∷◌, length, map}
 use Rattle.std.specs.List.{AllByRecursion, sum_by}
 use Rattle.std.specs.Option.{option_map_or}
 use Rattle.rota_core.specs.Sizes.{DAYS}
 use Rattle.rota_core.specs.HardRules.{KeepsHardRules, is_off, is_on, works}
+use Rattle.rota_core.specs.InstanceTables.{InstanceTables, problem_of}
 use Rattle.rota_core.specs.Problem.{Problem}
 use Rattle.rota_core.specs.Roster.{Roster}
+use Rattle.rota_core.specs.RosterTables.{RosterTables, set_of}
 use Rattle.rota_core.specs.declared.values.Past.{Past}
 use Rattle.rota_rules.specs.Penalty.{penalty}
 use Rattle.rota_rules.specs.Runs.{run_length}
@@ -58,24 +60,9 @@ abbrev pub plan_of : List Problem → List Roster → Plan
 plan_of [] rosters = []
 plan_of (first ∷ later) rosters = plan_after first.past (first ∷ later) rosters
 
--- two weeks are of one ward and of one period: they have the same numbers of nurses, shift types and skills, limits, contracts, flag
--- `--early`, and history before the period
-pub record AreOfOneWard (one other : Problem) : Type 0 where
-  pub numbers : one.numbers ≡ other.numbers
-  pub is_early : one.is_early ≡ other.is_early
-  pub limits : (s : ℕ) → one.limits s ≡ other.limits s
-  pub contract : (n : ℕ) → one.contract n ≡ other.contract n
-  pub past : (n : ℕ) → one.past n ≡ other.past n
-
--- the weeks after this one make a period with it: all are of one ward, and no week but the last of them is the last of the scenario
-unfoldable pub Continue : Problem → List Problem → Type 0
-Continue week [] = ⊤
-Continue week (next ∷ later) = (week.is_last ≡ false) × AreOfOneWard week next × Continue next later
-
--- the weeks make a period; `past` of each is the history before the first week
-abbrev pub ArePeriod : List Problem → Type 0
-ArePeriod [] = ⊤
-ArePeriod (first ∷ later) = Continue first later
+-- the same of the weeks and rosters that tables describe
+abbrev pub plan_from : List InstanceTables → List RosterTables → Plan
+plan_from weeks rosters = plan_of (map problem_of weeks) (map set_of rosters)
 
 -- there is a roster for each week, and each keeps the hard rules of its week after the history that the week before leaves
 pub record KeepRules (weeks : List Problem) (rosters : List Roster) : Type 0 where

@@ -6,7 +6,9 @@ ghost use Rattle.rota_core.specs.HardRules.{nurses_at};
 ghost use Rattle.rota_core.specs.InstanceTables.{problem_of};
 ghost use Rattle.rota_core.specs.RosterTables.{HasShapeOf, set_of};
 ghost use Rattle.rota_core.specs.Sizes.{DAYS};
-ghost use Rattle.rota_certificate.specs.CountedCharges.{IsFirstUnmetCondition, IsPlanned, numbers_in, plan_from};
+ghost use Rattle.rota_certificate.specs.CountedCharges.{IsPlanned, numbers_in};
+ghost use Rattle.rota_certificate.specs.UnmetConditions.{IsFirstUnmetCondition};
+ghost use Rattle.rota_certificate.specs.Plans.{plan_from};
 ghost use Rattle.rota_certificate.specs.Facts.{IsIn, charges_counted, has_choice, is_fact};
 
 use crate::counted::{charges_of_all, charges_of_nurse, choice_on, is_on};

@@ -6,10 +6,10 @@ ghost use Rattle.rota_core.specs.InstanceTables.{problem_of};
 ghost use Rattle.rota_core.specs.RosterTables.{HasShapeOf, set_of};
 ghost use Rattle.rota_core.specs.Sizes.{DAYS};
 ghost use Rattle.rota_rules.specs.CountedTotals.{charged_excess};
-ghost use Rattle.rota_certificate.specs.CountedCharges.{IsCountedWeek, IsPlanned, choice_on, numbers_in, plan_from, run_charges, total_charges};
+ghost use Rattle.rota_certificate.specs.CountedCharges.{IsCountedWeek, IsPlanned, choice_on, numbers_in, run_charges, total_charges};
+ghost use Rattle.rota_certificate.specs.Plans.{History, after, history_after, plan_from};
 ghost use Rattle.rota_certificate.specs.Facts.{charges_of_all, charges_of_nurse};
 ghost use Rattle.rota_certificate.specs.Nearness.{IsNear, most_days};
-ghost use Rattle.rota_certificate.specs.Plans.{History, after, history_after};
 
 use crate::charges::{over_charge, past_after, shift_charges};
 use rota_core::{Cell, ChargeKind, DAYS, Instance, Past, Roster};

@@ -12,6 +12,7 @@ pub mod Lists
 pub mod Numeral
 pub mod NumeralLaws
 pub mod Parts
+pub mod PartsOfHistory
 pub mod Pasts
 pub mod Prices
 pub mod PriceTables

@@ -3,7 +3,8 @@ use Rattle.std.specs.Prelude.{Bool, Option, ℕ, List, map}
 use Rattle.rota_core.specs.RosterTables.{RosterTables}
 use Rattle.rota_core.specs.ScenarioTables.{ScenarioTables}
 use Rattle.rota_core.specs.InstanceTables.{InstanceTables}
-use Rattle.rota_core.specs.WeekTables.{HistoryTables, WeekTables}
+pub use Rattle.rota_core.specs.PartsOfHistory.{history_of}
+use Rattle.rota_core.specs.WeekTables.{WeekTables}
 use Rattle.rota_core.specs.declared.history.HistoryParts.{HistoryParts}
 use Rattle.rota_core.specs.declared.scenario.ScenarioParts.{ScenarioParts}
 use Rattle.rota_core.specs.declared.week.WeekParts.{WeekParts}
@@ -27,14 +28,6 @@ scenario_of parts = record {
   nurses = bytes_of parts.nurses;
   contract_of = parts.contract_of.items;
   has_skill = parts.has_skill.items;
-}
-
--- the tables of a history's parts
-abbrev pub history_of : HistoryParts → HistoryTables
-history_of parts = record {
-  numbers = record { nurses = parts.nurses; shifts = parts.shifts; skills = parts.skills };
-  week = parts.week;
-  past = parts.past.items;
 }
 
 -- the tables of the parts of a week's data

@@ -1,5 +1,5 @@
 use Rattle.std.proofs.Common.{take}
-use Rattle.rota_certificate.specs.CountedCharges.{plan_from}
+use Rattle.rota_certificate.specs.Plans.{plan_from}
 use Rattle.rota_certificate.specs.Facts.{IsIn}
 use Rattle.rota_certificate.proofs.conditions.first_unmet.Given as goal
 

@@ -6,7 +6,8 @@ use Rattle.rota_core.specs.InstanceTables.{problem_of}
 use Rattle.rota_core.specs.RosterTables.{set_of}
 use Rattle.rota_core.specs.Sizes.{Numbers}
 use Rattle.rota_core.specs.declared.certificate.Fact.TheVariants.{Choice, Nurses}
-use Rattle.rota_certificate.specs.CountedCharges.{numbers_in, plan_from}
+use Rattle.rota_certificate.specs.CountedCharges.{numbers_in}
+use Rattle.rota_certificate.specs.Plans.{plan_from}
 use Rattle.rota_certificate.specs.Facts.{has_choice, is_fact, week_passes}
 use Rattle.rota_certificate.proofs.CountedPlans.{choice-at, chosen-in, numbers-of, nurses-in, planned-at, shape-of}
 use Rattle.rota_certificate.proofs.conditions.is_fact.Goals as goal

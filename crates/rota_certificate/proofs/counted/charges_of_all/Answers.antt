@@ -2,7 +2,7 @@ use Rattle.std.proofs.Common.{◌≡◌, ℕ, ◌∙◌, ap, sym, arith}
 use Rattle.std.proofs.lemmas.Bool.{eqb-true}
 use Rattle.rota_core.specs.Sizes.{Numbers}
 use Rattle.rota_core.specs.SumsBelow.{sum_below}
-use Rattle.rota_certificate.specs.CountedCharges.{plan_from}
+use Rattle.rota_certificate.specs.Plans.{plan_from}
 use Rattle.rota_certificate.specs.Facts.{charges_of_nurse, nurses_of}
 use Rattle.rota_certificate.proofs.CountedPlans.{first-numbers, none-of-all, nurses-of}
 use Rattle.rota_certificate.proofs.counted.charges_of_all.Goals as goal

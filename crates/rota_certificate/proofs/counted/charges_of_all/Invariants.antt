@@ -1,6 +1,6 @@
 use Rattle.std.proofs.Common.{◌≡◌, ◌*◌, ◌≤◌}
 use Rattle.rota_core.specs.SumsBelow.{sum_below}
-use Rattle.rota_certificate.specs.CountedCharges.{plan_from}
+use Rattle.rota_certificate.specs.Plans.{plan_from}
 use Rattle.rota_certificate.specs.Facts.{charges_of_nurse}
 use Rattle.rota_certificate.proofs.counted.charges_of_all.Given as goal
 
