@@ -105,7 +105,7 @@ install:
 	    install -m 644 completions/inrc2pb-commands.fish "$(SHARE)/fish/vendor_completions.d/$$command.fish" || exit; \
 	done
 	install -m 644 $(TOP_PAGES) "$(PAGES)"
-	install -m 644 docs/*.md "$(PAGES)/docs"
+	install -m 644 docs/*.md docs/*.png docs/*.svg "$(PAGES)/docs"
 	sed -E -i 's|\[[^]]*\]\(\.\./(crates/[^)]*)\)|`\1`|g' "$(PAGES)"/docs/*.md
 	install -m 644 bench/README.md bench/*.svg "$(PAGES)/bench"
 	cp -R examples "$(PAGES)"
@@ -120,7 +120,7 @@ uninstall:
 	    "$(SHARE)/fish/vendor_completions.d/$(name).fish") \
 	    $(foreach name,$(COMPLETED) inrc2pb-commands,"$(ZSH)/_$(name)")
 	rm -f $(patsubst python/%,"$(BIN)/%",$(COMMANDS))
-	for page in $(TOP_PAGES) docs/*.md bench/README.md bench/*.svg; do rm -f "$(PAGES)/$$page"; done
+	for page in $(TOP_PAGES) docs/*.md docs/*.png docs/*.svg bench/README.md bench/*.svg; do rm -f "$(PAGES)/$$page"; done
 	find examples -type f ! -name '*.sh' -exec rm -f "$(PAGES)/{}" \;
 	rm -f $(patsubst python/%,"$(SHARE)/inrc2pb/%",$(MODULES))
 	test ! -d "$(SHARE)/inrc2pb" || find "$(SHARE)/inrc2pb" -name __pycache__ -prune -exec rm -r {} +

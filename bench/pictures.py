@@ -1,0 +1,190 @@
+#!/usr/bin/env python3
+"""Draws the pictures of the pages anew.
+
+    bench/pictures.py [wall | page | search]
+
+`wall` is docs/wall.png, the two weeks of examples/ward as they hang on the wall, and `page` is docs/page.png, the local page of the
+ward that `inrc2pb-plan FOLDER new` makes, both by headless Chromium. `search` is docs/search.svg, the penalty and the bound during a
+search for four weeks of 12 nurses, and takes two minutes. All need the programs that `make` leaves in out.
+"""
+
+import os
+import re
+import subprocess
+import sys
+import tempfile
+from math import log10
+from pathlib import Path
+from typing import Dict, List, NamedTuple, Sequence
+
+ROOT = Path(__file__).resolve().parents[1]
+sys.path.insert(0, str(ROOT / "bench"))
+
+import make_weeks  # noqa: E402
+
+WALL = ROOT / "docs" / "wall.png"
+PAGE = ROOT / "docs" / "page.png"
+SEARCH = ROOT / "docs" / "search.svg"
+MOST_BYTES = 120_000
+STEP = 100
+PROGRESS = re.compile(r" *([\d.]+) s  penalty (\d+)(?:  bound (\d+))?")
+PROVED = re.compile(r"lower bound (\d+)")
+
+WIDTH, HEIGHT, LEFT, RIGHT, TOP, BOTTOM = 720, 330, 60, 640, 60, 270
+STYLE = """<style>
+.page { fill: #ffffff } .ink { fill: #1a1a1a } .grid { stroke: #dddddd } .curve { fill: none; stroke-width: 2.5 }
+.penalty { stroke: #a40e26 } .bound { stroke: #0550ae } .of-penalty { fill: #a40e26 } .of-bound { fill: #0550ae }
+@media (prefers-color-scheme: dark) {
+.page { fill: #14171c } .ink { fill: #e8e8e8 } .grid { stroke: #3a404a }
+.penalty { stroke: #ff8f8f } .bound { stroke: #79b8ff } .of-penalty { fill: #ff8f8f } .of-bound { fill: #79b8ff }
+}
+</style>"""
+
+
+class Value(NamedTuple):
+    """What is known from this second of a search on."""
+
+    second: float
+    points: int
+
+
+def programs() -> Dict[str, str]:
+    """The environment in which commands are those of this clone."""
+    return {**os.environ, "PATH": os.pathsep.join([str(ROOT / "out"), str(ROOT / "python"), os.environ["PATH"]])}
+
+
+def run(*words: str, folder: str = ".") -> "subprocess.CompletedProcess[str]":
+    """Runs a command with the programs of this clone."""
+    return subprocess.run(words, cwd=folder, env=programs(), stdout=subprocess.PIPE, stderr=subprocess.PIPE, text=True, check=True)
+
+
+def shoot(address: str, picture: Path, size: str) -> None:
+    """Draws a page in a window of this size."""
+    run(
+        "chromium", "--headless", "--no-sandbox", "--hide-scrollbars", "--force-device-scale-factor=1.25", f"--window-size={size}",
+        f"--screenshot={picture}", address,
+    )  # fmt: skip
+    if picture.stat().st_size > MOST_BYTES:
+        sys.exit(f"pictures.py: {picture} has more than {MOST_BYTES} bytes")
+
+
+def files(folder: Path, weeks: int, histories: int = 1) -> List[str]:
+    """The options that name the files of the first weeks of a ward."""
+    return [
+        "--sce", str(folder / "ward.txt"),
+        "--his", *(str(folder / f"history-{number}.txt") for number in range(histories)),
+        "--week", *(str(folder / f"week-{number}.txt") for number in range(weeks)),
+    ]  # fmt: skip
+
+
+def draw_wall() -> None:
+    """Draws the page for the wall."""
+    ward = ROOT / "examples" / "ward"
+    with tempfile.TemporaryDirectory() as folder:
+        second, page = f"{folder}/roster-1.txt", f"{folder}/wall.html"
+        week = ["--sce", str(ward / "ward.txt"), "--his", str(ward / "history-1.txt"), "--week", str(ward / "week-1.txt")]
+        run("inrc2pb", "decode", *week, "--answer", str(ward / "answers" / "clasp-ward-1.txt"), "--sol", second)
+        rosters = ["--roster", str(ward / "roster-0.txt"), second]
+        run(
+            "inrc2pb-roster", "show", *files(ward, 2, 2), *rosters, "--monday", "2026-11-30", "--html", "--only-table", "--out", page
+        )  # fmt: skip
+        shoot(page, WALL, "1160,350")
+
+
+def draw_page() -> None:
+    """Draws the local page after a first plan."""
+    with tempfile.TemporaryDirectory() as folder:
+        for verb in (["new"], ["plan", "--time", "10"]):
+            run("inrc2pb-plan", "my ward", *verb, folder=folder)
+        with subprocess.Popen(
+            ["inrc2pb-plan", "my ward", "serve"], cwd=folder, env=programs(), stdout=subprocess.PIPE, text=True
+        ) as server:  # fmt: skip
+            assert server.stdout
+            told = next(line for line in server.stdout if "http://" in line)
+            shoot(told.split()[-1], PAGE, "1060,470")
+            server.terminate()
+
+
+def searched() -> Dict[str, List[Value]]:
+    """The penalty and the bound of a search, as they become known."""
+    with tempfile.TemporaryDirectory() as folder:
+        make_weeks.period(Path(folder), "ward", 12, 4, 100, 501)
+        ended = run("inrc2pb-solve", *files(Path(folder) / "ward", 4), "--out", folder, "--time", "30")
+    known: Dict[str, List[Value]] = {"penalty": [], "bound": []}
+    for second, penalty, bound in PROGRESS.findall(ended.stderr):
+        known["penalty"].append(Value(float(second), int(penalty)))
+        if bound:
+            known["bound"].append(Value(float(second), int(bound)))
+    last = PROVED.search(ended.stdout)
+    if last:
+        end = max(value.second for values in known.values() for value in values) + 1
+        known["bound"].append(Value(end, int(last.group(1))))
+    return known
+
+
+def across(second: float, last: float) -> float:
+    """The column of a second: the first seconds have as much room as the later ones."""
+    return LEFT + log10(1 + second) / log10(1 + last) * (RIGHT - LEFT)
+
+
+def up(points: int, low: int, high: int) -> float:
+    """The row of a number of points."""
+    return BOTTOM - (points - low) / (high - low) * (BOTTOM - TOP)
+
+
+def curve(name: str, values: Sequence[Value], last: float, low: int, high: int) -> List[str]:
+    """A line that stays level until something better is known, and its name."""
+    places: List[str] = []
+    for before, value in zip((None, *values), values):
+        column = across(value.second, last)
+        if before:
+            places.append(f"{column:.1f},{up(before.points, low, high):.1f}")
+        places.append(f"{column:.1f},{up(value.points, low, high):.1f}")
+    end = up(values[-1].points, low, high)
+    places.append(f"{RIGHT},{end:.1f}")
+    label = end - 10 if name == "penalty" else end + 20
+    return [
+        f'<polyline class="curve {name}" points="{" ".join(places)}"/>',
+        f'<text class="of-{name}" x="{RIGHT}" y="{label:.1f}" text-anchor="end">{name} {values[-1].points}</text>',
+    ]
+
+
+def search_picture(known: Dict[str, List[Value]]) -> str:
+    """The picture of a search."""
+    last = max(value.second for values in known.values() for value in values) * 1.1
+    points = [value.points for values in known.values() for value in values]
+    low, high = STEP * (min(points) // STEP), STEP * -(-max(points) // STEP)
+    parts = [
+        f'<svg xmlns="http://www.w3.org/2000/svg" viewBox="0 0 {WIDTH} {HEIGHT}" font-family="sans-serif" font-size="13">',
+        STYLE,
+        f'<rect class="page" width="{WIDTH}" height="{HEIGHT}"/>',
+        f'<text class="ink" x="{LEFT}" y="28" font-size="15">points of the best plan so far, and points that every plan costs</text>',
+        f'<text class="ink" x="{(LEFT + RIGHT) // 2}" y="{HEIGHT - 16}" text-anchor="middle">seconds of the search</text>',
+    ]
+    for mark in range(low, high + 1, STEP):
+        row = up(mark, low, high)
+        parts.append(f'<line class="grid" x1="{LEFT}" x2="{RIGHT}" y1="{row:.1f}" y2="{row:.1f}"/>')
+        parts.append(f'<text class="ink" x="{LEFT - 8}" y="{row + 4:.1f}" text-anchor="end">{mark}</text>')
+    for second in (0, 1, 2, 5, 10, 20, 50, 100, 200):
+        if second <= last:
+            parts.append(f'<text class="ink" x="{across(second, last):.1f}" y="{BOTTOM + 18}" text-anchor="middle">{second}</text>')
+    for name, values in known.items():
+        parts += curve(name, values, last, low, high)
+    return "\n".join([*parts, "</svg>"]) + "\n"
+
+
+def main(words: Sequence[str]) -> int:
+    chosen = words or ("wall", "page", "search")
+    if set(chosen) - {"wall", "page", "search"}:
+        sys.exit(__doc__)
+    if "wall" in chosen:
+        draw_wall()
+    if "page" in chosen:
+        draw_page()
+    if "search" in chosen:
+        SEARCH.write_text(search_picture(searched()))
+    return 0
+
+
+if __name__ == "__main__":
+    sys.exit(main(sys.argv[1:]))
