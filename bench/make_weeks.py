@@ -169,7 +169,8 @@ def period(folder: Path, name: str, count: int, weeks: int, percent: int, seed: 
     ward = scenario(name, nurses_of_ward(count))
     contracts = {
         contract.name: replace(
-            contract, assignments=Limits(times * contract.assignments.minimum, times * contract.assignments.maximum),
+            contract,
+            assignments=Limits(times * contract.assignments.minimum, times * contract.assignments.maximum),
             max_weekends=times * contract.max_weekends,
         )
         for contract in CONTRACTS

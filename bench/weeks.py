@@ -189,7 +189,9 @@ def main() -> None:
     elif len(sys.argv) == 4 and sys.argv[1] == "files" and sys.argv[2] in SIZES:
         write_files(SIZES[sys.argv[2]], sys.argv[3])
     elif (
-        len(sys.argv) == 4 and sys.argv[1] == "period" and sys.argv[2].isdecimal()
+        len(sys.argv) == 4
+        and sys.argv[1] == "period"
+        and sys.argv[2].isdecimal()
         and FEWEST_OF_PERIOD <= int(sys.argv[2]) <= MOST_OF_PERIOD
     ):
         write_period(int(sys.argv[2]), Path(sys.argv[3]))

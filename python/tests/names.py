@@ -20,7 +20,9 @@ def python_files() -> List[Path]:
     """The Python files of the repository, those without an ending too."""
     listed = subprocess.run(["git", "ls-files", "-z"], cwd=ROOT, stdout=subprocess.PIPE, check=True, universal_newlines=True).stdout
     files = [ROOT / name for name in listed.split("\0") if name]
-    return [file for file in files if file.is_file() and (file.suffix == ".py" or file.read_bytes()[:40].startswith(b"#!/usr/bin/env python3"))]
+    return [
+        file for file in files if file.is_file() and (file.suffix == ".py" or file.read_bytes()[:40].startswith(b"#!/usr/bin/env python3"))
+    ]
 
 
 def faults(file: Path) -> Iterator[str]:

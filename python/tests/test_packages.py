@@ -9,7 +9,11 @@ from ward import HelperTest
 class Imports(HelperTest):
     def faults(self, **modules):
         """The faults of a library in which `high` may import `low`, with these modules in place of its own."""
-        texts = {"low/one": "from .two import name\n", "low/two": "name = 1\n", "high/three": "from ..low.one import name\nfrom ..low import two\n"}
+        texts = {
+            "low/one": "from .two import name\n",
+            "low/two": "name = 1\n",
+            "high/three": "from ..low.one import name\nfrom ..low import two\n",
+        }
         for module, text in {**texts, **{module.replace("_", "/"): text for module, text in modules.items()}}.items():
             path = self.folder / f"{module}.py"
             path.parent.mkdir(exist_ok=True)
@@ -30,7 +34,9 @@ class Imports(HelperTest):
         self.assertEqual(found, ["low.one is in a circle of imports", "low.two is in a circle of imports"])
 
     def test_a_private_name(self):
-        self.assertEqual(self.faults(high_three="from ..low.two import _hidden\n"), ["high.three imports _hidden, a private name of low.two"])
+        self.assertEqual(
+            self.faults(high_three="from ..low.two import _hidden\n"), ["high.three imports _hidden, a private name of low.two"]
+        )
 
 
 if __name__ == "__main__":

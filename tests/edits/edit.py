@@ -30,11 +30,11 @@ def changes_of(text: str) -> Tuple[Change, ...]:
     path, old, found = "", "", []
     for line in text.split("\n"):
         if line.startswith("file: "):
-            path = line[len("file: "):].strip()
+            path = line[len("file: ") :].strip()
         elif line.startswith("old: "):
-            old = line[len("old: "):]
+            old = line[len("old: ") :]
         elif line.startswith("new:"):
-            found.append(Change(path, old, line[len("new:"):][line.startswith("new: "):]))
+            found.append(Change(path, old, line[len("new:") :][line.startswith("new: ") :]))
     return tuple(found)
 
 

@@ -74,7 +74,7 @@ def functions_of(path: str, text: str) -> List[Place]:
         elif line.startswith("}"):
             owner = module
         if head:
-            heads.append((owner, head[1], number - above(lines[:number - 1])))
+            heads.append((owner, head[1], number - above(lines[: number - 1])))
     lasts = [number - 1 for _, _, number in heads[1:]] + [len(lines)]
     return [Place(path, owner, name, first, last) for (owner, name, first), last in zip(heads, lasts)]
 

@@ -58,7 +58,7 @@ def function_of(path: str) -> str:
         return path
     # A method's type begins with a capital.
     names = rest.split("::")
-    return "::".join([head, *names[:2 if names[0][:1].isupper() else 1]])
+    return "::".join([head, *names[: 2 if names[0][:1].isupper() else 1]])
 
 
 def proof_folder(function: str) -> str:

@@ -53,7 +53,7 @@ def named(header):
 
 def without(prefix, text):
     """The text after this prefix, if it begins with it."""
-    return text[len(prefix):] if text.startswith(prefix) else text
+    return text[len(prefix) :] if text.startswith(prefix) else text
 
 
 def body_of(lines, head, indent):
@@ -84,9 +84,9 @@ def functions(path, module, exports, is_open):
         outer = owner if indent else []
         seen = outer[-1] in exports if outer else f"{module}::{name}" in exports
         public = (visible == "pub " or shares and outer != []) and (seen or is_open)
-        clauses = [(label, " ".join(text.split())) for label, text in PROMISE.findall("\n".join(lines[start:begin + 1]))]
+        clauses = [(label, " ".join(text.split())) for label, text in PROMISE.findall("\n".join(lines[start : begin + 1]))]
         whole = "::".join([" for ".join(outer), name] if outer else [name])
-        law = bool(CITES.fullmatch("".join(lines[begin + 1:end])))
+        law = bool(CITES.fullmatch("".join(lines[begin + 1 : end])))
         fixed = fix_all(text.rstrip(" }") for _, text in clauses)
         found.append(Function(whole, start, end, public, law, fixed, [promise(*clause) for clause in clauses]))
     return found
@@ -133,7 +133,7 @@ def turned(edit, crate):
         elif line.startswith("new:"):
             if texts[path].count(old) != 1:
                 return places, f"{texts[path].count(old)} times in {path}: {old}"
-            places.append((path, texts[path][:texts[path].index(old)].count("\n")))
+            places.append((path, texts[path][: texts[path].index(old)].count("\n")))
             texts[path] = texts[path].replace(old, without(" ", line[4:]))
     return places, None
 

@@ -114,7 +114,9 @@ def texts(text: str, words: List[str]) -> List[str]:
     count = len(tokens)
     return [
         "".join([*tokens[:number], f"{word} ", *tokens[rest:]])
-        for number in range(count + 1) for word in words for rest in (number + 1, number, count)
+        for number in range(count + 1)
+        for word in words
+        for rest in (number + 1, number, count)
     ]
 
 

@@ -22,10 +22,12 @@ def week_of(draft):
     limits = records.Limits
     shifts = {
         shift: records.ShiftType(shift, limits(*pair), tuple(after for after in draft.shifts if (shift, after) in draft.forbidden))
-        for shift, pair in draft.shifts.items()}
+        for shift, pair in draft.shifts.items()
+    }
     contracts = {
         name: records.Contract(name, limits(*one.total), limits(*one.work), limits(*one.off), one.weekends, bool(one.complete))
-        for name, one in draft.contracts.items()}
+        for name, one in draft.contracts.items()
+    }
     nurses = {name: records.Nurse(name, one.contract, tuple(one.skills)) for name, one in draft.nurses.items()}
     history = {
         name: records.NurseHistory(
@@ -38,29 +40,45 @@ def week_of(draft):
     return records.Week(
         records.Scenario(draft.name, draft.weeks, tuple(draft.skills), shifts, contracts, nurses),
         records.History(draft.number, draft.name, history),
-        records.WeekData(draft.name, required, requests))
+        records.WeekData(draft.name, required, requests),
+    )
 
 
 def draft_of(week):
     """The draft of a week."""
     ward, data = week.scenario, week.data
     return SimpleNamespace(
-        name=ward.name, weeks=ward.weeks, number=week.history.week, skills=list(ward.skills),
+        name=ward.name,
+        weeks=ward.weeks,
+        number=week.history.week,
+        skills=list(ward.skills),
         shifts={name: tuple(one.consecutive) for name, one in ward.shift_types.items()},
         forbidden={(name, after) for name, one in ward.shift_types.items() for after in one.forbidden_next},
         contracts={
             name: SimpleNamespace(
-                total=tuple(one.assignments), work=tuple(one.working_days), off=tuple(one.days_off), weekends=one.max_weekends,
-                complete=int(one.complete_weekends))
-            for name, one in ward.contracts.items()},
+                total=tuple(one.assignments),
+                work=tuple(one.working_days),
+                off=tuple(one.days_off),
+                weekends=one.max_weekends,
+                complete=int(one.complete_weekends),
+            )
+            for name, one in ward.contracts.items()
+        },
         nurses={name: SimpleNamespace(contract=one.contract, skills=list(one.skills)) for name, one in ward.nurses.items()},
         history={
             name: SimpleNamespace(
-                assignments=one.assignments, weekends=one.weekends, last=one.last_shift or "None", same=one.consecutive_shifts,
-                work=one.working_days, off=one.days_off)
-            for name, one in week.history.nurses.items()},
+                assignments=one.assignments,
+                weekends=one.weekends,
+                last=one.last_shift or "None",
+                same=one.consecutive_shifts,
+                work=one.working_days,
+                off=one.days_off,
+            )
+            for name, one in week.history.nurses.items()
+        },
         required={tuple(place): (one.minimum, one.optimal) for place, one in data.requirements.items()},
-        requests=[(one.nurse, one.shift or "Any", one.day) for one in data.requests])
+        requests=[(one.nurse, one.shift or "Any", one.day) for one in data.requests],
+    )
 
 
 def read_week(scenario, history, week):

@@ -161,8 +161,16 @@ def check(program: str, folder: str, case: Case) -> Tuple[bool, ...]:
     if certificate.tree[0] == "SPLIT":
         check_repeated_fact(runs, case, random.Random("fact"))
     return (
-        len(period.weeks) > 1, certificate.tree[0] == "SPLIT", any(fact[0] != "CHOICE" for fact, _ in period.given), 0 < bound < NONE,
-        plans.all_tried and cheapest == bound < NONE, plans.all_tried and not plans.kept, minimums > 0, rules > 0, facts > 0)
+        len(period.weeks) > 1,
+        certificate.tree[0] == "SPLIT",
+        any(fact[0] != "CHOICE" for fact, _ in period.given),
+        0 < bound < NONE,
+        plans.all_tried and cheapest == bound < NONE,
+        plans.all_tried and not plans.kept,
+        minimums > 0,
+        rules > 0,
+        facts > 0,
+    )
 
 
 # ---- a case that fails
@@ -248,6 +256,20 @@ def try_number(program: str, seed: int, number: int):  # type: ignore[no-untyped
 
 
 if __name__ == "__main__":
-    run_trials(__doc__, try_number, (
-        "of several weeks", "with several leaves", "with facts", "with a bound above 0", "with an optimal plan", "without a plan",
-        "proved to have none", "with a plan that breaks a rule", "with one that breaks a fact"), "periods", 120)
+    run_trials(
+        __doc__,
+        try_number,
+        (
+            "of several weeks",
+            "with several leaves",
+            "with facts",
+            "with a bound above 0",
+            "with an optimal plan",
+            "without a plan",
+            "proved to have none",
+            "with a plan that breaks a rule",
+            "with one that breaks a fact",
+        ),
+        "periods",
+        120,
+    )

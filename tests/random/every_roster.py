@@ -176,6 +176,15 @@ def try_number(program, seed, number):
 
 
 if __name__ == "__main__":
-    run_trials(__doc__, try_number, (
-        "sets of cells", "of them rosters that keep the hard rules", "weeks without a roster" + ", as clasp proves" * HAS_CLASP,
-        "answers that satisfy the model", "that do not"), default=64)
+    run_trials(
+        __doc__,
+        try_number,
+        (
+            "sets of cells",
+            "of them rosters that keep the hard rules",
+            "weeks without a roster" + ", as clasp proves" * HAS_CLASP,
+            "answers that satisfy the model",
+            "that do not",
+        ),
+        default=64,
+    )

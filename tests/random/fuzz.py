@@ -63,15 +63,17 @@ def change_bytes(chance, text):
     end = min(len(text), begin + chance.choice([1, 1, 2, 5, 40, 400]))
     piece = text[begin:end]
     other = chance.randrange(len(text) + 1)
-    return chance.choice([
-        lambda: text[:begin],
-        lambda: text[:begin] + text[end:],
-        lambda: text[:end] + piece + text[end:],
-        lambda: text[:begin] + piece[::-1] + text[end:],
-        lambda: text[:begin] + chr(chance.randrange(256)) + text[begin + 1 :],
-        lambda: text[:begin] + chance.choice([" ", "\n", "\r\n", "\t", "(", ",", "=", "-", "x", "\0", "\xff"]) + text[begin:],
-        lambda: text[:other] + piece + text[other:],
-    ])()
+    return chance.choice(
+        [
+            lambda: text[:begin],
+            lambda: text[:begin] + text[end:],
+            lambda: text[:end] + piece + text[end:],
+            lambda: text[:begin] + piece[::-1] + text[end:],
+            lambda: text[:begin] + chr(chance.randrange(256)) + text[begin + 1 :],
+            lambda: text[:begin] + chance.choice([" ", "\n", "\r\n", "\t", "(", ",", "=", "-", "x", "\0", "\xff"]) + text[begin:],
+            lambda: text[:other] + piece + text[other:],
+        ]
+    )()
 
 
 def change_words(chance, text):
@@ -109,12 +111,16 @@ def change_lines(chance, text):
         return text
     one, other = chance.randrange(len(lines)), chance.randrange(len(lines))
     low, high = min(one, other), max(one, other) + 1
-    return "".join(chance.choice([
-        lambda: lines[:one] + lines[one + 1 :],
-        lambda: lines[:one] + [lines[one]] + lines[one:],
-        lambda: lines[:low] + lines[low:high][::-1] + lines[high:],
-        lambda: lines[low:high] + lines[:low] + lines[high:],
-    ])())
+    return "".join(
+        chance.choice(
+            [
+                lambda: lines[:one] + lines[one + 1 :],
+                lambda: lines[:one] + [lines[one]] + lines[one:],
+                lambda: lines[:low] + lines[low:high][::-1] + lines[high:],
+                lambda: lines[low:high] + lines[:low] + lines[high:],
+            ]
+        )()
+    )
 
 
 def changed(chance, text):

@@ -84,8 +84,12 @@ def random_held(chance, week, roster) -> list:
 def restriction(chance, period: Period, rosters):
     """A condition about a day on which a nurse has several choices, true of the rosters."""
     days = [
-        (week, nurse, day) for week in range(len(period.weeks)) for nurse in period.nurses for day in range(7)
-        if len(choices(period, week, nurse, day)) > 1]
+        (week, nurse, day)
+        for week in range(len(period.weeks))
+        for nurse in period.nurses
+        for day in range(7)
+        if len(choices(period, week, nurse, day)) > 1
+    ]
     week, nurse, day = chance.choice(days)
     shift = next((cell[2] for cell in rosters[week] if cell[:2] == (nurse, day)), None)
     found = list(choices(period, week, nurse, day))
@@ -111,8 +115,9 @@ def random_fact(chance, period: Period) -> plain_plans.Fact:
 
 def random_prices(chance, period: Period):
     """A price for each place, in thousandths."""
-    kinds: Sequence[int] = chance.choice([
-        [0], [0, 30_000], [22_500, 30_000], [0, 10_000, 17_500, 30_000, 40_000], [0, 29_999, 30_001, MAX_PRICE], range(60_001)])
+    kinds: Sequence[int] = chance.choice(
+        [[0], [0, 30_000], [22_500, 30_000], [0, 10_000, 17_500, 30_000, 40_000], [0, 29_999, 30_001, MAX_PRICE], range(60_001)]
+    )
     return {place: chance.choice(kinds) for place in period.demands if chance.random() < 0.9}
 
 
@@ -170,8 +175,12 @@ def whole_certificate(period: Period) -> Certificate:
                 if shift:
                     place = (week, day, shift, skills[0])
                     present[place] = present.get(place, 0) + 1
-        prices.append({place: 30_000 * (present.get(place, 0) <= optimal or present.get(place, 0) < minimum)
-                       for place, (minimum, optimal) in period.demands.items()})
+        prices.append(
+            {
+                place: 30_000 * (present.get(place, 0) <= optimal or present.get(place, 0) < minimum)
+                for place, (minimum, optimal) in period.demands.items()
+            }
+        )
         return "LEAF", len(prices) - 1, []
 
     return Certificate(prices, below(0, []))

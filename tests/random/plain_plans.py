@@ -49,7 +49,11 @@ class Period:
         """The minimum and the optimal number of each place."""
         return {
             (number, day, shift, skill): draft.required.get((day, shift, skill), (0, 0))
-            for number, draft in enumerate(self.weeks) for day in range(DAYS) for shift in draft.shifts for skill in draft.skills}
+            for number, draft in enumerate(self.weeks)
+            for day in range(DAYS)
+            for shift in draft.shifts
+            for skill in draft.skills
+        }
 
     def is_last(self, week: int) -> bool:
         """Whether this week is the last one of the scenario."""
@@ -126,9 +130,11 @@ def charged(period: Period, week: int, nurse: str, past: Past, shifts: Sequence[
     weekend = int(works[5] or works[6])
     missing = max(0, contract.total[0] - past.shifts - sum(works)) if is_last else 0
     counts = {
-        "SHIFT_RUNS": of_shifts, "WORK_DAYS": work_above,
+        "SHIFT_RUNS": of_shifts,
+        "WORK_DAYS": work_above,
         "SHIFTS": excess(past.shifts, sum(works), contract.total[1], period.early, is_last),
-        "WEEKENDS": excess(past.weekends, weekend, contract.weekends, period.early, is_last)}
+        "WEEKENDS": excess(past.weekends, weekend, contract.weekends, period.early, is_last),
+    }
     fixed = 30 * (work_below + off_above + off_below) + 10 * requests + 20 * missing
     fixed += 30 * (bool(contract.complete) and works[5] != works[6])
     return Charged(counts, fixed, Past(past.shifts + sum(works), past.weekends + weekend, shifts[6], on_sunday, work, off))

@@ -102,9 +102,12 @@ def met_classes(week, roster):
     """What is met in some weeks only."""
     contracts = [week.contracts[one.contract] for one in week.nurses.values()]
     limits = {
-        "S1 numbers": week.required.values(), "S2 shift limits": week.shifts.values(),
-        "S2 work limits": [one.work for one in contracts], "S3 limits": [one.off for one in contracts],
-        "S6 limits": [one.total for one in contracts]}
+        "S1 numbers": week.required.values(),
+        "S2 shift limits": week.shifts.values(),
+        "S2 work limits": [one.work for one in contracts],
+        "S3 limits": [one.off for one in contracts],
+        "S6 limits": [one.total for one in contracts],
+    }
     for what, pairs in limits.items():
         if any(least > most for least, most in pairs):
             yield f"{what} with the minimum above"
@@ -115,14 +118,44 @@ def met_classes(week, roster):
         yield "S6 above already in the history"
 
 
-COUNTED = ["S1 missing", "S2 shift above", "S2 shift below", "S2 work above", "S2 work below", "S3 off above",
-           "S3 off below", "S4 shift", "S4 Any", "S5 half", "S6 below, last week", "S6 above, last week",
-           "S6 above, before", "S7 above, last week", "S7 above, before"]
-BROKEN = ["kept", "H1 two shift types", "H1 two skills", "H2", "H3 after the history", "H3 within the week", "H4",
-          "H5 the first row", "H5 a later row", "H5 another skill"]
-MET = ["S1 numbers with the minimum above", "S2 shift limits with the minimum above", "S2 work limits with the minimum above",
-       "S3 limits with the minimum above", "S6 limits with the minimum above", "S4 a row that stands twice",
-       "S6 above already in the history"]
+COUNTED = [
+    "S1 missing",
+    "S2 shift above",
+    "S2 shift below",
+    "S2 work above",
+    "S2 work below",
+    "S3 off above",
+    "S3 off below",
+    "S4 shift",
+    "S4 Any",
+    "S5 half",
+    "S6 below, last week",
+    "S6 above, last week",
+    "S6 above, before",
+    "S7 above, last week",
+    "S7 above, before",
+]
+BROKEN = [
+    "kept",
+    "H1 two shift types",
+    "H1 two skills",
+    "H2",
+    "H3 after the history",
+    "H3 within the week",
+    "H4",
+    "H5 the first row",
+    "H5 a later row",
+    "H5 another skill",
+]
+MET = [
+    "S1 numbers with the minimum above",
+    "S2 shift limits with the minimum above",
+    "S2 work limits with the minimum above",
+    "S3 limits with the minimum above",
+    "S6 limits with the minimum above",
+    "S4 a row that stands twice",
+    "S6 above already in the history",
+]
 
 
 def classes():

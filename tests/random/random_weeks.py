@@ -60,21 +60,32 @@ def random_week(chance, nurses=5, shifts=3, skills=3):
     week.forbidden = {(p, t) for p in week.shifts for t in week.shifts if chance.random() < 0.25}
     week.contracts = {
         f"c{c}": SimpleNamespace(
-            total=limits(chance, 20), work=limits(chance, 6), off=limits(chance, 5),
-            weekends=chance.randint(0, 3), complete=chance.randint(0, 1))
-        for c in range(chance.randint(1, 3))}
+            total=limits(chance, 20),
+            work=limits(chance, 6),
+            off=limits(chance, 5),
+            weekends=chance.randint(0, 3),
+            complete=chance.randint(0, 1),
+        )
+        for c in range(chance.randint(1, 3))
+    }
     week.nurses = {
-        f"n{n}": SimpleNamespace(
-            contract=chance.choice(list(week.contracts)), skills=[k for k in week.skills if chance.random() < 0.8])
-        for n in range(chance.randint(1, nurses))}
+        f"n{n}": SimpleNamespace(contract=chance.choice(list(week.contracts)), skills=[k for k in week.skills if chance.random() < 0.8])
+        for n in range(chance.randint(1, nurses))
+    }
     week.history = {
         nurse: SimpleNamespace(
-            assignments=chance.randint(0, 12), weekends=chance.randint(0, 4), last=chance.choice(["None", *week.shifts]),
-            same=chance.randint(0, 5), work=chance.randint(0, 6), off=chance.randint(0, 5))
-        for nurse in shuffled(chance, week.nurses)}
+            assignments=chance.randint(0, 12),
+            weekends=chance.randint(0, 4),
+            last=chance.choice(["None", *week.shifts]),
+            same=chance.randint(0, 5),
+            work=chance.randint(0, 6),
+            off=chance.randint(0, 5),
+        )
+        for nurse in shuffled(chance, week.nurses)
+    }
     week.requests = [
-        (chance.choice(list(week.nurses)), chance.choice(["Any", *week.shifts]), chance.randrange(7))
-        for _ in range(chance.randint(0, 8))]
+        (chance.choice(list(week.nurses)), chance.choice(["Any", *week.shifts]), chance.randrange(7)) for _ in range(chance.randint(0, 8))
+    ]
     week.requests += [chance.choice(week.requests) for _ in range(chance.randint(0, 2)) if week.requests]
     roster = legal_roster(chance, week)
     week.required = random_requirements(chance, week, roster)

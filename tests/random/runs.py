@@ -5,9 +5,7 @@ import subprocess
 
 from drafts import SOFT_RULES
 
-FILES = {
-    "sce": "scenario.txt", "his": "history.txt", "week": "week.txt", "fix": "fix.txt",
-    "roster": "roster.txt", "answer": "answer.txt"}
+FILES = {"sce": "scenario.txt", "his": "history.txt", "week": "week.txt", "fix": "fix.txt", "roster": "roster.txt", "answer": "answer.txt"}
 
 
 class Wrong(Exception):
@@ -51,10 +49,15 @@ class Runs:
         """The status, standard output and standard error of a run; with pieces, those of an answer at standard input."""
         words = self.words(command, *words)
         self.shown = " ".join(["inrc2pb", *words]) + (
-            f" < answer.txt, in pieces of {', '.join(str(len(piece)) for piece in pieces)} bytes" if pieces else "")
+            f" < answer.txt, in pieces of {', '.join(str(len(piece)) for piece in pieces)} bytes" if pieces else ""
+        )
         process = subprocess.Popen(
-            [self.program, *words], cwd=self.folder, stdout=subprocess.PIPE, stderr=subprocess.PIPE,
-            stdin=subprocess.PIPE if pieces else subprocess.DEVNULL)
+            [self.program, *words],
+            cwd=self.folder,
+            stdout=subprocess.PIPE,
+            stderr=subprocess.PIPE,
+            stdin=subprocess.PIPE if pieces else subprocess.DEVNULL,
+        )
         try:
             for piece in pieces or ():
                 process.stdin.write(piece.encode("latin-1"))

@@ -21,7 +21,8 @@ def consistent(week, rosters):
     week.requests = [(n, s, d) for n, s, d in week.requests if n in week.nurses and (s == "Any" or s in week.shifts)]
     return week, {
         name: [(n, d, s, k) for n, d, s, k in roster if n in week.nurses and s in week.shifts and k in week.skills]
-        for name, roster in rosters.items()}
+        for name, roster in rosters.items()
+    }
 
 
 class Shrinking:
@@ -50,8 +51,10 @@ class Shrinking:
             size //= 2
 
     def drop_files(self):
-        self.drop([name for name in self.case if name not in ("sce", "his", "week")], lambda kept: {
-            name: text for name, text in self.case.items() if name in ("sce", "his", "week", *kept)})
+        self.drop(
+            [name for name in self.case if name not in ("sce", "his", "week")],
+            lambda kept: {name: text for name, text in self.case.items() if name in ("sce", "his", "week", *kept)},
+        )
 
     def drop_of_week(self):
         """What is asked for, then names with all that speaks of them, then cells. Whether the files are laid out plainly."""

@@ -110,9 +110,7 @@ def can_work(scenario: Scenario, history: Optional[History], away: Collection[Ab
     return place.skill in scenario.nurses[nurse].skills and is_free and may_follow
 
 
-def _shortage(
-    scenario: Scenario, history: Optional[History], data: WeekData, day: int, away: Collection[Absence]
-) -> Optional[_Short]:
+def _shortage(scenario: Scenario, history: Optional[History], data: WeekData, day: int, away: Collection[Absence]) -> Optional[_Short]:
     """The places of a day that need more nurses at once than could fill them, if there are any."""
     places = [
         place for place, asked in data.requirements.items() if place.day == day for _ in range(min(asked.minimum, len(scenario.nurses) + 1))

@@ -21,7 +21,9 @@ def scenario_warnings(scenario: Scenario) -> Iterator[str]:
         yield from _reversed_limits(f"shift type {shift.name}", shift.consecutive)
     for contract in scenario.contracts.values():
         for what, limits in (
-            ("assignments", contract.assignments), ("working days", contract.working_days), ("days off", contract.days_off),
+            ("assignments", contract.assignments),
+            ("working days", contract.working_days),
+            ("days off", contract.days_off),
         ):
             yield from _reversed_limits(f"contract {contract.name}, {what}", limits)
         yield from _too_many_assignments(contract, scenario.weeks)

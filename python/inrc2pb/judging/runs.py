@@ -68,7 +68,13 @@ class Runs:
     """
 
     def __init__(
-        self, types: Sequence[ShiftType], contract: Contract, days: int, charging: bool = True, shift_run: int = SHIFT_RUN, above: int = 0,
+        self,
+        types: Sequence[ShiftType],
+        contract: Contract,
+        days: int,
+        charging: bool = True,
+        shift_run: int = SHIFT_RUN,
+        above: int = 0,
         beside: Beside = Beside(),
     ) -> None:
         self.days, self.charging, self.contract, self._shift_run, self._above = days, charging, contract, shift_run, above

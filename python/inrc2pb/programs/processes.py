@@ -86,7 +86,11 @@ class Processes:
             if self._stopped:
                 return Ended(-signal.SIGKILL, "", True)
             process = subprocess.Popen(
-                list(words), cwd=str(folder), stdin=subprocess.DEVNULL, stdout=subprocess.PIPE, stderr=subprocess.PIPE,
+                list(words),
+                cwd=str(folder),
+                stdin=subprocess.DEVNULL,
+                stdout=subprocess.PIPE,
+                stderr=subprocess.PIPE,
                 start_new_session=True,
             )
             self._running[process] = ending
@@ -109,7 +113,11 @@ class Processes:
         when this process does."""
         with self._lock:
             process = subprocess.Popen(
-                list(words), cwd=str(folder), stdin=subprocess.PIPE, stdout=subprocess.PIPE, stderr=subprocess.DEVNULL,
+                list(words),
+                cwd=str(folder),
+                stdin=subprocess.PIPE,
+                stdout=subprocess.PIPE,
+                stderr=subprocess.DEVNULL,
                 start_new_session=True,
             )
             self._running[process] = signal.SIGKILL

@@ -51,7 +51,12 @@ class CaseTree:
     which is to be proved. `heard` is called if the bound rises."""
 
     def __init__(
-        self, pricing: CasePricing, prices: Prices, best: Callable[[], Points], take: Take, heard: Callable[[], None] = lambda: None,
+        self,
+        pricing: CasePricing,
+        prices: Prices,
+        best: Callable[[], Points],
+        take: Take,
+        heard: Callable[[], None] = lambda: None,
     ) -> None:
         self._pricing, self._best, self._take, self._heard = pricing, best, take, heard
         self.root = CaseNode((), pricing.limits(()), Proved(prices, 0, Thousandths(0)))

@@ -70,7 +70,11 @@ class Plan:
 
     @staticmethod
     def of(
-        scenario: Scenario, history: History, weeks: Sequence[WeekData], early: bool = False, held: Iterable[Cell] = (),
+        scenario: Scenario,
+        history: History,
+        weeks: Sequence[WeekData],
+        early: bool = False,
+        held: Iterable[Cell] = (),
         keeping: Keeping = STRICT,
     ) -> "Plan":
         """The plan of these weeks, which follow the history. The days of held rows are those of the plan."""

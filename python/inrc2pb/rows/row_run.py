@@ -45,8 +45,15 @@ class RowRun:
     final. The `seed` begins its random choices. Without `splits` no cases raise the bound of the prices."""
 
     def __init__(
-        self, plan: Plan, solver: Optional[LinearSolver], clock: Clock, offer: Offer, heard: Callable[[], None],
-        start: Optional[List[NurseWeek]] = None, seed: int = 1, splits: bool = True,
+        self,
+        plan: Plan,
+        solver: Optional[LinearSolver],
+        clock: Clock,
+        offer: Offer,
+        heard: Callable[[], None],
+        start: Optional[List[NurseWeek]] = None,
+        seed: int = 1,
+        splits: bool = True,
     ) -> None:
         self.plan = plan
         self._solver, self._clock, self._offer, self._heard, self._start = solver, clock, offer, heard, start

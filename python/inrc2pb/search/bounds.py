@@ -62,9 +62,7 @@ class Prover:
         except ProgramFault:
             return False
 
-    def answer(
-        self, options: Sequence[str], name: str, certificate: Certificate, given: Sequence[Claim], seconds: float
-    ) -> Optional[str]:
+    def answer(self, options: Sequence[str], name: str, certificate: Certificate, given: Sequence[Claim], seconds: float) -> Optional[str]:
         """What the program prints about the weeks of these options, by a certificate, for the plans that keep the facts."""
         if self._program is None:
             return None

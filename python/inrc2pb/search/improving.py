@@ -34,9 +34,7 @@ class SearchResult:
     whether it exceeds a limit, and `stopped` whether the user stopped the search; `fault` is the fault that ended it.
     """
 
-    def __init__(
-        self, report: Report, search: WeekSearch, best: BestRoster, stopped: bool, fault: Optional[BaseException]
-    ) -> None:
+    def __init__(self, report: Report, search: WeekSearch, best: BestRoster, stopped: bool, fault: Optional[BaseException]) -> None:
         self.report = report
         self.breaks = bool(best.breaks())
         self.exceeds = bool(best.exceeds())
@@ -66,8 +64,14 @@ class SearchResult:
 
 
 def improve(
-    files: WeekFiles, solution: Path, *, start: Optional[Path] = None, seconds: float = SECONDS, solver: Optional[str] = None,
-    proof: Optional[Path] = None, seed: int = 1,
+    files: WeekFiles,
+    solution: Path,
+    *,
+    start: Optional[Path] = None,
+    seconds: float = SECONDS,
+    solver: Optional[str] = None,
+    proof: Optional[Path] = None,
+    seed: int = 1,
 ) -> SearchResult:
     """Searches for these seconds, writes the best roster to `solution`, and returns its report and lower bound.
 
@@ -84,8 +88,14 @@ def improve(
 
 
 def search(
-    files: WeekFiles, solution: Path, start: Optional[Path], seconds: float, solver: Optional[str], proof: Optional[Path],
-    progress: Progress, seed: int = 1,
+    files: WeekFiles,
+    solution: Path,
+    start: Optional[Path],
+    seconds: float,
+    solver: Optional[str],
+    proof: Optional[Path],
+    progress: Progress,
+    seed: int = 1,
 ) -> SearchResult:
     """As `improve`, with its progress printed. A fault is raised only if there is no roster; a signal is no fault."""
     clock = Clock(seconds)
@@ -145,9 +155,7 @@ def _not_kept(week: Week, held: Sequence[Cell], best: BestRoster) -> Iterator[st
         yield limits_way_out(week, over, best.cells)
 
 
-def _result(
-    best: BestRoster, running: WeekSearch, stopped: bool, fault: Optional[BaseException], seconds: float
-) -> SearchResult:
+def _result(best: BestRoster, running: WeekSearch, stopped: bool, fault: Optional[BaseException], seconds: float) -> SearchResult:
     """The result of a search that has ended. Without a roster it is a ProgramFault that says why."""
     bound = running.bound
     best.proved = best.penalty is not None and (bool(running.claimed_by) or (bound is not None and best.penalty <= bound.points))

@@ -43,8 +43,14 @@ class PeriodSearch:
     """
 
     def __init__(
-        self, weeks: PlannedWeeks, keep: Keep, clock: Clock, progress: Progress, proof: Optional[Path] = None,
-        start: Optional[Sequence[Cell]] = None, seed: int = 1,
+        self,
+        weeks: PlannedWeeks,
+        keep: Keep,
+        clock: Clock,
+        progress: Progress,
+        proof: Optional[Path] = None,
+        start: Optional[Sequence[Cell]] = None,
+        seed: int = 1,
     ) -> None:
         self._weeks, self._keep, self._whole, self._progress = weeks, keep, clock, progress
         self._clock = clock.part(clock.left() - min(MOST_KEPT, PROOF_SHARE * clock.left()))

@@ -70,7 +70,8 @@ class Parts:
     def too_large(self, sheet: str) -> FileFault:
         """The fault of a sheet with too many cells."""
         return FileFault(
-            self._path, 0,
+            self._path,
+            0,
             f"sheet {sheet} has more than {MAX_ROWS} rows or {MAX_COLUMNS} columns: delete those that are no part of the ward",
         )
 

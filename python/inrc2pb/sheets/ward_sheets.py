@@ -63,7 +63,8 @@ def read_ward(book: Book, name: str, weeks: int) -> Ward:
                 nurses[nurse] = Nurse(nurse, row.of("contract").known("contract", contracts), skills.of(row.of("skills")))
                 past[nurse] = _past(row, nurse, shift_types)
                 never[nurse] = (
-                    [part.known("shift type", shift_types) for part in row.of("never").parts()], _days_off(row.of("always off")),
+                    [part.known("shift type", shift_types) for part in row.of("never").parts()],
+                    _days_off(row.of("always off")),
                 )
     scenario = Scenario(name, weeks, tuple(skills.cells), shift_types, contracts, nurses)
     _check_number(book, "nurses", "nurses", len(nurses), MAX_NURSES)

@@ -35,7 +35,16 @@ EXAMPLE: Dict[str, Rows] = {
     ],
     "nurses": [
         (
-            "nurse", "contract", "skills", "never", "always off", "worked", "worked weekends", "last shift", "days on it", "days of work",
+            "nurse",
+            "contract",
+            "skills",
+            "never",
+            "always off",
+            "worked",
+            "worked weekends",
+            "last shift",
+            "days on it",
+            "days of work",
             "days off",
         ),
         ("Amara", "Full", "Charge, Nurse", "", "", 0, 0, "Day", 2, 2, 0),

@@ -238,8 +238,10 @@ def totals_table(page: Content) -> Optional[Markup]:
     for nurse, total in found.items():
         over = total.weekends - total.max_weekends
         numbers = [
-            str(total.shifts), *[str(total.away)] * some_away,
-            f"{total.contract.minimum} to {total.contract.maximum}", _left(total, is_last),
+            str(total.shifts),
+            *[str(total.away)] * some_away,
+            f"{total.contract.minimum} to {total.contract.maximum}",
+            _left(total, is_last),
             *map(str, total.by_shift.values()),
         ]
         numbers += [f"{total.weekends}{f' ({over} too many)' if over > 0 else ''}", str(total.max_weekends)]

@@ -65,8 +65,7 @@ def read_old(files: RosterFiles, rosters: Sequence[Path]) -> RosterView:
     """Reads the older rosters of the same weeks and ward; that they are of others is a Misuse."""
     if len(rosters) != len(files.rosters):
         raise Misuse(
-            f"--old has {plural(len(rosters), 'file')} for {plural(len(files.rosters), 'roster')}: "
-            "give one for each, in their order"
+            f"--old has {plural(len(rosters), 'file')} for {plural(len(files.rosters), 'roster')}: " "give one for each, in their order"
         )
     for old, new in zip(rosters, files.rosters):
         before, now = (read_solution(path, None) for path in (old, new))
@@ -86,9 +85,7 @@ def _check_numbers(files: RosterFiles) -> None:
     """Each roster has its files, or none does."""
     count = len(files.rosters)
     if len(files.weeks) not in (0, count):
-        raise Misuse(
-            f"--week has {plural(len(files.weeks), 'file')} for {plural(count, 'roster')}: give one for each, in their order"
-        )
+        raise Misuse(f"--week has {plural(len(files.weeks), 'file')} for {plural(count, 'roster')}: give one for each, in their order")
     if len(files.histories) not in (0, 1, count):
         raise Misuse(
             f"--his has {plural(len(files.histories), 'file')} for {plural(count, 'roster')}: "

@@ -143,7 +143,12 @@ def spreadsheet(view: RosterView) -> Iterator[List[object]]:
         if counted:
             total = counted[nurse]
             row += [
-                total.shifts, *total.contract, total.weekends, total.max_weekends, len(total.wishes), total.granted,
+                total.shifts,
+                *total.contract,
+                total.weekends,
+                total.max_weekends,
+                len(total.wishes),
+                total.granted,
                 *total.by_shift.values(),
             ]
         yield row

@@ -82,9 +82,7 @@ def _wishes_sentences(scenario: Scenario, weeks: Sequence[DescribedWeek], days_t
 def _needs_sentences(weeks: Sequence[DescribedWeek]) -> Iterator[str]:
     """The numbers of each shift type and skill, those of most weeks first."""
     for shift, skill in dict.fromkeys((place.shift, place.skill) for week in weeks for place in week.data.requirements):
-        numbers = [
-            [week.data.requirements.get(Place(day, shift, skill), Requirement(0, 0)) for day in range(_WEEK)] for week in weeks
-        ]
+        numbers = [[week.data.requirements.get(Place(day, shift, skill), Requirement(0, 0)) for day in range(_WEEK)] for week in weeks]
         usual = max(numbers, key=numbers.count)
         others = together((_other_numbers(of_week, usual), week.number + 1) for week, of_week in zip(weeks, numbers) if of_week != usual)
         words = [f"; week{'s' * (len(some) > 1)} {joined(map(str, some))}: {text}" for text, some in others.items()]

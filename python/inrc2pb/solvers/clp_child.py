@@ -40,7 +40,12 @@ def load() -> Any:
     for name in ("Clp_dualRowSolution", "Clp_primalColumnSolution", "Clp_dualColumnSolution"):
         getattr(clp, name).restype, getattr(clp, name).argtypes = _POINTER, [_POINTER]
     for name in (
-        "Clp_chgRowLower", "Clp_chgRowUpper", "Clp_chgColumnLower", "Clp_chgColumnUpper", "Clp_chgObjCoefficients", "Clp_copyinStatus",
+        "Clp_chgRowLower",
+        "Clp_chgRowUpper",
+        "Clp_chgColumnLower",
+        "Clp_chgColumnUpper",
+        "Clp_chgObjCoefficients",
+        "Clp_copyinStatus",
     ):
         getattr(clp, name).argtypes = [_POINTER, _POINTER]
     for name in ("Clp_setLogLevel", "Clp_setMaximumIterations", "Clp_dual", "Clp_primal"):

@@ -145,7 +145,17 @@ class Coin(LinearSolver):
         most = [] if cutoff is None else ["cutoff", f"{cutoff + 0.5}"]
         seconds = clock.left()
         words = [
-            self._model.name, "sec", f"{seconds:.1f}", "timem", "elapsed", *most, "ratio", "0", "allow", f"{step - 0.1}", "increment",
+            self._model.name,
+            "sec",
+            f"{seconds:.1f}",
+            "timem",
+            "elapsed",
+            *most,
+            "ratio",
+            "0",
+            "allow",
+            f"{step - 0.1}",
+            "increment",
             f"{step - 0.1}",
         ]
         words += ["maxNodes", str(nodes)] * bool(nodes)

@@ -19,7 +19,11 @@ from ..programs.processes import MAX_OUTPUT, Ended, Processes
 from ..programs.program import WeekFiles, encode_unless_stopped
 
 PACKAGES = {
-    "clasp": "clasp", "cbc": "coinor-cbc", "minisat+": "minisat+", "glpsol": "glpk-utils", "clp": "coinor-clp",
+    "clasp": "clasp",
+    "cbc": "coinor-cbc",
+    "minisat+": "minisat+",
+    "glpsol": "glpk-utils",
+    "clp": "coinor-clp",
 }
 # The commands of solvers that are named without one.
 _COMMANDS = {

@@ -202,9 +202,14 @@ def scenario_text(scenario: Scenario) -> str:
     lines += ["", f"CONTRACTS = {len(contracts)}"]
     lines += [
         _row(
-            contract.name, contract.assignments, contract.working_days, contract.days_off, contract.max_weekends,
+            contract.name,
+            contract.assignments,
+            contract.working_days,
+            contract.days_off,
+            contract.max_weekends,
             int(contract.complete_weekends),
-        ) for contract in contracts
+        )
+        for contract in contracts
     ]
     lines += ["", f"NURSES = {len(nurses)}", *(_row(nurse.name, nurse.contract, len(nurse.skills), *nurse.skills) for nurse in nurses)]
     return "\n".join(lines) + "\n"

@@ -43,7 +43,10 @@ def reasons(lines: Sequence[str], line: int, word: str, names: Collection[str] =
     Each of the names should have a line below the heading.
     """
     found = [
-        *_wrong_count(lines, line), *_without_line(lines, names, heading), *_wrong_row(lines, line), *_wrong_number(lines[line - 1], word),
+        *_wrong_count(lines, line),
+        *_without_line(lines, names, heading),
+        *_wrong_row(lines, line),
+        *_wrong_number(lines[line - 1], word),
     ]
     if not word:
         found += _no_requests(lines)
@@ -79,7 +82,9 @@ def _wrong_count(lines: Sequence[str], line: int) -> Iterator[str]:
 def _without_line(lines: Sequence[str], names: Collection[str], heading: str) -> Iterator[str]:
     """The names with which no line below the heading begins."""
     begins = {
-        words_of(row)[0] for number, line in enumerate(lines) if heading and _heading_of(line) == heading
+        words_of(row)[0]
+        for number, line in enumerate(lines)
+        if heading and _heading_of(line) == heading
         for row in _rows_below(lines, number)
     }
     missing = [name for name in names if name not in begins]
@@ -160,7 +165,8 @@ def _assigned(row: str) -> Optional[str]:
     words = words_of(row)
     turned = len(words) == 4 and words[1] not in DAYS and words[2] in DAYS
     return (
-        "the day comes first, then the shift type" if turned
+        "the day comes first, then the shift type"
+        if turned
         else _wrong_length(row, 4, "a row has a nurse, a day, a shift type and a skill")
     )
 

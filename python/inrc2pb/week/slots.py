@@ -210,7 +210,8 @@ class Slots:
         same = composed_otherwise(token.text, names)
         if same:
             self.fault(
-                token, "unknown name",
+                token,
+                "unknown name",
                 f"'{token.text}' is no {kind} of {source}: it looks like '{same}', and has other letters: copy that name",
             )
         advice = did_you_mean(token.text, names, f"it has {quoted(names)}", "'{}'".format)

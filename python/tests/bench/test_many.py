@@ -31,7 +31,9 @@ class Many(HelperTest):
         self.list.write_text(LINES)
 
     def many(self, *words):
-        ran = subprocess.run([str(ROOT / "bench" / "many.py"), *map(str, words)], stdout=subprocess.PIPE, stderr=subprocess.PIPE, check=True)
+        ran = subprocess.run(
+            [str(ROOT / "bench" / "many.py"), *map(str, words)], stdout=subprocess.PIPE, stderr=subprocess.PIPE, check=True
+        )
         return ran.stdout.decode()
 
     def test_lines_that_are_left(self):
@@ -48,10 +50,14 @@ class Many(HelperTest):
     def test_rows_that_differ_in_their_seed(self):
         results = [json.loads(self.many("run", "true")) for _ in range(3)]
         for index, result in enumerate(results):
-            result.update(line=f"inrc2pb-solve --sce a --week b --seed {index} --out {{}}/c --time 5", penalty=10 + 5 * index, bound=10, seconds=index)
+            result.update(
+                line=f"inrc2pb-solve --sce a --week b --seed {index} --out {{}}/c --time 5", penalty=10 + 5 * index, bound=10, seconds=index
+            )
         self.results.write_text("".join(json.dumps(result) + "\n" for result in results))
         row = self.many("table", self.results).splitlines()[2]
-        self.assertTrue(row.startswith("| inrc2pb-solve --week b --time 5 | 3 | 3 | 1 | 10 to 15 to 20 | 10 | 0 to 33.3 to 50 | 0 to 1 to 2 |"), row)
+        self.assertTrue(
+            row.startswith("| inrc2pb-solve --week b --time 5 | 3 | 3 | 1 | 10 to 15 to 20 | 10 | 0 to 33.3 to 50 | 0 to 1 to 2 |"), row
+        )
 
     @unittest.skipUnless(shutil.which("parallel"), "needs GNU parallel")
     def test_by_parallel(self):

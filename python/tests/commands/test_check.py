@@ -28,9 +28,30 @@ MISTAKES = [
     (SCENARIO, "Night 2 Day", "Night Day", "--sce", 17, "; the number of shift types is missing after 'Night'"),
     (SCENARIO, "Chen Full 1 Nurse", "Chen Full Nurse", "--sce", 26, "; the number of skills is missing after 'Chen Full'"),
     (SCENARIO, "SKILLS", "# the skills\nSKILLS", "--sce", 5, "looks like a comment: the files have none, so remove it"),
-    (SCENARIO, "Chen Full 1 Nurse", "Chen Full 1 Nurse # head", "--sce", 26, "'head' is no contract of CONTRACTS: it has Full, Half; '#' looks"),
-    (SCENARIO, "Chen Full 1 Nurse", "Chen Full 1 Nurse #head", "--sce", 27, "'Dilek' is no contract of CONTRACTS: it has Full, Half; '#head' looks"),
-    (SCENARIO, "NURSES = 7", "NURSES = 7 # seven", "--sce", 23, "'seven' is no contract of CONTRACTS: it has Full, Half; '#' looks like a comment"),
+    (
+        SCENARIO,
+        "Chen Full 1 Nurse",
+        "Chen Full 1 Nurse # head",
+        "--sce",
+        26,
+        "'head' is no contract of CONTRACTS: it has Full, Half; '#' looks",
+    ),
+    (
+        SCENARIO,
+        "Chen Full 1 Nurse",
+        "Chen Full 1 Nurse #head",
+        "--sce",
+        27,
+        "'Dilek' is no contract of CONTRACTS: it has Full, Half; '#head' looks",
+    ),
+    (
+        SCENARIO,
+        "NURSES = 7",
+        "NURSES = 7 # seven",
+        "--sce",
+        23,
+        "'seven' is no contract of CONTRACTS: it has Full, Half; '#' looks like a comment",
+    ),
     (SCENARIO, "WEEKS = 4", "WEEKS = 53", "--sce", 3, "the number of weeks is 53: it has to be from 1 to 52"),
     (SCENARIO, "Chen", "Bruno", "--sce", 26, "the nurse 'Bruno' is there already: use another name"),
     (HISTORY, "Grace", "Gracy", "--his", 11, "'Gracy' is no nurse of NURSES: did you mean 'Grace'?; no line begins with Grace"),
@@ -50,8 +71,22 @@ MISTAKES = [
     (WEEK, "Chen Any Sat", "Chen K Any Sat", "--week", 11, "has a nurse, a shift type and a day, and the line has 4 words; does a name"),
     (WEEK, "Chen Any Sat", "Chen Any Sat # ill", "--week", 11, "'#' looks like a comment: the files have none, so remove it"),
     (WEEK, "Chen Any Sat", "Chen Any", "--week", 12, "; a request has a nurse, a shift type and a day, and the line has 2 words"),
-    (ROSTER, "Amara Mon Day Charge", "Amara Mon Day", "--roster", 6, "; a row has a nurse, a day, a shift type and a skill, and the line has 3 words"),
-    (ROSTER, "SOLUTION", "PK\x03\x04\0\1", "--roster", 1, ": this is no text file: save it as plain text, or give a spreadsheet to inrc2pb-plan"),
+    (
+        ROSTER,
+        "Amara Mon Day Charge",
+        "Amara Mon Day",
+        "--roster",
+        6,
+        "; a row has a nurse, a day, a shift type and a skill, and the line has 3 words",
+    ),
+    (
+        ROSTER,
+        "SOLUTION",
+        "PK\x03\x04\0\1",
+        "--roster",
+        1,
+        ": this is no text file: save it as plain text, or give a spreadsheet to inrc2pb-plan",
+    ),
     (ROSTER, "SOLUTION", "{\\rtf1 SOLUTION", "--roster", 1, ": this is no text file: save it as plain text"),
 ]
 
@@ -70,7 +105,9 @@ class Mistakes(HelperTest):
 
     def test_each_verb_says_that_a_row_is_missing(self):
         roster = self.changed(ROSTER, "Amara Mon Day Charge\n", "")
-        said = f"{roster} line 36: the file ends where a nurse should come; 'ASSIGNMENTS = 33' on line 4 announces 33, and 32 lines follow it"
+        said = (
+            f"{roster} line 36: the file ends where a nurse should come; 'ASSIGNMENTS = 33' on line 4 announces 33, and 32 lines follow it"
+        )
         self.assertEqual(run("roster", "check", "--sce", SCENARIO, "--roster", roster), (1, said + "\n", ""))
         for words in (("next", "--sce", SCENARIO, "--his", HISTORY), ("show",)):
             self.assert_fault(run("roster", *words, "--roster", roster), f"inrc2pb-roster: {said}")
@@ -96,7 +133,9 @@ class Mistakes(HelperTest):
         for heading in ("SHIFT_TYPES", "CONTRACTS", "NURSES"):
             status, printed, _ = run("roster", "check", "--sce", self.changed(SCENARIO, f"{heading} =", f"{heading[:-1]} ="))
             self.assertTrue(printed.endswith(f": '{heading[:-1]}' where '{heading}' should be\n"), printed)
-        _, printed, _ = run("roster", "check", "--sce", SCENARIO, "--week", self.changed(WEEK, "SHIFT_OFF_REQUESTS =", "SHIFT_OFF_REQUEST ="))
+        _, printed, _ = run(
+            "roster", "check", "--sce", SCENARIO, "--week", self.changed(WEEK, "SHIFT_OFF_REQUESTS =", "SHIFT_OFF_REQUEST =")
+        )
         self.assertNotIn("pairs", printed)
 
     def test_other_blanks_of_unicode_are_letters(self):
@@ -116,7 +155,10 @@ class Mistakes(HelperTest):
     def test_a_row_that_is_made_a_comment(self):
         for path, option in ((HISTORY, "--his"), (WEEK, "--week")):
             _, printed, _ = run("roster", "check", "--sce", self.changed(SCENARIO, "Chen", "#Chen"), option, path)
-            self.assertIn("'Chen' is no nurse of NURSES: did you mean '#Chen'?; '#Chen' looks like a comment: the files have none, so remove it", printed)
+            self.assertIn(
+                "'Chen' is no nurse of NURSES: did you mean '#Chen'?; '#Chen' looks like a comment: the files have none, so remove it",
+                printed,
+            )
 
     def test_signs_of_spreadsheets_and_other_keyboards(self):
         for path, old, new, said in (
@@ -125,22 +167,36 @@ class Mistakes(HelperTest):
             (SCENARIO, "SCENARIO = ward", "SCENARIO;=;ward", "write blanks for the semicolons; inrc2pb-plan reads spreadsheets"),
             (SCENARIO, "(17,21)", '"(17,21)"', "remove the quotation marks"),
             (SCENARIO, "Day (2,5)", "Day [2,5]", "write ( and ) for other brackets"),
-            (SCENARIO, "Chen Full", "Chen\u00a0Full", "it has a blank of another kind, such as a no-break space: type the blanks again, or _ in a name"),
+            (
+                SCENARIO,
+                "Chen Full",
+                "Chen\u00a0Full",
+                "it has a blank of another kind, such as a no-break space: type the blanks again, or _ in a name",
+            ),
             (HISTORY, "Chen 0", "Chen O", "write the digit 0 for the letter O"),
             (HISTORY, "Chen 0", "Chen l", "write the digit 1 for the letter l"),
         ):
             with self.subTest(new):
                 words = ("--his", self.changed(path, old, new)) if path == HISTORY else ()
                 status, printed, _ = run("roster", "check", "--sce", SCENARIO if words else self.changed(path, old, new), *words)
-                self.assertEqual((status, printed.splitlines()[0].endswith(f"; {said}") or printed.splitlines()[0].endswith(f": {said}")), (1, True), printed)
+                self.assertEqual(
+                    (status, printed.splitlines()[0].endswith(f"; {said}") or printed.splitlines()[0].endswith(f": {said}")),
+                    (1, True),
+                    printed,
+                )
 
     def test_files_that_are_swapped(self):
         status, printed, _ = run("roster", "check", "--sce", SCENARIO, "--his", WEEK, "--week", HISTORY)
         history, week = f"{WEEK} line 1: 'WEEK_DATA' where 'HISTORY' should be", f"{HISTORY} line 1: 'HISTORY' where 'WEEK_DATA' should be"
-        self.assertEqual((status, printed), (1, f"{history}: this is a week's file: give it with --week\n{week}: this is a history: give it with --his\n"))
+        self.assertEqual(
+            (status, printed),
+            (1, f"{history}: this is a week's file: give it with --week\n{week}: this is a history: give it with --his\n"),
+        )
 
     def test_letters_that_are_composed_otherwise(self):
-        ward, past = (self.changed(path, "Chen", name, f"new-{path.name}") for path, name in ((SCENARIO, "G\u00fcl"), (HISTORY, "Gu\u0308l")))
+        ward, past = (
+            self.changed(path, "Chen", name, f"new-{path.name}") for path, name in ((SCENARIO, "G\u00fcl"), (HISTORY, "Gu\u0308l"))
+        )
         _, printed, _ = run("roster", "check", "--sce", ward, "--his", past)
         self.assertIn("it looks like 'G\u00fcl', and has other letters: copy that name", printed)
 

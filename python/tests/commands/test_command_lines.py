@@ -26,20 +26,32 @@ class Words(HelperTest):
                 "unrecognized arguments: Mon, Tue: write no blank between the days or names, as in Mon,Tue",
             ),
             (("roster", "next", *FILES, ROSTER), "roster next", "the following arguments are required: --roster"),
-            ((*check, "--scenario", SCENARIO), "roster check", f"unrecognized arguments: --scenario {SCENARIO}: --scenario: did you mean --sce?"),
+            (
+                (*check, "--scenario", SCENARIO),
+                "roster check",
+                f"unrecognized arguments: --scenario {SCENARIO}: --scenario: did you mean --sce?",
+            ),
             (
                 (*solve, *FILES[:2], "--history", HISTORY, "--week", WEEK),
                 "solve",
                 "the following arguments are required: --his: --history: did you mean --his?",
             ),
-            ((*check, "--sce a --his b --week c"), "roster check", "'--sce a --his b --week c' is one word: write $WEEK without quotes, in bash"),
+            (
+                (*check, "--sce a --his b --week c"),
+                "roster check",
+                "'--sce a --his b --week c' is one word: write $WEEK without quotes, in bash",
+            ),
             (
                 ("roster", "show", "--sce a --his b", "--roster", ROSTER),
                 "roster show",
                 "'--sce a --his b' is one word: write $WEEK without quotes, in bash",
             ),
             (solve, "solve", "the following arguments are required: --sce, --his, --week: is WEEK set in this terminal?"),
-            ((*solve, *FILES, "--week", WEEK, "--time", "2,5"), "solve", "argument --time: '2,5' is no number: give seconds, such as 60 or 2.5"),
+            (
+                (*solve, *FILES, "--week", WEEK, "--time", "2,5"),
+                "solve",
+                "argument --time: '2,5' is no number: give seconds, such as 60 or 2.5",
+            ),
             (
                 ("solve", "--inrc2", *FILES, "--week", WEEK, "--timeout", "1m"),
                 "solve",
@@ -102,7 +114,9 @@ class Twice(HelperTest):
         self.assertEqual(run("roster", "check", *WEEK_OPTIONS, "--roster", ROSTER, "--roster", ROSTER)[0], 0)
         self.assertEqual(run("roster", "check", *WEEK_OPTIONS, "--roster", ROSTER, ROSTER)[0], 0)
         fixes, rosters = ("--fix", f"1={ROSTER}", "--fix", f"2={ROSTER}"), ("--roster", ROSTER, ROSTER)
-        shown = [run("roster", "show", *FILES, *weeks, *fixes, *rosters) for weeks in (("--week", WEEK, "--week", WEEK), ("--week", WEEK, WEEK))]
+        shown = [
+            run("roster", "show", *FILES, *weeks, *fixes, *rosters) for weeks in (("--week", WEEK, "--week", WEEK), ("--week", WEEK, WEEK))
+        ]
         self.assertEqual((shown[0][0], shown[0][1]), (0, shown[1][1]))
 
 

@@ -52,7 +52,9 @@ class Simulation(HelperTest):
             shutil.rmtree(self.folder / "called", ignore_errors=True)
             solver = f"{self.answers_once(early=True)[:-1]} || exec sleep 60'"
             began = time.monotonic()
-            status, printed, said = run("solve", "--inrc2", *WEEK_OPTIONS, "--sol", self.folder / "solution.txt", "--timeout", 3, "--solver", solver)
+            status, printed, said = run(
+                "solve", "--inrc2", *WEEK_OPTIONS, "--sol", self.folder / "solution.txt", "--timeout", 3, "--solver", solver
+            )
             seconds = time.monotonic() - began
             self.assertEqual(status, 0, said)
             self.assertIn("penalty 20\n", printed)

@@ -11,7 +11,22 @@ import unittest
 from dataclasses import replace
 from pathlib import Path
 
-from ward import HAS_CBC, HAS_CLASP, HELPERS, HISTORY, ROOT, ROSTER, SCENARIO, WARD, WEEK, WEEK_FILES, WEEK_OPTIONS, HelperTest, program, run
+from ward import (
+    HAS_CBC,
+    HAS_CLASP,
+    HELPERS,
+    HISTORY,
+    ROOT,
+    ROSTER,
+    SCENARIO,
+    WARD,
+    WEEK,
+    WEEK_FILES,
+    WEEK_OPTIONS,
+    HelperTest,
+    program,
+    run,
+)
 
 from inrc2pb.search.bounds import PLAIN, PROVER
 from inrc2pb.commands.period import Period
@@ -89,7 +104,10 @@ class Together(PeriodTest):
     def test_absences(self):
         for away, says in (
             (("Chen=Fri",), "^$"),
-            (("Amara=Fri", "Bruno=Fri", "Ewa=Fri"), "^inrc2pb-solve: week 2: no roster was found that keeps every absence: (Amara|Bruno|Ewa) works Day on Fri$"),
+            (
+                ("Amara=Fri", "Bruno=Fri", "Ewa=Fri"),
+                "^inrc2pb-solve: week 2: no roster was found that keeps every absence: (Amara|Bruno|Ewa) works Day on Fri$",
+            ),
         ):
             options = (*WEEK_OPTIONS, "--week", self.away(*away, week=WARD / "week-1.txt"))
             status, printed, said = run("solve", *options, "--out", self.folder / "out", "--time", 8)
@@ -99,7 +117,9 @@ class Together(PeriodTest):
 
     def test_a_stop_keeps_the_best_plan(self):
         words = (*MONTH_OPTIONS, *MONTH_WEEKS, "--out", self.folder, "--time", 600)
-        with subprocess.Popen([sys.executable, str(HELPERS / "inrc2pb-solve"), *map(str, words)], stdout=subprocess.PIPE, stderr=subprocess.PIPE) as period:
+        with subprocess.Popen(
+            [sys.executable, str(HELPERS / "inrc2pb-solve"), *map(str, words)], stdout=subprocess.PIPE, stderr=subprocess.PIPE
+        ) as period:
             while not (self.folder / "roster-3.txt").exists() and period.poll() is None:
                 time.sleep(0.05)
             period.send_signal(signal.SIGINT)
@@ -121,7 +141,10 @@ class Periods(PeriodTest):
         held = self.folder / "held.txt"
         words = (*WARD_OPTIONS, "--fix", f"2={held}", "--out", self.folder, "--time", 20, "--solver", "clasp")
         files_of = ", ".join(str(self.folder / name) for name in ("roster-0.txt", "roster-1.txt", "history-1.txt", "history-2.txt"))
-        for week, hint in ((1, ""), (3, f"inrc2pb-solve: {held}: line 1 has week 3, and the history has week 1: is the file of another week?\n")):
+        for week, hint in (
+            (1, ""),
+            (3, f"inrc2pb-solve: {held}: line 1 has week 3, and the history has week 1: is the file of another week?\n"),
+        ):
             held.write_text(f"SOLUTION {week} ward ASSIGNMENTS = 1 Grace Sat Day Nurse\n")
             status, _, said = run("solve", *words)
             replaced = f"files that are replaced: {files_of}\n" if week == 3 else ""
@@ -140,7 +163,10 @@ class PeriodFaults(PeriodTest):
         self.assert_period(printed, WARD_OPTIONS, 1)
         self.assertTrue((self.folder / "history-1.txt").exists())
         self.assertNotIn("stopped", printed)
-        self.assertRegex(said.splitlines()[-1], "^inrc2pb-solve: week 2: the solver sh has no answer: it printed no answer and ended with status 1; try its command by hand$")
+        self.assertRegex(
+            said.splitlines()[-1],
+            "^inrc2pb-solve: week 2: the solver sh has no answer: it printed no answer and ended with status 1; try its command by hand$",
+        )
 
     def test_after_the_last_week_the_command_for_the_next_period_is_printed(self):
         ward, answer, out = self.changed(SCENARIO, "WEEKS = 4", "WEEKS = 1"), self.folder / "answer.txt", self.folder / "my out"
@@ -149,7 +175,9 @@ class PeriodFaults(PeriodTest):
         words = ("--sce", ward, "--his", HISTORY, "--week", WEEK, "--out", out, "--solver", f"sh -c 'cat {answer}'")
         for replaced in ("", f"files that are replaced: {out}/roster-0.txt\n"):
             status, printed, said = run("solve", *words)
-            command = f"inrc2pb-roster next --sce {ward} --his {HISTORY} --roster '{out}/roster-0.txt' --new-period --out '{out}/history-new.txt'"
+            command = (
+                f"inrc2pb-roster next --sce {ward} --his {HISTORY} --roster '{out}/roster-0.txt' --new-period --out '{out}/history-new.txt'"
+            )
             line = f"to make the first history of the next period, type: {command}\n"
             self.assertEqual((status, without_progress(said)), (0, f"{replaced}{BEGIN}{line}"))
         self.assertEqual(run(*shlex.split(command.replace("inrc2pb-", "", 1))), (0, "", ""))
@@ -221,9 +249,14 @@ class PeriodFaults(PeriodTest):
     @unittest.skipIf(os.geteuid() == 0, "needs a user who is not root")
     def test_a_folder_without_write_permission(self):
         self.folder.chmod(0o555)
-        self.assert_fault(self.period(*WARD_OPTIONS, "--solver", "false"), (
-            f"inrc2pb-solve: {self.folder}: Permission denied: you may not read or write it: "
-            "look at its permissions and those of its folder, or choose another folder"), 3)
+        self.assert_fault(
+            self.period(*WARD_OPTIONS, "--solver", "false"),
+            (
+                f"inrc2pb-solve: {self.folder}: Permission denied: you may not read or write it: "
+                "look at its permissions and those of its folder, or choose another folder"
+            ),
+            3,
+        )
 
     @unittest.skipUnless(Path("/sys").is_dir(), "needs /sys")
     def test_a_folder_in_which_nobody_may_write(self):

@@ -70,14 +70,19 @@ class Kept(HelperTest):
     @unittest.skipUnless(HAS_CBC, "needs cbc")
     def test_rows_keep_absences_unless_no_roster_can(self):
         target = self.folder / "roster.txt"
-        for away, kept in (({AWAY, Absence("Grace", 6, "Day")}, True), ({Absence(nurse, 4, None) for nurse in ("Amara", "Bruno", "Ewa")}, False)):
+        for away, kept in (
+            ({AWAY, Absence("Grace", 6, "Day")}, True),
+            ({Absence(nurse, 4, None) for nurse in ("Amara", "Bruno", "Ewa")}, False),
+        ):
             writing.write_text(self.folder / "away.txt", files.week_text(with_requests(WARD, DATA, away).data))
             status, report, said = run("solve", *WEEK_OPTIONS[:4], "--week", self.folder / "away.txt", "--out", target)
             self.assertEqual(status, 0, said)
             self.assertEqual(working_while_away(away, files.read_solution(target).cells) == [], kept)
             self.assertEqual("no roster was found that keeps every absence: " in said, not kept)
             self.assertIn("no roster that keeps all absences costs less" if kept else "no roster costs less", report)
-            self.assertEqual(("--why-none" in said, report.endswith("no roster costs less, but this one breaks an absence\n")), (not kept, not kept))
+            self.assertEqual(
+                ("--why-none" in said, report.endswith("no roster costs less, but this one breaks an absence\n")), (not kept, not kept)
+            )
 
     def test_a_roster_that_breaks_an_absence_is_a_mistake(self):
         words = (*WEEK_OPTIONS[:4], "--week", self.away("Chen=Mon,Wed"))

@@ -50,12 +50,26 @@ class Counting(unittest.TestCase):
                 self.assertEqual(nights_before(away_of("Grace", row), shifts("Grace", row)), [("Grace", day) for day in days])
 
     def test_what_could_not_be_otherwise_is_no_excess(self):
-        for row, fixed, above in (("DDDTDD.", 0, 1), ("DDDTDD.", 5, 1), ("DDDTDD.", 6, 0), ("TTTTTT.", 0, 0), ("TTTTTTD", 0, 2), ("NT.....", 1, 0), ("NT.....", 0, 1)):
+        for row, fixed, above in (
+            ("DDDTDD.", 0, 1),
+            ("DDDTDD.", 5, 1),
+            ("DDDTDD.", 6, 0),
+            ("TTTTTT.", 0, 0),
+            ("TTTTTTD", 0, 2),
+            ("NT.....", 1, 0),
+            ("NT.....", 0, 1),
+        ):
             with self.subTest(row=row, fixed=fixed):
                 self.assertEqual(excess(WARD, PAST, away_of("Grace", row, fixed=fixed), shifts("Grace", row)), above)
 
     def test_night_shifts_by_their_times(self):
-        for times, is_night in (("22:30-7:15", True), ("14:30-23:00", False), ("15:00-0:30", False), ("16:00-24:00", False), ("8:00-8:00", True)):
+        for times, is_night in (
+            ("22:30-7:15", True),
+            ("14:30-23:00", False),
+            ("15:00-0:30", False),
+            ("16:00-24:00", False),
+            ("8:00-8:00", True),
+        ):
             self.assertEqual(times_of(times, "").is_night, is_night, times)
 
 
@@ -79,7 +93,9 @@ class Rows(unittest.TestCase):
                 works = {(nurse, day): types[choice - 1] for day, choice in enumerate(row) if choice}
                 breaks = excess(WARD, PAST, away, works) > 0
                 seen[breaks] += 1
-                self.assertEqual((strict, less_strict == cost), (None, False) if breaks else (cost, True), (nurse, signs, away.fixed, list(row)))
+                self.assertEqual(
+                    (strict, less_strict == cost), (None, False) if breaks else (cost, True), (nurse, signs, away.fixed, list(row))
+                )
         self.assertGreater(min(seen.values()), 50)
 
     def test_a_row_that_differs_from_an_older_one_costs_a_call(self):

@@ -36,14 +36,20 @@ def can_be_filled(scenario, data, day):
 class Demand(unittest.TestCase):
     def test_nurses_who_are_needed_at_once(self):
         # Three of the seven nurses have Charge.
-        wanted = ["Tue: 4 with Charge needed at once (Day 2, Night 2), and 3 have it: no roster can meet it: lower minimum numbers by 1, or give more nurses the skill"]
+        wanted = [
+            "Tue: 4 with Charge needed at once (Day 2, Night 2), and 3 have it: no roster can meet it: lower minimum numbers by 1, or give more nurses the skill"
+        ]
         self.assertEqual(list(demand_warnings(WARD, PAST, needing(Day_Charge=2, Night_Charge=2))), wanted)
-        wanted = ["Tue: Day Charge, Day Nurse, Late Nurse and Night Nurse need 8 nurses at once, and 7 could do it: no roster can meet it: lower minimum numbers by 1 in all"]
+        wanted = [
+            "Tue: Day Charge, Day Nurse, Late Nurse and Night Nurse need 8 nurses at once, and 7 could do it: no roster can meet it: lower minimum numbers by 1 in all"
+        ]
         self.assertEqual(list(demand_warnings(WARD, PAST, needing(Day_Charge=2, Day_Nurse=2, Late_Nurse=2, Night_Nurse=2))), wanted)
 
     def test_nurses_who_are_away_are_not_counted(self):
         away = replace(DATA, absences=frozenset({Absence("Amara", 1, None), Absence("Bruno", 1, None), Absence("Ewa", 1, "Day")}))
-        wanted = ["Tue: 1 with Charge needed at once (Day 1), and 0 of the 3 who have it could do it: no roster that keeps every absence can meet it: lower minimum numbers by 1, or give more nurses the skill, or shorten an absence"]
+        wanted = [
+            "Tue: 1 with Charge needed at once (Day 1), and 0 of the 3 who have it could do it: no roster that keeps every absence can meet it: lower minimum numbers by 1, or give more nurses the skill, or shorten an absence"
+        ]
         self.assertEqual(list(demand_warnings(WARD, PAST, away)), wanted)
 
     def test_a_warning_says_whether_the_places_can_be_filled(self):
@@ -73,13 +79,23 @@ class Demand(unittest.TestCase):
         self.assertEqual(supplied_shifts(WARD, None, paid[1:]), (0, 7))
 
     def test_a_week_that_asks_for_too_many_shifts(self):
-        many = replace(DATA, requirements={place: Requirement(1, 1) for place in (Place(d, s, k) for d in range(7) for s in WARD.shift_types for k in WARD.skills)})
-        self.assertIn("it asks for at least 42 shifts, and the contracts supply at most 32 a week: if all weeks ask for so many, each shift above costs points", list(demand_warnings(WARD, PAST, many)))
+        many = replace(
+            DATA,
+            requirements={
+                place: Requirement(1, 1) for place in (Place(d, s, k) for d in range(7) for s in WARD.shift_types for k in WARD.skills)
+            },
+        )
+        self.assertIn(
+            "it asks for at least 42 shifts, and the contracts supply at most 32 a week: if all weeks ask for so many, each shift above costs points",
+            list(demand_warnings(WARD, PAST, many)),
+        )
 
 
 class Telling(HelperTest):
     def test_a_ward_in_sentences(self):
-        full = "17 to 21 shifts in 4 weeks; 3 to 5 days of work in a row, 2 to 3 days off; at most 2 weekends with work, on both days or none"
+        full = (
+            "17 to 21 shifts in 4 weeks; 3 to 5 days of work in a row, 2 to 3 days off; at most 2 weekends with work, on both days or none"
+        )
         half = "8 to 11 shifts in 4 weeks; 2 to 3 days of work in a row, 2 to 5 days off; at most 2 weekends with work"
         self.assertEqual([ward_sentence(WARD), *scenario_sentences(WARD)], [
             "ward: 7 nurses, 4 weeks in a period.", "Day: 2 to 5 days in a row.", "Late: 2 to 4 days in a row. After Late, the next day no Day.",
@@ -127,10 +143,15 @@ class Telling(HelperTest):
         nurses["Ewa"] = replace(PAST.nurses["Ewa"], assignments=2)
         found = list(history_sentences(replace(PAST, week=1, nurses=nurses), {"Ewa": 2}))
         self.assertEqual(found[0], "1 week of the period is over.")
-        self.assertEqual(found[-1], "In the period until now: Amara and Chen 5 shifts and 1 weekend; Ewa 2 shifts (2 for days away) and 0 weekends.")
+        self.assertEqual(
+            found[-1], "In the period until now: Amara and Chen 5 shifts and 1 weekend; Ewa 2 shifts (2 for days away) and 0 weekends."
+        )
 
     def test_a_week_in_sentences(self):
-        data = replace(DATA, absences=frozenset({*(Absence("Chen", day, None) for day in (2, 3, 4)), *(Absence("Ewa", day, "Night") for day in range(7))}))
+        data = replace(
+            DATA,
+            absences=frozenset({*(Absence("Chen", day, None) for day in (2, 3, 4)), *(Absence("Ewa", day, "Night") for day in range(7))}),
+        )
         self.assertEqual(supply_text(WARD, PAST, data), "asks for 26 to 33 shifts; the contracts supply 25 to 32 a week")
         self.assertEqual(list(weeks_sentences(WARD, [DescribedWeek(0, data)])), [
             "Day Charge: 1 on all days.", "Day Nurse: 1, better 2 on Mon to Fri; 0, better 1 on Sat and Sun.", "Late Nurse: 1 on all days.",
@@ -161,7 +182,10 @@ class Telling(HelperTest):
     def test_check_tells(self):
         status, printed, said = run("roster", "check", *WEEK_OPTIONS, "--tell")
         self.assertEqual((status, said), (0, ""))
-        after, last = "Late: 2 to 4 days in a row. After Late, the next day no Day.", "Night on Sunday: Dilek for 2 days in a row, with 2 days of work."
+        after, last = (
+            "Late: 2 to 4 days in a row. After Late, the next day no Day.",
+            "Night on Sunday: Dilek for 2 days in a row, with 2 days of work.",
+        )
         for line in (after, last, "The week asks for 26 to 33 shifts; the contracts supply 25 to 32 a week.", "No mistake found."):
             self.assertIn(line, printed.splitlines())
 
@@ -172,7 +196,9 @@ class WhyNone(HelperTest):
         words = ("--sce", EIGHT / "ward.txt", "--his", EIGHT / "history-1.txt", "--week", EIGHT / "week-1.txt")
         status, printed, _ = run("roster", "check", *words, "--why-none")
         lines = printed.splitlines()
-        self.assertEqual((status, lines[0]), (0, "No roster meets all minimum numbers. Lower these by 1 in all; no roster can do with less:"))
+        self.assertEqual(
+            (status, lines[0]), (0, "No roster meets all minimum numbers. Lower these by 1 in all; no roster can do with less:")
+        )
         self.assertRegex(lines[1], "^(Wed|Thu) (Early|Late|Night) HeadNurse: lower 1 to 0$")
         self.assertEqual({line.split()[0] for line in lines[2:]}, {"Ada", "Emil"})
 
@@ -187,7 +213,10 @@ class WhyNone(HelperTest):
         self.assertEqual(printed.splitlines()[1:], [said, *rows])
 
     def test_faults(self):
-        self.assert_fault(run("roster", "check", "--sce", SCENARIO, "--why-none"), "inrc2pb-roster: --why-none needs the whole week: give --sce, --his and --week")
+        self.assert_fault(
+            run("roster", "check", "--sce", SCENARIO, "--why-none"),
+            "inrc2pb-roster: --why-none needs the whole week: give --sce, --his and --week",
+        )
         fix = self.solution("Chen Mon Day Nurse", "Chen Mon Late Nurse")
         self.assertEqual(run("roster", "check", *WEEK_OPTIONS, "--fix", fix, "--why-none")[0], 1)
 

@@ -45,7 +45,12 @@ class Facts(HelperTest):
             ("Mon Night", "Mon Nacht", 6, "'Nacht' is no shift type of SHIFT_TYPES: did you mean 'Night'?"),
             ("Day Charge", "Day Charg", 7, "'Charg' is no skill of SKILLS: did you mean 'Charge'?"),
             ("SHIFTS NURSE", "SHIFT NURSE", 8, "'SHIFT' is no kind of charges of a fact: did you mean 'SHIFTS'?"),
-            ("NOT EVEN\n", "NOT EVEN\nNOT EVEN\n", 11, "'NOT' comes after the last fact: remove it, or correct the number of lines announced"),
+            (
+                "NOT EVEN\n",
+                "NOT EVEN\nNOT EVEN\n",
+                11,
+                "'NOT' comes after the last fact: remove it, or correct the number of lines announced",
+            ),
         ):
             with self.subTest(new), self.assertRaises(FileFault) as found:
                 read_facts("facts.txt", WARD, 4, TEXT.replace(old, new))

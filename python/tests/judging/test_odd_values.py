@@ -61,13 +61,18 @@ class Warnings(HelperTest):
             self.assertEqual("nobody is asked for Late on any day" in printed, warned, printed)
 
     def test_the_examples_have_none(self):
-        weeks = [(EXAMPLES / name / "ward.txt", *EXAMPLES.glob(f"{name}/history-*"), *EXAMPLES.glob(f"{name}/week-*")) for name in ("eight", "n005w4", "thirty")]
+        weeks = [
+            (EXAMPLES / name / "ward.txt", *EXAMPLES.glob(f"{name}/history-*"), *EXAMPLES.glob(f"{name}/week-*"))
+            for name in ("eight", "n005w4", "thirty")
+        ]
         weeks += [(SCENARIO, WARD / f"history-{number}.txt", WARD / f"week-{number}.txt") for number in (0, 1)]
         month = EXAMPLES / "month"
         weeks += [(month / "ward.txt", month / "history-0.txt", month / f"week-{number}.txt") for number in range(4)]
         for scenario, history, week in weeks:
             with self.subTest(week):
-                self.assertEqual(run("roster", "check", "--sce", scenario, "--his", history, "--week", week), (0, "No mistake found.\n", ""))
+                self.assertEqual(
+                    run("roster", "check", "--sce", scenario, "--his", history, "--week", week), (0, "No mistake found.\n", "")
+                )
 
 
 if __name__ == "__main__":

@@ -201,9 +201,14 @@ class Over(BackTest):
         self.lines("page")
         before = self.cells()
         lines = self.lines("over", "Bruno", "Mon", "ill,", "Chen", "Tue", "Late")
-        self.assertEqual(lines[:3], [
-            "Bruno: ill, Mon 30 Nov", "Bruno, Mon 30 Nov: ill instead of Day Nurse", "Chen, Tue 1 Dec: Late Nurse instead of off",
-        ])
+        self.assertEqual(
+            lines[:3],
+            [
+                "Bruno: ill, Mon 30 Nov",
+                "Bruno, Mon 30 Nov: ill instead of Day Nurse",
+                "Chen, Tue 1 Dec: Late Nurse instead of off",
+            ],
+        )
         self.assertIn("week 1 is over: the plan goes on from Mon 7 Dec", lines)
         del before["Bruno", 0]
         self.assertEqual(self.cells(), {**before, ("Chen", 1): ("Late", "Nurse")})
@@ -224,8 +229,13 @@ class Over(BackTest):
     def test_the_share_of_days_that_count_as_work(self):
         # A full contract has at least 17 shifts in 14 days: a day counts as 17/14 of a shift, two as 34/14, rounded up.
         for words, shifts in (
-            ("", 5), ("Bruno Mon off", 4), ("Bruno Mon ill", 4 + 2), ("Bruno Mon leave, Bruno Tue training", 3 + 3),
-            ("Bruno Mon unpaid", 4), ("Bruno Mon away", 4), ("Bruno Sat ill", 5 + 2),
+            ("", 5),
+            ("Bruno Mon off", 4),
+            ("Bruno Mon ill", 4 + 2),
+            ("Bruno Mon leave, Bruno Tue training", 3 + 3),
+            ("Bruno Mon unpaid", 4),
+            ("Bruno Mon away", 4),
+            ("Bruno Sat ill", 5 + 2),
         ):
             with self.subTest(words):
                 self.begin_with()
@@ -295,7 +305,7 @@ class Over(BackTest):
         self.assertIn("Bruno, Tue 8 Dec: ill instead of Day Nurse", lines)
         self.assertIn("week 2 is over, and with it the period is over", lines)
         text = (self.ward / "worked-2026-11-30.html").read_text()
-        self.assertEqual(text.count('>ill<'), 2)
+        self.assertEqual(text.count(">ill<"), 2)
         # The next period begins without the absences of this one.
         self.assertEqual(read_state(self.last()).absences, ())
         self.assertEqual(self.lines("undo")[0][:17], "undone: over peri")
@@ -331,6 +341,8 @@ class Asked(ServedPage):
         self.assertIn("<h2>The week is over: Mon 30 Nov to Sun 6 Dec, corrections Bruno Mon ill, Chen Tue Late?</h2>", question)
         self.assertEqual(len(list((self.ward / "plans").glob("0*"))), 1)
         page = self.sends(verb="over", corrections="Bruno Mon ill, Chen Tue Late")
-        self.assertIn("Bruno: ill, Mon 30 Nov\nBruno, Mon 30 Nov: ill instead of Day Nurse\nChen, Tue 1 Dec: Late Nurse instead of off\n", page)
+        self.assertIn(
+            "Bruno: ill, Mon 30 Nov\nBruno, Mon 30 Nov: ill instead of Day Nurse\nChen, Tue 1 Dec: Late Nurse instead of off\n", page
+        )
         self.assertIn("week 1 is over: the plan goes on from Mon 7 Dec", page)
         self.assertIn(">ill<", (self.ward / "worked-2026-11-30.html").read_text())

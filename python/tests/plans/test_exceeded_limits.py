@@ -212,7 +212,7 @@ class Verbs(ExceededTest):
         free = next(day for day in range(14) if ("Bruno", day) not in self.cells())
         day = self.plan.days.head(free)
         says = f"Bruno has 11 shifts, 1 of them for days away, of at most 10 {HOLDS}"
-        line, = self.named("training", "Bruno", day, "--time", "5")
+        (line,) = self.named("training", "Bruno", day, "--time", "5")
         self.assertTrue(line.startswith(says), line)
         self.assertTrue(self.page_has(line))
         state = read_state(self.last())

@@ -351,7 +351,9 @@ class Weeks(KeptTest):
         roster.write_text(roster.read_text().replace("Grace Mon Day", "Grcae Mon Day"))
         self.assertTrue((self.ward / "wall.html").exists())
         printed = self.does("undo")
-        self.assertIn("its pages are not written: the plan has 'Grcae Mon Day Nurse', and the spreadsheet has not all of these names", printed)
+        self.assertIn(
+            "its pages are not written: the plan has 'Grcae Mon Day Nurse', and the spreadsheet has not all of these names", printed
+        )
         # The pages of the plan that was undone are not left.
         self.assertEqual(list(self.ward.glob("*.html")), [])
 

@@ -144,7 +144,9 @@ class Page(ServedPage):
 
     def test_a_long_text_begins_with_what_a_planner_looks_for(self):
         page = self.sends(verb="check")
-        shown, folded = re.search(r'<pre role="status">([^<]*)</pre>\s*<details><summary>More</summary>\s*<pre>([^<]*)</pre>', page).groups()
+        shown, folded = re.search(
+            r'<pre role="status">([^<]*)</pre>\s*<details><summary>More</summary>\s*<pre>([^<]*)</pre>', page
+        ).groups()
         self.assertTrue("No mistake found." in shown or "warning: " in shown)
         self.assertTrue("7 nurses" in shown and "Would rather be off: " in folded, (shown, folded))
 
@@ -168,7 +170,9 @@ class Page(ServedPage):
     def test_the_question_of_a_swap_has_what_it_costs(self):
         self.write_plan()
         nurse, day = next(key for key in sorted(self.cells()) if key[1] >= 7)
-        form = re.search("<form[^>]*>(?:(?!</form>).)* takes it.*?</form>", self.asks(path=f"{self.site.path}?nurse={nurse}&day={day}")[1])[0]
+        form = re.search("<form[^>]*>(?:(?!</form>).)* takes it.*?</form>", self.asks(path=f"{self.site.path}?nurse={nurse}&day={day}")[1])[
+            0
+        ]
         other = re.search('name="other" value="([^"]*)"', form)[1]
         words = re.search('name="other day" value="([^"]*)"', form)
         fields = {"nurse": nurse, "first": DATES[day], "other": other, **({"other day": words[1]} if words else {})}

@@ -193,7 +193,9 @@ class FolderTest(HelperTest):
             roster, target = last / f"roster-{number}.txt", self.folder / f"history-{number + 1}.txt"
             found.append(program.penalty_of(program.WeekFiles(last / "ward.txt", history, last / f"week-{number}.txt"), roster))
             if not number:
-                self.assertEqual(run("roster", "next", "--sce", last / "ward.txt", "--his", history, "--roster", roster, "--out", target)[0], 0)
+                self.assertEqual(
+                    run("roster", "next", "--sce", last / "ward.txt", "--his", history, "--roster", roster, "--out", target)[0], 0
+                )
                 history = target
         return found
 
@@ -482,7 +484,10 @@ class Refused(FolderTest):
     def test_wrong_verbs_and_options(self):
         for says, *words in (
             ("'plna' is no verb: did you mean plan?", "plna"),
-            ("'sick' is no verb: write one of new, check, plan, ill, back, swap, over, page, undo, serve, files, away, leave, unpaid, training\n", "sick"),
+            (
+                "'sick' is no verb: write one of new, check, plan, ill, back, swap, over, page, undo, serve, files, away, leave, unpaid, training\n",
+                "sick",
+            ),
             ("a verb is missing after the folder: write one of new, check, plan, ",),
             ("'Chen' is a word too many: page has none", "page", "Chen"),
             ("--do is for swap: leave it out", "plan", "--do"),
@@ -490,8 +495,12 @@ class Refused(FolderTest):
             ("--time has to be a number of seconds above 0", "plan", "--time", "0"),
             ("--port 70000: give a number from 1024 to 65535", "serve", "--port", "70000"),
             ("--port 0: Cannot assign requested address: give the name of this machine, and a free port", "serve", "--host", "203.0.113.1"),
-            ("--host '0.0.0.0' is no address that a browser can open: give the name or number of this machine, or with --origin the address",
-             "serve", "--host", "0.0.0.0"),
+            (
+                "--host '0.0.0.0' is no address that a browser can open: give the name or number of this machine, or with --origin the address",
+                "serve",
+                "--host",
+                "0.0.0.0",
+            ),
             ("--host '' is no address", "serve", "--host", ""),
             ("--origin 'ward.example': give the beginning of an address, as https://ward.example", "serve", "--origin", "ward.example"),
             ("--origin 'https://ward.example/': give the beginning", "serve", "--origin", "https://ward.example/"),
@@ -527,7 +536,9 @@ class Refused(FolderTest):
         path = self.last() / "plan.json"
         text = path.read_text().replace('"verb": "plan"', '"verb": "ill Müller"')
         path.write_bytes(text.encode("cp1252"))
-        says = "plan.json line 2: this line has a byte that is no UTF-8, as another program has saved it: correct it, or type undo to go back"
+        says = (
+            "plan.json line 2: this line has a byte that is no UTF-8, as another program has saved it: correct it, or type undo to go back"
+        )
         for verb in ("check", "plan", "page"):
             self.assert_refused(says, self.ward, verb)
         self.assertIn("the plan of plan, 2026-11-28 12:00 holds again", self.does("undo"))
@@ -609,7 +620,9 @@ class Refused(FolderTest):
             fcntl.flock(lock, fcntl.LOCK_UN)
             self.assertEqual(second.wait(timeout=30), 1)
             said.seek(0)
-            self.assertEqual(said.read().splitlines()[1:], ["the other run has ended", f"inrc2pb-plan: {self.ward}: there is nothing to undo"])
+            self.assertEqual(
+                said.read().splitlines()[1:], ["the other run has ended", f"inrc2pb-plan: {self.ward}: there is nothing to undo"]
+            )
 
     def begun(self, verb, said):
         """A run of this verb, as soon as it waits for another one."""

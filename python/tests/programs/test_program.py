@@ -54,7 +54,10 @@ class Program(HelperTest):
 class Unreadable(HelperTest):
     def test_the_file_that_cannot_be_read_is_named(self):
         missing = self.folder / "week.txt"
-        for path, reason in ((missing, "No such file or directory: look at its name and folder"), (self.folder, "Is a directory: this is a folder")):
+        for path, reason in (
+            (missing, "No such file or directory: look at its name and folder"),
+            (self.folder, "Is a directory: this is a folder"),
+        ):
             for run_it in (lambda week: program.encode(week, Path(os.devnull)), lambda week: program.decode(week, "")):
                 with self.assertRaises(faults.ProgramFault) as caught:
                     run_it(program.WeekFiles(SCENARIO, HISTORY, path))

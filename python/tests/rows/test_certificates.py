@@ -158,7 +158,9 @@ class Pricings(unittest.TestCase):
                 one = leaf_of(limits, leaf.prices, max(-15 * POINT, surcharge_of(limits, leaf)))
                 found = pricing.bound(case, one)
                 text = facts_text("x", case)
-                wanted = plain.leaf_bound(period, plain.Leaf(plain.read_given(text), dict(zip(plan.demand, one.prices)), list(one.surcharges)))
+                wanted = plain.leaf_bound(
+                    period, plain.Leaf(plain.read_given(text), dict(zip(plan.demand, one.prices)), list(one.surcharges))
+                )
                 self.assertEqual(plain.NEVER if found is None else found, wanted, (seed, case, one))
                 compared += 1
         self.assertGreater(compared, 30)

@@ -59,7 +59,9 @@ class Listed(unittest.TestCase):
             for steps in (1, 4, 9):
                 search.penalty = STEP * (search.bound // (STEP * POINT) + steps)
                 gap = (search.penalty - STEP) * POINT - search.bound
-                wanted = {(nurse, row) for nurse, own in enumerate(values) for row, value in own.items() if value <= min(own.values()) + gap}
+                wanted = {
+                    (nurse, row) for nurse, own in enumerate(values) for row, value in own.items() if value <= min(own.values()) + gap
+                }
                 found = search.list_within(10**6, search.clock)
                 columns = [search.program.columns[number] for number in found]
                 self.assertEqual({(column.nurse, column.row) for column in columns}, wanted)

@@ -118,7 +118,9 @@ class FourWeeks(unittest.TestCase):
     def test_numpy_finds_the_same_rows(self):
         for python in (sys.executable, "/usr/bin/python3"):
             if shutil.which(python) and subprocess.run([python, "-c", "import numpy"], stderr=subprocess.DEVNULL).returncode == 0:
-                ran = subprocess.run([python, "-c", BY_NUMPY, *map(str, (HELPERS, TESTS, TESTS / "rows"))], stdout=subprocess.PIPE, check=True)
+                ran = subprocess.run(
+                    [python, "-c", BY_NUMPY, *map(str, (HELPERS, TESTS, TESTS / "rows"))], stdout=subprocess.PIPE, check=True
+                )
                 self.assertEqual(ran.stdout, b"True\n")
                 return
         self.skipTest("needs NumPy")
@@ -151,7 +153,9 @@ class Parts(HelperTest):
         week = files.read_files(THIRTY_FILES.scenario, THIRTY_FILES.history, THIRTY_FILES.week)
         plan = Plan.of(week.scenario, week.history, [week.data])
         solver = LinearSolvers(["cbc"], Processes(), self.folder, self.fail)
-        search = RowSearch(Pricing(plan, Crews(plan), lambda: None), solver, Clock(60), lambda rows, finder: search.value_of(rows), lambda: None)
+        search = RowSearch(
+            Pricing(plan, Crews(plan), lambda: None), solver, Clock(60), lambda rows, finder: search.value_of(rows), lambda: None
+        )
         search.begin(matched_rows(plan, search.pricing.crews, lambda: None), None)
         parts = RowParts(search, [solver, solver.beside(1)])
 
@@ -171,7 +175,9 @@ class Parts(HelperTest):
     def test_without_a_solver_that_fails_the_others_go_on(self):
         plan, warnings = Plan.of(SCENARIO, HISTORY, WEEKS[:1]), []
         solver = LinearSolvers(["cbc"], Processes(), self.folder, warnings.append)
-        search = RowSearch(Pricing(plan, Crews(plan), lambda: None), solver, Clock(60), lambda rows, finder: search.value_of(rows), lambda: None)
+        search = RowSearch(
+            Pricing(plan, Crews(plan), lambda: None), solver, Clock(60), lambda rows, finder: search.value_of(rows), lambda: None
+        )
         search.begin(matched_rows(plan, search.pricing.crews, lambda: None), None)
         parts, failed = RowParts(search, [solver, solver.beside(1)]), threading.Event()
 
@@ -200,7 +206,9 @@ class Parts(HelperTest):
         plan = Plan.of(SCENARIO, HISTORY, WEEKS[:1])
         solver = LinearSolvers(["cbc"], Processes(), self.folder, self.fail)
         for ended, grows in ((True, True), (False, False)):
-            search = RowSearch(Pricing(plan, Crews(plan), lambda: None), solver, Clock(60), lambda rows, finder: search.value_of(rows), lambda: None)
+            search = RowSearch(
+                Pricing(plan, Crews(plan), lambda: None), solver, Clock(60), lambda rows, finder: search.value_of(rows), lambda: None
+            )
             search.begin(matched_rows(plan, search.pricing.crews, lambda: None), None)
             parts = RowParts(search, [solver])
             first = parts._sizes[7]

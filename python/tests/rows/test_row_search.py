@@ -195,14 +195,22 @@ class RowSearches(HelperTest):
         """What a search makes of this answer to a program whose only rows are those of nurses who are always off."""
         week = week_of("ward")
         plan = Plan.of(week.scenario, week.history, [week.data])
-        search = RowSearch(Pricing(plan, Crews(plan), lambda: None), Says(names, proved), Clock(60), lambda rows, finder: None, lambda: None)
+        search = RowSearch(
+            Pricing(plan, Crews(plan), lambda: None), Says(names, proved), Clock(60), lambda rows, finder: None, lambda: None
+        )
         for nurse in range(len(plan.nurses)):
             search.add_row(nurse, bytes(7))
         return search.choose(range(len(search.program.columns)), Clock(60), "test")
 
     def test_an_optimal_answer_below_minimums_claims_nothing(self):
         off = [f"v{number}" for number in range(len(week_of("ward").scenario.nurses))]
-        for names, proved, claims in ((None, True, True), (None, False, False), (off, True, False), (off[1:], True, False), ([], True, False)):
+        for names, proved, claims in (
+            (None, True, True),
+            (None, False, False),
+            (off, True, False),
+            (off[1:], True, False),
+            ([], True, False),
+        ):
             self.assertEqual(self.chosen(names, proved), claims)
 
     def test_a_program_with_some_places_of_each_row_claims_nothing(self):

@@ -26,7 +26,9 @@ def random_plan(seed, weeks=1, nurses=4, shifts=4):
     names, skills = [f"s{n}" for n in range(chance.randint(1, shifts))], ["a", "b"][: chance.randint(1, 2)]
     types = {name: records.ShiftType(name, limits(), tuple(t for t in names if chance.random() < 0.25)) for name in names}
     contracts = {name: records.Contract(name, limits(), limits(), limits(), number(), chance.random() < 0.5) for name in "cd"}
-    people = {f"n{n}": records.Nurse(f"n{n}", chance.choice("cd"), tuple(s for s in skills if chance.random() < 0.8)) for n in range(nurses)}
+    people = {
+        f"n{n}": records.Nurse(f"n{n}", chance.choice("cd"), tuple(s for s in skills if chance.random() < 0.8)) for n in range(nurses)
+    }
     ward = records.Scenario("x", 3, tuple(skills), types, contracts, people)
     few = lambda: min(number(), 9900)  # noqa: E731
     pasts = {name: records.NurseHistory(name, few(), few(), chance.choice([None, *names]), number(), number(), number()) for name in people}
@@ -49,7 +51,9 @@ def cost_by_rules(plan, nurse, cells):
     """What a nurse's cells cost by `rules`, week by week; None if they break H3."""
     history, total = plan.history, 0
     for number, data in enumerate(plan.weeks):
-        week, now = records.Week(plan.scenario, history, data), [cell._replace(day=cell.day - 7 * number) for cell in cells if cell.day // 7 == number]
+        week, now = records.Week(plan.scenario, history, data), [
+            cell._replace(day=cell.day - 7 * number) for cell in cells if cell.day // 7 == number
+        ]
         if "H3" in broken(week, now):
             return None
         total += sum(nurse_costs(week, now, plan.early)[nurse].values())

@@ -102,7 +102,12 @@ class Proofs(FakeProver):
 
     def test_a_bound_is_that_of_the_program(self):
         run = self.certified(self.free)
-        for how, found in (("50", Bound(50, PROVER)), ("0", Bound(0, PROVER)), (None, Bound(run.lower_bound, PLAIN)), ("old", Bound(run.lower_bound, PLAIN))):
+        for how, found in (
+            ("50", Bound(50, PROVER)),
+            ("0", Bound(0, PROVER)),
+            (None, Bound(run.lower_bound, PLAIN)),
+            ("old", Bound(run.lower_bound, PLAIN)),
+        ):
             self.assertEqual(self.bounds(how).of(run, STRICT, 60.0), found)
         self.assertEqual(self.warnings, [])
         given = self.bounds("50").of(run, STRICT, 60.0) and self.given()

@@ -74,7 +74,12 @@ class Searches(HelperTest):
         status, report, said = run("solve", *WEEK_OPTIONS, "--out", self.target, environment={"PATH": str(tools)})
         self.assertEqual(status, 0)
         self.assertTrue(report.endswith("no lower bound\n"))
-        self.assertEqual(said.count("there is no cbc, clp or glpsol, so this is only a first roster: install one (Debian: apt-get install coinor-cbc)\n"), 1)
+        self.assertEqual(
+            said.count(
+                "there is no cbc, clp or glpsol, so this is only a first roster: install one (Debian: apt-get install coinor-cbc)\n"
+            ),
+            1,
+        )
         self.assertIn(f"penalty {program.penalty_of(WEEK_FILES, self.target)}\n", report)
 
     def test_a_second_run_keeps_a_better_roster_of_this_week(self):
@@ -147,7 +152,9 @@ class BadInput(HelperTest):
         self.assert_refused(3, "no_folder", *WEEK_OPTIONS, "--out", self.folder / "no_folder" / "best.txt")
         kept = shutil.copy(ROSTER, self.folder / "kept.txt")
         self.assert_refused(1, f"{kept} is read, so the roster cannot be written to it", *WEEK_OPTIONS, "--out", kept, "--fix", kept)
-        self.assert_refused(1, "gets the roster, so the certificate cannot be written to it", *WEEK_OPTIONS, *target, "--proof", self.folder / "best.txt")
+        self.assert_refused(
+            1, "gets the roster, so the certificate cannot be written to it", *WEEK_OPTIONS, *target, "--proof", self.folder / "best.txt"
+        )
         says = "no roster was found, and no proof that none exists: try --solver clasp"
         self.assert_refused(5, says, *WEEK_OPTIONS, *target, "--solver", "sh -c 'echo s UNKNOWN'")
         for seconds in ("nan", "inf", 0, "1e12"):
@@ -247,7 +254,8 @@ class Stops(HelperTest):
             target = self.folder / f"{number}.txt"
             words = [*THIRTY_FILES.options(), "--out", target, "--time", "600"]
             search = subprocess.Popen(
-                [sys.executable, str(HELPERS / "inrc2pb-solve"), *map(str, words)], stdout=subprocess.PIPE, stderr=subprocess.PIPE)
+                [sys.executable, str(HELPERS / "inrc2pb-solve"), *map(str, words)], stdout=subprocess.PIPE, stderr=subprocess.PIPE
+            )
             line = search.stderr.readline()
             self.assertIn(b"penalty", line)
             search.send_signal(number)

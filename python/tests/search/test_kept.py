@@ -12,7 +12,20 @@ from inrc2pb.rows.plan import ABSENCES_KEPT, FEW_BROKEN, FREE, STRICT, Plan
 from inrc2pb.rows.pricing import Crews, Pricing
 from inrc2pb.week.facts import Charged, Choice, Claim, facts_text
 from inrc2pb.week.faults import FileFault
-from inrc2pb.week.records import Absence, Cell, Contract, History, KeptLimit, Limits, Nurse, NurseHistory, Scenario, ShiftType, Week, WeekData
+from inrc2pb.week.records import (
+    Absence,
+    Cell,
+    Contract,
+    History,
+    KeptLimit,
+    Limits,
+    Nurse,
+    NurseHistory,
+    Scenario,
+    ShiftType,
+    Week,
+    WeekData,
+)
 
 WARD, DATA = files.read_scenario(SCENARIO), files.read_week(WEEK, files.read_scenario(SCENARIO))
 ALL_LIMITS = frozenset({KeptLimit("Ann", "WORK_DAYS", 0), KeptLimit("Ann", "SHIFTS", 0), KeptLimit("Ann", "WEEKENDS", 0)})
@@ -35,7 +48,12 @@ def kept_by(shifts, past, absences, work, total, weekends):
     at_weekend = bool(shifts[5] or shifts[6])
     away = any(shift and ((day, None) in absences or (day, shift) in absences) for day, shift in enumerate(shifts))
     works = sum(map(bool, shifts))
-    return not away and in_row <= work and not (works and past.assignments + works > total) and not (at_weekend and past.weekends + 1 > weekends)
+    return (
+        not away
+        and in_row <= work
+        and not (works and past.assignments + works > total)
+        and not (at_weekend and past.weekends + 1 > weekends)
+    )
 
 
 class Rows(unittest.TestCase):
@@ -79,7 +97,9 @@ class Above(unittest.TestCase):
         cells = [Cell("Ann", day, "Day", "Nurse") for day in (0, 1, 2, 6)]
         for limits, above, words in (
             (
-                ALL_LIMITS, 4, "Ann has 4 days of work in a row, to Wed, of at most 3, "
+                ALL_LIMITS,
+                4,
+                "Ann has 4 days of work in a row, to Wed, of at most 3, "
                 "Ann has 8 shifts of at most 6, above on Wed and Sun, Ann has 2 weekends of at most 1, above on Sun",
             ),
             ({KeptLimit("Ann", "SHIFTS", 1)}, 1, "Ann has 8 shifts of at most 6, above on Sun"),
@@ -146,7 +166,11 @@ class Commands(HelperTest):
     def test_a_roster_that_does_not_keep_the_facts(self):
         chen = next(cell for cell in self.rows if cell.nurse == "Chen")
         few = self.changed(SCENARIO, "Full (17,21)", "Full (0,3)", "few.txt")
-        worked = [day for number, day in enumerate(("Mon", "Tue", "Wed", "Thu", "Fri", "Sat", "Sun")) if ("Dilek", number) in {cell[:2] for cell in self.rows}]
+        worked = [
+            day
+            for number, day in enumerate(("Mon", "Tue", "Wed", "Thu", "Fri", "Sat", "Sun"))
+            if ("Dilek", number) in {cell[:2] for cell in self.rows}
+        ]
         self.assertEqual(len(worked), 5)
         says = f"Dilek has 5 shifts of at most 3, above on {worked[-2]} and {worked[-1]}"
         given = self.give(Claim(Choice(1, "Chen", chen.day, None)), Claim(Charged("SHIFTS", "Dilek", 0)))
@@ -162,7 +186,9 @@ class Commands(HelperTest):
         self.assertIn("Dilek: never more than 3 shifts.", run("roster", "check", *words, "--tell")[1])
 
     def test_the_reason_of_an_absence_is_shown(self):
-        off = next((nurse, day) for nurse in WARD.nurses for day in range(7) if (nurse, day) not in {(cell.nurse, cell.day) for cell in self.rows})
+        off = next(
+            (nurse, day) for nurse in WARD.nurses for day in range(7) if (nurse, day) not in {(cell.nurse, cell.day) for cell in self.rows}
+        )
         given = self.give(Claim(Choice(1, *off, None)))
         reasons = self.folder / "reasons.txt"
         reasons.write_text(f"REASONS\nward\n\nROWS = 1\n1 {off[0]} {('Mon', 'Tue', 'Wed', 'Thu', 'Fri', 'Sat', 'Sun')[off[1]]} leave\n")
@@ -172,8 +198,12 @@ class Commands(HelperTest):
 
     def test_options_that_need_others(self):
         given = self.give()
-        self.assert_fault(run("roster", "check", "--sce", SCENARIO, *given), "inrc2pb-roster: --given needs the whole week: give --sce, --his and --week")
-        self.assert_fault(run("roster", "show", *given, "--roster", ROSTER), "inrc2pb-roster: --given needs --sce and --week: give them too")
+        self.assert_fault(
+            run("roster", "check", "--sce", SCENARIO, *given), "inrc2pb-roster: --given needs the whole week: give --sce, --his and --week"
+        )
+        self.assert_fault(
+            run("roster", "show", *given, "--roster", ROSTER), "inrc2pb-roster: --given needs --sce and --week: give them too"
+        )
         wrong = self.give(Claim(Choice(2, "Chen", 4, "Day")))
         line = f"{self.facts}: 'HOLDS CHOICE 2 Chen Fri Day' is neither an absence nor a limit of a nurse: remove it"
         self.assert_fault(run("solve", *WEEK_OPTIONS, *wrong, "--out", self.folder / "r.txt", "--time", 1), f"inrc2pb-solve: {line}")
@@ -181,7 +211,11 @@ class Commands(HelperTest):
     @unittest.skipUnless(HAS_CBC, "needs cbc")
     def test_a_search_keeps_absences_and_limits(self):
         target = self.folder / "roster.txt"
-        claims = [Claim(Choice(1, "Chen", 4, None)), Claim(Choice(1, "Grace", 6, "Day"), False), *(Claim(Charged(kind, None, 0)) for kind in ("WORK_DAYS", "WEEKENDS"))]
+        claims = [
+            Claim(Choice(1, "Chen", 4, None)),
+            Claim(Choice(1, "Grace", 6, "Day"), False),
+            *(Claim(Charged(kind, None, 0)) for kind in ("WORK_DAYS", "WEEKENDS")),
+        ]
         status, report, said = run("solve", *WEEK_OPTIONS, *self.give(*claims), "--out", target, "--time", 20)
         self.assertEqual((status, "no roster was found" in said), (0, False), said)
         self.assertRegex(report, "\nlower bound [0-9]+ ")
@@ -199,7 +233,9 @@ class Commands(HelperTest):
         status, _, said = run("solve", *WEEK_OPTIONS, *given, "--out", target, "--time", 20)
         self.assertEqual(status, 0, said)
         self.assertIn("no roster was found that keeps every limit: Ewa has 6 days of work in a row, Mon to Sat, of at most 3\n", said)
-        self.assertIn("lower minimum numbers, hold fewer shifts, or allow these nurses more; nobody with these skills has shifts left", said)
+        self.assertIn(
+            "lower minimum numbers, hold fewer shifts, or allow these nurses more; nobody with these skills has shifts left", said
+        )
         self.assertFalse([cell for cell in files.read_solution(target).cells if cell.nurse in ("Amara", "Bruno") and cell.day < 6])
         period = self.folder / "period"
         status, printed, said = run("solve", *WEEK_OPTIONS, "--week", WEEK, *given, "--out", period, "--time", 8)
@@ -212,7 +248,18 @@ class Commands(HelperTest):
         # Both weeks ask for 26 shifts at least; nobody may have more than eight in two weeks, which makes 56.
         few = self.changed(SCENARIO, "WEEKS = 4", "WEEKS = 2", "few.txt")
         few.write_text(few.read_text().replace("Full (17,21)", "Full (4,8)").replace("Half (8,11)", "Half (4,8)"))
-        words = ("--sce", few, *WEEK_OPTIONS[2:], "--week", WEEK, *self.give(Claim(Charged("SHIFTS", None, 0))), "--out", self.folder / "period", "--time", 10)
+        words = (
+            "--sce",
+            few,
+            *WEEK_OPTIONS[2:],
+            "--week",
+            WEEK,
+            *self.give(Claim(Charged("SHIFTS", None, 0))),
+            "--out",
+            self.folder / "period",
+            "--time",
+            10,
+        )
         status, printed, said = run("solve", *words)
         self.assertEqual((status, "no plan was found" in said), (0, False), said)
         cells = [cell for number in (0, 1) for cell in files.read_solution(self.folder / "period" / f"roster-{number}.txt").cells]

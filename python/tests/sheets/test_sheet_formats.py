@@ -40,17 +40,24 @@ def excel(path, sheets, dates=False):
                 elif name == "plan":
                     cells += f'<c {place} t="inlineStr"><is><t xml:space="preserve"> {escape(text)} </t></is></c>'
                 else:
-                    shared.append(f"<si><r><t>{escape(text[:1])}</t></r><r><t>{escape(text[1:])}</t></r><rPh sb='0' eb='1'><t>spoken</t></rPh></si>")
+                    shared.append(
+                        f"<si><r><t>{escape(text[:1])}</t></r><r><t>{escape(text[1:])}</t></r><rPh sb='0' eb='1'><t>spoken</t></rPh></si>"
+                    )
                     cells += f'<c {place} t="s"><v>{len(shared) - 1}</v></c>'
             xml += f'<row r="{line}">{cells}</row>'
         space = 'xmlns="http://schemas.openxmlformats.org/spreadsheetml/2006/main"'
         parts[f"xl/worksheets/sheet{number}.xml"] = f"<worksheet {space}><sheetData>{xml}</sheetData></worksheet>"
-        links.append(f'<Relationship Id="rId{number}" Target="/xl/worksheets/sheet{number}.xml"/>' if number % 2 else
-                     f'<Relationship Id="rId{number}" Target="worksheets/sheet{number}.xml"/>')
+        links.append(
+            f'<Relationship Id="rId{number}" Target="/xl/worksheets/sheet{number}.xml"/>'
+            if number % 2
+            else f'<Relationship Id="rId{number}" Target="worksheets/sheet{number}.xml"/>'
+        )
         named.append(f'<sheet name="{name.title()}" sheetId="{number}" r:id="rId{number}"/>')
     relation = "http://schemas.openxmlformats.org/officeDocument/2006/relationships"
     parts["xl/workbook.xml"] = f'<workbook {space} xmlns:r="{relation}"><sheets>{"".join(named)}</sheets></workbook>'
-    parts["xl/_rels/workbook.xml.rels"] = f'<Relationships xmlns="http://schemas.openxmlformats.org/package/2006/relationships">{"".join(links)}</Relationships>'
+    parts[
+        "xl/_rels/workbook.xml.rels"
+    ] = f'<Relationships xmlns="http://schemas.openxmlformats.org/package/2006/relationships">{"".join(links)}</Relationships>'
     parts["xl/sharedStrings.xml"] = f"<sst {space}>{''.join(shared)}</sst>"
     with zipfile.ZipFile(path, "w", zipfile.ZIP_DEFLATED) as archive:
         for name, text in parts.items():
@@ -88,7 +95,11 @@ class Formats(HelperTest):
         two = [["contract", "shifts", "", "work", "", "off", "", *head[7:]], ["", "min", "max", "min", "max", "min", "max"]]
         sheets["contracts"] = [["Contracts of ward 3"], [], *two, [], *sheets["contracts"][1:]]
         first = (MONDAY - datetime.date(1899, 12, 30)).days
-        sheets["plan"] = [["nurse", *(str(first + day) for day in range(14))], ["", *(day for _ in "12" for day in DAYS)], *sheets["plan"][1:]]
+        sheets["plan"] = [
+            ["nurse", *(str(first + day) for day in range(14))],
+            ["", *(day for _ in "12" for day in DAYS)],
+            *sheets["plan"][1:],
+        ]
         sheets["needs"][1][3] = "1.0"
         path = self.folder / "ward.xlsx"
         excel(path, sheets)
@@ -96,12 +107,19 @@ class Formats(HelperTest):
         self.assertEqual(read_days(read_book(path)).monday, MONDAY)
 
     def test_csv_files_with_other_signs_and_encodings(self):
-        for separator, encoding, end in ((";", "utf-8", "\r\n"), (",", "utf-8-sig", "\n"), ("\t", "utf-16", "\r\n"), (";", "cp1252", "\r\n")):
+        for separator, encoding, end in (
+            (";", "utf-8", "\r\n"),
+            (",", "utf-8-sig", "\n"),
+            ("\t", "utf-16", "\r\n"),
+            (";", "cp1252", "\r\n"),
+        ):
             folder = self.folder / f"{encoding}{ord(separator)}"
             folder.mkdir()
             for name, rows in SHEETS.items():
                 text = io.StringIO()
-                csv.writer(text, delimiter=separator, lineterminator=end).writerows([[cell.replace("Chen", "Jürgen") for cell in row] for row in rows])
+                csv.writer(text, delimiter=separator, lineterminator=end).writerows(
+                    [[cell.replace("Chen", "Jürgen") for cell in row] for row in rows]
+                )
                 (folder / f"ward-{name.title()}.csv").write_bytes(text.getvalue().encode(encoding))
             book = read_book(folder)
             found = ward.ward_files(book, "ward", read_days(book), ()).texts
@@ -120,16 +138,40 @@ class Formats(HelperTest):
         flipped = good[:begin] + bytes(200) + good[begin + 200 :]
         bomb = '<!DOCTYPE x [<!ENTITY a "aaaaaaaaaa"><!ENTITY b "&a;&a;&a;&a;">]><x>&b;</x>'
         for name, data, said in (
-            ("old.xls", b"\xd0\xcf\x11\xe0" + bytes(600), "this is an old Excel file, or one with a password: save it without one as .xlsx or .ods"),
+            (
+                "old.xls",
+                b"\xd0\xcf\x11\xe0" + bytes(600),
+                "this is an old Excel file, or one with a password: save it without one as .xlsx or .ods",
+            ),
             ("text.ods", b"nurse;contract\n", "this is no spreadsheet: give an .ods or .xlsx file, or a folder of .csv files"),
             ("cut.ods", good[:3000], "the spreadsheet is damaged or has a password: open it in its program, and save it again without one"),
             ("flipped.ods", flipped, "the spreadsheet is damaged or has a password: open it in its program, and save it again without one"),
             ("other.zip", {"a.txt": "a"}, "this file has no sheets: give an .ods or .xlsx file, or a folder of .csv files"),
-            ("bomb.ods", {"content.xml": bomb}, "the spreadsheet has a document type, which no program writes: save it again with LibreOffice or Excel"),
-            ("bomb16.ods", {"content.xml": bomb.encode("utf-16")}, "the spreadsheet has a document type, which no program writes: save it again with LibreOffice or Excel"),
-            ("wrong.ods", {"content.xml": "<x>"}, "the spreadsheet is damaged or has a password: open it in its program, and save it again without one"),
-            ("deep.ods", {"content.xml": DEEP}, "the spreadsheet is damaged or has a password: open it in its program, and save it again without one"),
-            ("large.ods", {"content.xml": "<x>" + " " * 33_554_432 + "</x>"}, "the spreadsheet has more than 33554432 bytes of XML: delete what is no part of the ward"),
+            (
+                "bomb.ods",
+                {"content.xml": bomb},
+                "the spreadsheet has a document type, which no program writes: save it again with LibreOffice or Excel",
+            ),
+            (
+                "bomb16.ods",
+                {"content.xml": bomb.encode("utf-16")},
+                "the spreadsheet has a document type, which no program writes: save it again with LibreOffice or Excel",
+            ),
+            (
+                "wrong.ods",
+                {"content.xml": "<x>"},
+                "the spreadsheet is damaged or has a password: open it in its program, and save it again without one",
+            ),
+            (
+                "deep.ods",
+                {"content.xml": DEEP},
+                "the spreadsheet is damaged or has a password: open it in its program, and save it again without one",
+            ),
+            (
+                "large.ods",
+                {"content.xml": "<x>" + " " * 33_554_432 + "</x>"},
+                "the spreadsheet has more than 33554432 bytes of XML: delete what is no part of the ward",
+            ),
         ):
             path = self.folder / name
             if isinstance(data, bytes):
@@ -185,7 +227,10 @@ class Formats(HelperTest):
             '<office:automatic-styles><style:style style:name="old"><style:text-properties style:text-line-through-style="solid"/></style:style>'
             '<style:style style:name="red"><style:table-cell-properties fo:background-color="#ff0000"/></style:style></office:automatic-styles>'
         )
-        spaces = "".join(f' xmlns:{name}="urn:oasis:names:tc:opendocument:xmlns:{space}:1.0"' for name, space in (("style", "style"), ("fo", "xsl-fo-compatible")))
+        spaces = "".join(
+            f' xmlns:{name}="urn:oasis:names:tc:opendocument:xmlns:{space}:1.0"'
+            for name, space in (("style", "style"), ("fo", "xsl-fo-compatible"))
+        )
         content = [("<office:document-content", f"<office:document-content{spaces}"), ("<office:body>", f"{style}<office:body>")]
         content += [("<text:p>training</text:p>", '<text:p><text:span text:style-name="old">training</text:span></text:p>')]
         content += [("<text:p>Grace</text:p></table:table-cell><table:table-cell/>",
@@ -207,7 +252,10 @@ class Formats(HelperTest):
 
     def test_formulas_of_a_ward(self):
         for text, said in (
-            ("=A1+1", "the value of the formula =A1+1 is not in the file: open the file in a spreadsheet program, and save it again, or write the value"),
+            (
+                "=A1+1",
+                "the value of the formula =A1+1 is not in the file: open the file in a spreadsheet program, and save it again, or write the value",
+            ),
             ("#REF!", "a formula has the fault #REF!: correct it, or write its value in its place"),
             ("Err:502", "a formula has the fault Err:502: correct it, or write its value in its place"),
             ("=2+1", "'=2+1' is a sum: write 2+1 without the sign =, or 3"),

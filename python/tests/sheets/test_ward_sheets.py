@@ -29,9 +29,12 @@ class Contents(unittest.TestCase):
         found = texts(sheets, reasons)
         scenario = files.read_scenario("ward.txt", found["ward.txt"])
         claims = read_facts("g", scenario, text=found["facts.txt"])
-        return scenario, files.read_history("h", scenario, found["history-0.txt"]), [
-            with_given(scenario, files.read_week("w", scenario, found[f"week-{number}.txt"]), claims, number) for number in (0, 1)
-        ], [files.read_solution("f", scenario, found[f"fix-{number}.txt"]).cells for number in (0, 1)]
+        return (
+            scenario,
+            files.read_history("h", scenario, found["history-0.txt"]),
+            [with_given(scenario, files.read_week("w", scenario, found[f"week-{number}.txt"]), claims, number) for number in (0, 1)],
+            [files.read_solution("f", scenario, found[f"fix-{number}.txt"]).cells for number in (0, 1)],
+        )
 
     def test_the_example(self):
         scenario, history, weeks, held = self.read(SHEETS)
@@ -45,7 +48,10 @@ class Contents(unittest.TestCase):
         self.assertEqual(absences_of(weeks[0]), always)
         self.assertEqual(absences_of(weeks[1]), {*always, Absence("Amara_Koch", 0, None), Absence("Amara_Koch", 1, None)})
         self.assertEqual([row.row() for row in held[1]], ["Grace Mon Day Nurse"])
-        self.assertEqual([(one.nurse, one.shift, one.day) for one in weeks[0].requests if one.nurse in ("Chen", "Grace")], [("Chen", None, 5), ("Grace", "Night", 1)])
+        self.assertEqual(
+            [(one.nurse, one.shift, one.day) for one in weeks[0].requests if one.nurse in ("Chen", "Grace")],
+            [("Chen", None, 5), ("Grace", "Night", 1)],
+        )
 
     def test_leave_counts_as_work_if_it_is_said(self):
         # Full asks for 8 shifts in 14 days: two days are 1.1 shifts.
@@ -83,7 +89,9 @@ class Contents(unittest.TestCase):
                 sheets["plan"][7] = ["Grace", *words, *[""] * (14 - len(words))]
                 scenario, history, weeks, _ = self.read(sheets, ("ill", "leave", "training"))
                 self.assertEqual(scenario.contract_of("Grace").days_off, days_off)
-                off = [charge for charge in charges(Week(scenario, history, weeks[0]), ()) if (charge.nurse, charge.rule) == ("Grace", "S3")]
+                off = [
+                    charge for charge in charges(Week(scenario, history, weeks[0]), ()) if (charge.nurse, charge.rule) == ("Grace", "S3")
+                ]
                 self.assertEqual(bool(off), days_off == (2, 3))
 
     def test_empty_limits_are_none(self):
@@ -93,7 +101,16 @@ class Contents(unittest.TestCase):
         self.assertEqual((contract.assignments, contract.working_days, contract.max_weekends), ((0, 9999), (0, 9999), 9999))
 
     def test_numbers_of_the_needs(self):
-        for text, wanted in (("", (0, 0)), ("-", (0, 0)), ("3", (3, 3)), ("2+1", (2, 3)), ("2..4", (2, 4)), ("(1,2)", (1, 2)), ("2,0", (2, 2)), ("2.0", (2, 2))):
+        for text, wanted in (
+            ("", (0, 0)),
+            ("-", (0, 0)),
+            ("3", (3, 3)),
+            ("2+1", (2, 3)),
+            ("2..4", (2, 4)),
+            ("(1,2)", (1, 2)),
+            ("2,0", (2, 2)),
+            ("2.0", (2, 2)),
+        ):
             data = self.read(changed("needs", 2, 3, text))[2][0]
             self.assertEqual(data.requirements[Place(0, "Day", "Charge")], Requirement(*wanted), text)
 
@@ -101,15 +118,23 @@ class Contents(unittest.TestCase):
         for sheet, row, column, text, said in (
             ("shifts", 1, 1, "min in row", "row 1, column B: 'min in row' is no column of this sheet: did you mean 'min in a row'?"),
             ("shifts", 1, 0, "type", "no row has the head 'shift': write shift into the first row"),
-            *(("shifts", 2, 0, text, f"row 2, column A: '{text}' has a meaning of its own in the ward's files: use another name")
-              for text in ("Any", "Off", "wish", *AWAY)),
+            *(
+                ("shifts", 2, 0, text, f"row 2, column A: '{text}' has a meaning of its own in the ward's files: use another name")
+                for text in ("Any", "Off", "wish", *AWAY)
+            ),
             ("shifts", 3, 0, "day", "row 3, column A: the shift type 'day' is there already: use another name"),
             ("shifts", 2, 0, "", "row 2, column A: the cell is empty: write the name of the shift type, or delete the row"),
             ("shifts", 2, 0, "D (long)", "row 2, column A: 'D (long)' has one of the signs ( ) , =: write the name without it"),
             ("shifts", 3, 3, "Dya", "row 3, column D: 'Dya' is no shift type: did you mean Day?"),
             ("shifts", 2, 1, "7", "row 2, column B: the minimum 7 is above the maximum 5: correct one of the two"),
             ("contracts", 2, 1, "9.5", "row 2, column B: '9.5' is no whole number: shifts are counted, not hours"),
-            ("contracts", 2, 1, "50.00%", "row 2, column B: '50.00%' is no whole number: write the number itself, not a part of another one"),
+            (
+                "contracts",
+                2,
+                1,
+                "50.00%",
+                "row 2, column B: '50.00%' is no whole number: write the number itself, not a part of another one",
+            ),
             ("contracts", 2, 1, "O", "row 2, column B: 'O' is no whole number: write the digit 0"),
             ("contracts", 2, 8, "maybe", "row 2, column I: 'maybe' is neither yes nor no: write yes or no"),
             ("nurses", 2, 1, "Ful", "row 2, column B: 'Ful' is no contract: did you mean Full?"),
@@ -117,62 +142,169 @@ class Contents(unittest.TestCase):
             ("nurses", 3, 0, "Amara Koch", "row 3, column A: the nurse 'Amara Koch' is there already: use another name"),
             ("nurses", 1, 4, "off days", "row 1, column E: 'off days' is no column of this sheet: did you mean 'always off'?"),
             ("nurses", 1, 3, "nights", "row 1, column D: 'nights' is no column of this sheet: delete it, or begin its head with #"),
-            ("nurses", 2, 2, "Charge Nurse", "row 2, column C: 'Charge Nurse' is no skill of the sheet needs, and has several in it: write commas between skills"),
-            ("nurses", 2, 2, "charge+Nurse", "row 2, column C: 'charge+Nurse' is no skill of the sheet needs, and has several in it: write commas between skills"),
-            ("nurses", 2, 2, "Nurse, Chrage", "row 2, column C: no row of the sheet needs has the skill 'Chrage': write Charge if you mean it, else add a row for it"),
-            *(("nurses", 2, 4, text, f"row 2, column E: '{text}' is no day of the week: write days with commas between, such as Mon, Tue")
-              for text in ("W", "Monday and Tue", "Mon Tue", "Mon-Wed", "Mon+Tue", "Sunrise")),
+            (
+                "nurses",
+                2,
+                2,
+                "Charge Nurse",
+                "row 2, column C: 'Charge Nurse' is no skill of the sheet needs, and has several in it: write commas between skills",
+            ),
+            (
+                "nurses",
+                2,
+                2,
+                "charge+Nurse",
+                "row 2, column C: 'charge+Nurse' is no skill of the sheet needs, and has several in it: write commas between skills",
+            ),
+            (
+                "nurses",
+                2,
+                2,
+                "Nurse, Chrage",
+                "row 2, column C: no row of the sheet needs has the skill 'Chrage': write Charge if you mean it, else add a row for it",
+            ),
+            *(
+                ("nurses", 2, 4, text, f"row 2, column E: '{text}' is no day of the week: write days with commas between, such as Mon, Tue")
+                for text in ("W", "Monday and Tue", "Mon Tue", "Mon-Wed", "Mon+Tue", "Sunrise")
+            ),
             ("needs", 1, 3, "Mo", "row 1, column D: 'Mo' is no column of this sheet: did you mean 'mon'?"),
-            ("needs", 2, 3, "46083", "row 2, column D: 46083 is more than 9999: a spreadsheet makes such a number of 2-3 or 2/3, so write 2+1 for 2 at least and better 3"),
-            *(("needs", 2, 3, text, f"row 2, column D: '{text}' is no whole number: write a number such as 2, or {pair}")
-              for text, pair in (
-                  ("2-3", "2+1 for 2 at least and better 3"), ("1 \u2013 4", "1+3 for 1 at least and better 4"), ("0/2", "0+2 for 0 at least and better 2"),
-                  *((text, "2+1 for 2 at least and better 3") for text in ("4-4", "3-2", "2026-03-02", "02.03.2026", "3-Feb", "two")),
-              )),
-            *(("needs", 2, 3, text, f"row 2, column D: '{text}' is no whole number, or it is two numbers: write 2 or 3, or {pair}")
-              for text, pair in (("2,5", "2+3 for 2 at least and better 5"), ("2.5", "2+3 for 2 at least and better 5"), ("2,1", "2+1 for 2 at least and better 3"))),
-            *(("needs", 2, 3, text, f"row 2, column D: '{text}' is no whole number: write 4, or 4+1 for 4 at least and better 5")
-              for text in ("ca. 4", "~4", "at least 4", "4 nurses", "4?")),
+            (
+                "needs",
+                2,
+                3,
+                "46083",
+                "row 2, column D: 46083 is more than 9999: a spreadsheet makes such a number of 2-3 or 2/3, so write 2+1 for 2 at least and better 3",
+            ),
+            *(
+                ("needs", 2, 3, text, f"row 2, column D: '{text}' is no whole number: write a number such as 2, or {pair}")
+                for text, pair in (
+                    ("2-3", "2+1 for 2 at least and better 3"),
+                    ("1 \u2013 4", "1+3 for 1 at least and better 4"),
+                    ("0/2", "0+2 for 0 at least and better 2"),
+                    *((text, "2+1 for 2 at least and better 3") for text in ("4-4", "3-2", "2026-03-02", "02.03.2026", "3-Feb", "two")),
+                )
+            ),
+            *(
+                ("needs", 2, 3, text, f"row 2, column D: '{text}' is no whole number, or it is two numbers: write 2 or 3, or {pair}")
+                for text, pair in (
+                    ("2,5", "2+3 for 2 at least and better 5"),
+                    ("2.5", "2+3 for 2 at least and better 5"),
+                    ("2,1", "2+1 for 2 at least and better 3"),
+                )
+            ),
+            *(
+                ("needs", 2, 3, text, f"row 2, column D: '{text}' is no whole number: write 4, or 4+1 for 4 at least and better 5")
+                for text in ("ca. 4", "~4", "at least 4", "4 nurses", "4?")
+            ),
             ("contracts", 2, 3, "3-5", "row 2, column D: '3-5' is no whole number: write a number such as 2"),
-            ("contracts", 2, 3, "46145", "row 2, column D: 46145 is more than 9999: a spreadsheet makes such a number of 2-3 or 2/3, so write one number"),
+            (
+                "contracts",
+                2,
+                3,
+                "46145",
+                "row 2, column D: 46145 is more than 9999: a spreadsheet makes such a number of 2-3 or 2/3, so write one number",
+            ),
             ("needs", 2, 3, "3..2", "row 2, column D: at least 3 are needed, and 2 are best: write the smaller number first"),
             ("needs", 2, 2, "Char", "row 2, column C: 'Char' is no skill of the sheet nurses: did you mean Charge?"),
             ("needs", 4, 1, "Day", "row 4, column B: Day Nurse has a row already: delete one, or write its week"),
             ("needs", 2, 0, "3", "row 2, column A: there is no week 3: weeks are counted from 1, so write 2 for the last one"),
             ("needs", 2, 0, "0", "row 2, column A: there is no week 0: weeks are counted from 1, so write 2 for the last one"),
             ("plan", 2, 0, "Amara", "row 2, column A: 'Amara' is no nurse of the sheet nurses: did you mean Amara Koch?"),
-            ("plan", 3, 0, "Legend: x", "row 3, column A: 'Legend: x' is no nurse of the sheet nurses: "
-             "write one of Amara Koch, Bruno, Chen, Dilek, Ewa, Finn, Grace, Hana, or delete the row"),
+            (
+                "plan",
+                3,
+                0,
+                "Legend: x",
+                "row 3, column A: 'Legend: x' is no nurse of the sheet nurses: "
+                "write one of Amara Koch, Bruno, Chen, Dilek, Ewa, Finn, Grace, Hana, or delete the row",
+            ),
             ("needs", 3, 1, "Total", "row 3, column B: 'Total' is no shift type: write one of Day, Late, Night, or delete the row"),
             ("plan", 3, 0, "Amara Koch", "row 3, column A: Amara Koch has a row already: put everything into one row"),
             ("plan", 2, 1, "Dya", "row 2, column B: 'Dya' is no shift type: did you mean Day?"),
             ("plan", 2, 1, "trainin", "row 2, column B: 'trainin' is no shift type: did you mean training?"),
-            ("plan", 2, 1, "Xyz", "row 2, column B: 'Xyz' is no shift type: write one of Day, Late, Night, wish, away, ill, leave, unpaid, training, no Day"),
+            (
+                "plan",
+                2,
+                1,
+                "Xyz",
+                "row 2, column B: 'Xyz' is no shift type: write one of Day, Late, Night, wish, away, ill, leave, unpaid, training, no Day",
+            ),
             ("plan", 2, 1, "Day", "row 2, column B: Amara Koch has more than one skill for it: write Day/Charge, for example"),
             ("plan", 4, 1, "Day/Charge", "row 4, column B: 'Charge' is no skill of Chen: write one of Nurse"),
             ("plan", 4, 1, "Day", "row 4, column B: Chen may not work Day on the day after Late: change one of the two"),
-            ("plan", 6, 3, "Night/Nurse", "row 6, column D: Ewa never works this shift or is always off on this day, by the sheet nurses: change one of the two"),
+            (
+                "plan",
+                6,
+                3,
+                "Night/Nurse",
+                "row 6, column D: Ewa never works this shift or is always off on this day, by the sheet nurses: change one of the two",
+            ),
             ("plan", 1, 14, "", "it has 13 days: plan whole weeks, from Monday to Sunday"),
             ("plan", 1, 13, "", "row 1, column O: the column before this one is no day: delete it, or move it after the last day"),
             ("plan", 1, 13, "# Sat", "row 1, column O: the column before this one is no day: delete it, or move it after the last day"),
             ("plan", 1, 1, "Sun 1", "row 1, column B: 'Sun 1' should be a Mon: the plan begins on a Monday, and has each day once"),
-            ("plan", 1, 1, "2026-12-01", "row 1, column B: '2026-12-01' should be a Mon: the plan begins on a Monday, and has each day once"),
+            (
+                "plan",
+                1,
+                1,
+                "2026-12-01",
+                "row 1, column B: '2026-12-01' should be a Mon: the plan begins on a Monday, and has each day once",
+            ),
             ("plan", 1, 1, "46357", "row 1, column B: '2026-12-01' should be a Mon: the plan begins on a Monday, and has each day once"),
             ("plan", 1, 1, "2026-02-30", "row 1, column B: there is no day 2026-02-30: write a date such as 2026-11-30"),
-            ("plan", 1, 1, "30.11.", "row 1, column B: '30.11.' is no day of the week: write one of Mon,Tue,Wed,Thu,Fri,Sat,Sun, or whole dates such as 2026-11-30, or begin the head with #"),
-            *(("plan", 1, 1, text, f"row 1, column B: '{text}' may have the day or the month first: write {dates}")
-              for text, dates in (("30/11/2026", "2026-11-30"), ("11-30-2026", "2026-11-30"), ("1/12/2026", "2026-12-01 or 2026-01-12"))),
-            ("plan", 1, 1, "1900-01-29",
-             "row 1, column B: a spreadsheet makes 1900-01-29 of the number of a day: write whole dates, such as 2026-11-30"),
+            (
+                "plan",
+                1,
+                1,
+                "30.11.",
+                "row 1, column B: '30.11.' is no day of the week: write one of Mon,Tue,Wed,Thu,Fri,Sat,Sun, or whole dates such as 2026-11-30, or begin the head with #",
+            ),
+            *(
+                ("plan", 1, 1, text, f"row 1, column B: '{text}' may have the day or the month first: write {dates}")
+                for text, dates in (("30/11/2026", "2026-11-30"), ("11-30-2026", "2026-11-30"), ("1/12/2026", "2026-12-01 or 2026-01-12"))
+            ),
+            (
+                "plan",
+                1,
+                1,
+                "1900-01-29",
+                "row 1, column B: a spreadsheet makes 1900-01-29 of the number of a day: write whole dates, such as 2026-11-30",
+            ),
             ("contracts", 2, 2, "1,000", "row 2, column C: '1,000' is no whole number: write 1 or 1000"),
             ("needs", 2, 0, "46381", "row 2, column A: '2026-12-25' is a date: write the number, its week from 1"),
             ("needs", 2, 0, "25.12.2026", "row 2, column A: '25.12.2026' is a date: write the number, its week from 1"),
-            *(("contracts", 2, 2, text, f"row 2, column C: '{text}' is no whole number: write a number such as 2, or leave the cell empty") for text in ("-", "n/a")),
-            ("contracts", 2, 2, "0",
-             "row 2, column B: the minimum 8 is above the maximum 0: correct one of the two; for no limit leave the cell empty"),
+            *(
+                (
+                    "contracts",
+                    2,
+                    2,
+                    text,
+                    f"row 2, column C: '{text}' is no whole number: write a number such as 2, or leave the cell empty",
+                )
+                for text in ("-", "n/a")
+            ),
+            (
+                "contracts",
+                2,
+                2,
+                "0",
+                "row 2, column B: the minimum 8 is above the maximum 0: correct one of the two; for no limit leave the cell empty",
+            ),
             ("nurses", 2, 1, "", "row 2, column B: the cell is empty: write a contract, or delete the row"),
-            ("plan", 1, 15, "Total", "row 1, column P: 'Total' is no day of the week: write one of Mon,Tue,Wed,Thu,Fri,Sat,Sun, or begin the head with #"),
-            ("plan", 1, 2, "2026-12-01", "row 1, column C: '2026-12-01' has a date, unlike the first day: write dates for all days or for none"),
+            (
+                "plan",
+                1,
+                15,
+                "Total",
+                "row 1, column P: 'Total' is no day of the week: write one of Mon,Tue,Wed,Thu,Fri,Sat,Sun, or begin the head with #",
+            ),
+            (
+                "plan",
+                1,
+                2,
+                "2026-12-01",
+                "row 1, column C: '2026-12-01' has a date, unlike the first day: write dates for all days or for none",
+            ),
         ):
             with self.subTest(sheet=sheet, row=row, text=text), self.assertRaises(FileFault) as caught:
                 texts(changed(sheet, row, column, text))
@@ -183,7 +315,9 @@ class Contents(unittest.TestCase):
         sheets = {name: rows for name, rows in SHEETS.items() if name != "needs"}
         with self.assertRaises(FileFault) as caught:
             texts(sheets)
-        self.assertEqual(caught.exception.message, "there is no sheet 'needs': it has shifts, contracts, nurses, plan; --template writes an example")
+        self.assertEqual(
+            caught.exception.message, "there is no sheet 'needs': it has shifts, contracts, nurses, plan; --template writes an example"
+        )
         for sheet, column, name in (("nurses", 2, "skills"), ("needs", 9, "sun")):
             with self.assertRaises(FileFault) as caught:
                 texts(changed(sheet, 1, column, ""))
@@ -191,12 +325,18 @@ class Contents(unittest.TestCase):
         for sheet, kind, most in (("shifts", "shift types", 16), ("contracts", "contracts", 64)):
             with self.assertRaises(FileFault) as caught:
                 texts({**SHEETS, sheet: SHEETS[sheet][:1] + [[f"n{number}"] for number in range(most + 1)]})
-            self.assertEqual(caught.exception.message, f"sheet {sheet}: it has {most + 1} {kind}, and a ward has 1 to {most}: correct the rows")
+            self.assertEqual(
+                caught.exception.message, f"sheet {sheet}: it has {most + 1} {kind}, and a ward has 1 to {most}: correct the rows"
+            )
 
     def test_cells_without_a_head(self):
         for sheet, row, column, place in (
-            ("plan", 3, 15, "row 3, column P"), ("plan", 4, 6, "row 4, column G"), ("shifts", 3, 3, "row 3, column D"),
-            ("contracts", 2, 8, "row 2, column I"), ("nurses", 9, 12, "row 9, column M"), ("needs", 6, 0, "row 6, column A"),
+            ("plan", 3, 15, "row 3, column P"),
+            ("plan", 4, 6, "row 4, column G"),
+            ("shifts", 3, 3, "row 3, column D"),
+            ("contracts", 2, 8, "row 2, column I"),
+            ("nurses", 9, 12, "row 9, column M"),
+            ("needs", 6, 0, "row 6, column A"),
         ):
             sheets = changed(sheet, row, column, "Late")
             sheets[sheet][0][column : column + 1] = [" "]
@@ -212,7 +352,10 @@ class Contents(unittest.TestCase):
             sheets["plan"][row - 1][column] = "Late"
         with self.assertRaises(FileFaults) as caught:
             texts(sheets)
-        self.assertEqual([one.message.split(" has")[0] for one in caught.exception.faults], ["sheet plan, row 3, column Q: 'Late'", "sheet plan, row 5, column R: 'x'"])
+        self.assertEqual(
+            [one.message.split(" has")[0] for one in caught.exception.faults],
+            ["sheet plan, row 3, column Q: 'Late'", "sheet plan, row 5, column R: 'x'"],
+        )
         sheets["plan"][0] += ["", "# late", "Note"]
         self.assertEqual(texts(sheets), texts(SHEETS))
 
@@ -221,7 +364,11 @@ class Contents(unittest.TestCase):
             ("shifts", ((2, 3, "Dya"), (3, 1, "9")), ("row 2, column D", "row 3, column B")),
             ("contracts", ((2, 1, "9.5"), (3, 8, "maybe")), ("row 2, column B", "row 3, column I")),
             ("nurses", ((1, 3, "nevr"), (1, 4, "off days")), ("row 1, column D", "row 1, column E")),
-            ("nurses", ((2, 4, "Mon-Wed"), (3, 2, "Charge Nurse"), (4, 1, "Ful")), ("row 2, column E", "row 3, column C", "row 4, column B")),
+            (
+                "nurses",
+                ((2, 4, "Mon-Wed"), (3, 2, "Charge Nurse"), (4, 1, "Ful")),
+                ("row 2, column E", "row 3, column C", "row 4, column B"),
+            ),
             ("needs", ((2, 3, "x"), (3, 1, "Dya")), ("row 2, column D", "row 3, column B")),
             ("plan", ((2, 1, "Dya"), (2, 3, "trainin"), (3, 0, "Brno")), ("row 3, column A", "row 2, column B", "row 2, column D")),
         ):
@@ -230,7 +377,9 @@ class Contents(unittest.TestCase):
                 sheets[sheet][row - 1][column] = text
             with self.subTest(sheet), self.assertRaises(FileFaults) as caught:
                 texts(sheets)
-            self.assertEqual([one.message.split(": ")[0] for one in caught.exception.faults], [f"sheet {sheet}, {place}" for place in places])
+            self.assertEqual(
+                [one.message.split(": ")[0] for one in caught.exception.faults], [f"sheet {sheet}, {place}" for place in places]
+            )
 
     def test_days_on_which_a_nurse_is_always_off(self):
         for text in ("Mon,Tue", "monday, TUESDAY", "Mon; Tuesday", "Mon / Tue"):
@@ -280,7 +429,9 @@ class Contents(unittest.TestCase):
 
         sheets = changed("contracts", 3, 2, "6!")
         scenario, found = limits(sheets)
-        self.assertEqual((scenario.contracts["Half"].assignments.maximum, found), (6, {Claim(Charged("SHIFTS", nurse, 0)) for nurse in ("Ewa", "Finn")}))
+        self.assertEqual(
+            (scenario.contracts["Half"].assignments.maximum, found), (6, {Claim(Charged("SHIFTS", nurse, 0)) for nurse in ("Ewa", "Finn")})
+        )
         # A default for all contracts, and an empty cell.
         sheets["contracts"][0] = [head.replace("weekends", "Weekends !", head == "weekends") for head in sheets["contracts"][0]]
         sheets["contracts"][1][7] = ""
@@ -327,8 +478,14 @@ class Contents(unittest.TestCase):
         missing = copy.deepcopy(SHEETS)
         del missing["plan"][3]
         for sheets, line in (
-            (changed("nurses", 7, 3, "Day, Late, Night"), "sheet nurses: Finn never works: correct what she never works, or when she is always off"),
-            (night, "sheet shifts: Night may not follow Day, and each shift type may follow Night: is 'not followed by' the other way round?"),
+            (
+                changed("nurses", 7, 3, "Day, Late, Night"),
+                "sheet nurses: Finn never works: correct what she never works, or when she is always off",
+            ),
+            (
+                night,
+                "sheet shifts: Night may not follow Day, and each shift type may follow Night: is 'not followed by' the other way round?",
+            ),
             (missing, "sheet plan: Chen has no row: she has no wishes and no absences; if she has some, add a row"),
         ):
             self.assertIn(line, made(sheets).warnings)
@@ -338,7 +495,9 @@ class Contents(unittest.TestCase):
         sheets = changed("contracts", 2, 2, "8")
         # Day Charge 14, Day Nurse 12 and 11, Late and Night 14 each; six nurses have 8 shifts, and two have 6.
         asks = "sheet needs: the best numbers ask for 65 shifts, the minimum numbers for 51, and the contracts supply at most 60 beside absences"
-        self.assertIn(f"{asks}: each shift above costs 20 points, and a nurse below a best number 30: lower best numbers", made(sheets).warnings)
+        self.assertIn(
+            f"{asks}: each shift above costs 20 points, and a nurse below a best number 30: lower best numbers", made(sheets).warnings
+        )
         sheets["contracts"][0][2] = "shifts max!"
         self.assertIn(f"{asks}: 5 will be missing, for 30 points each: lower best numbers", made(sheets).warnings)
         sheets["contracts"][1][1:3] = ["4", "6"]
@@ -357,8 +516,13 @@ class Command(HelperTest):
         status, printed, said = run("plan", folder, "files", "--out", out)
         self.assertEqual((status, said), (0, ""))
         names = [*NAMES, "week-2.txt", "fix-2.txt", "week-3.txt", "fix-3.txt"]
-        self.assertRegex(printed.splitlines()[0], "the best numbers ask for 132 shifts, .* and the contracts supply at most 131 beside absences")
-        self.assertEqual(printed.split("\n", 1)[1], f"{out}: {', '.join(names)}\nChen: 3 days away count as 2 shifts in history-0.txt\nFinn: 1 day away counts as 1 shift in history-0.txt\n")
+        self.assertRegex(
+            printed.splitlines()[0], "the best numbers ask for 132 shifts, .* and the contracts supply at most 131 beside absences"
+        )
+        self.assertEqual(
+            printed.split("\n", 1)[1],
+            f"{out}: {', '.join(names)}\nChen: 3 days away count as 2 shifts in history-0.txt\nFinn: 1 day away counts as 1 shift in history-0.txt\n",
+        )
         words = ("--sce", out / "ward.txt", "--his", out / "history-0.txt", "--week", out / "week-0.txt", "--fix", out / "fix-0.txt")
         status, printed, _ = run("roster", "check", *words)
         self.assertEqual((status, printed.splitlines()[-1]), (0, "No mistake found."))
@@ -408,14 +572,23 @@ class Command(HelperTest):
             row[3] = "ill"
         book = Book(Path("ward.ods"), sheets)
         warnings = ward.ward_files(book, "ward", read_days(book), ()).warnings
-        self.assertIn(": no roster that keeps every absence can meet it: lower minimum numbers by ", [line for line in warnings if line.startswith("sheet needs, week 1: Wed: ")][0])
+        self.assertIn(
+            ": no roster that keeps every absence can meet it: lower minimum numbers by ",
+            [line for line in warnings if line.startswith("sheet needs, week 1: Wed: ")][0],
+        )
 
     def test_faults(self):
         book, out = DATA / "libreoffice.ods", self.folder / "out"
         away = "away,ill,leave,unpaid,training, or none"
         for words, said in (
-            ((self.folder, "files"), f"{self.folder} has no spreadsheet: put the ward's .ods or .xlsx file into it, or give a new folder and `new`"),
-            ((book, "files", "--out", out, "--credit", "holiday"), f"--credit holiday: 'holiday' is no reason to be away: give some of {away}"),
+            (
+                (self.folder, "files"),
+                f"{self.folder} has no spreadsheet: put the ward's .ods or .xlsx file into it, or give a new folder and `new`",
+            ),
+            (
+                (book, "files", "--out", out, "--credit", "holiday"),
+                f"--credit holiday: 'holiday' is no reason to be away: give some of {away}",
+            ),
             ((book, "check", "--out", out), "--out, --credit and --requests are for files: leave them out"),
             ((book, "files", "Fri"), "'Fri' is a word too many: files has none"),
         ):

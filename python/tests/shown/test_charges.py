@@ -6,7 +6,22 @@ import unittest
 from collections import Counter
 from dataclasses import replace
 
-from ward import HISTORY, ROOT, ROSTER, SCENARIO, THIRTY_FILES, WARD, WEEK, WEEK_FILES, WEEK_OPTIONS, EARLY_ANSWER, HelperTest, program, records, run
+from ward import (
+    HISTORY,
+    ROOT,
+    ROSTER,
+    SCENARIO,
+    THIRTY_FILES,
+    WARD,
+    WEEK,
+    WEEK_FILES,
+    WEEK_OPTIONS,
+    EARLY_ANSWER,
+    HelperTest,
+    program,
+    records,
+    run,
+)
 
 from inrc2pb.judging import rules
 from inrc2pb.judging.breaches import breaches
@@ -44,14 +59,24 @@ class Words(unittest.TestCase):
     def test_runs(self):
         # The first is the example of docs/rules.md.
         for has, before, limits, wanted in (
-            ("###.#.#", 1, (2, 3), [(1, "Chen, Mon to Wed: 4 days off in a row (1 before Monday), at most 3"), (1, "Chen, Fri: only 1 day off, at least 2")]),
+            (
+                "###.#.#",
+                1,
+                (2, 3),
+                [(1, "Chen, Mon to Wed: 4 days off in a row (1 before Monday), at most 3"), (1, "Chen, Fri: only 1 day off, at least 2")],
+            ),
             ("####...", 0, (2, 3), [(1, "Chen, Mon to Thu: 4 days off in a row, at most 3")]),
             (".......", 1, (3, 9), [(2, "Chen, before Monday: only 1 day off, at least 3")]),
             ("#......", 9, (0, 3), [(1, "Chen, Mon: 10 days off in a row (9 before Monday), at most 3")]),
             (".......", 9, (0, 3), []),
             ("......#", 0, (9, 9), []),
             ("#######", 0, (0, 0), [(7, "Chen, Mon to Sun: 7 days off in a row, at most 0")]),
-            (".##....", 0, (4, 1), [(1, "Chen, Tue to Wed: 2 days off in a row, at most 1"), (2, "Chen, Tue to Wed: only 2 days off in a row, at least 4")]),
+            (
+                ".##....",
+                0,
+                (4, 1),
+                [(1, "Chen, Tue to Wed: 2 days off in a row, at most 1"), (2, "Chen, Tue to Wed: only 2 days off in a row, at least 4")],
+            ),
         ):
             with self.subTest(has, before=before, limits=limits):
                 self.assertEqual(self.charged(has, before, *limits), wanted)
@@ -61,13 +86,27 @@ class Why(HelperTest):
     def test_each_rule_has_its_words(self):
         ward = self.changed(SCENARIO, "Full (17,21) (3,5) (2,3) 2 1", "Full (3,4) (2,2) (1,1) 0 1", "ward.txt")
         ward.write_text(ward.read_text().replace("WEEKS = 4", "WEEKS = 1"))
-        ward.write_text("\n".join(line for line in ward.read_text().replace("NURSES = 7", "NURSES = 2").splitlines() if not re.match("Bruno|Dilek|Ewa|Finn|Grace", line)) + "\n")
+        ward.write_text(
+            "\n".join(
+                line
+                for line in ward.read_text().replace("NURSES = 7", "NURSES = 2").splitlines()
+                if not re.match("Bruno|Dilek|Ewa|Finn|Grace", line)
+            )
+            + "\n"
+        )
         history = self.folder / "history.txt"
         history.write_text("HISTORY\n0 ward\n\nNURSE_HISTORY\nAmara 2 0 None 0 0 1\nChen 0 0 Late 1 1 0\n")
         week = self.folder / "week.txt"
         asked = ["Amara Any Wed"] * 2 + ["Amara Day Wed"] + ["Chen Any Fri"] * 30
-        week.write_text("\n".join(["WEEK_DATA\nward\n\nREQUIREMENTS", "Day Nurse" + " (0,0)" * 6 + " (0,2)", f"SHIFT_OFF_REQUESTS = {len(asked)}", *asked]) + "\n")
-        roster = self.solution("Amara Tue Day Nurse", "Amara Wed Day Nurse", "Amara Thu Day Nurse", "Amara Sun Day Nurse", "Chen Fri Late Nurse")
+        week.write_text(
+            "\n".join(
+                ["WEEK_DATA\nward\n\nREQUIREMENTS", "Day Nurse" + " (0,0)" * 6 + " (0,2)", f"SHIFT_OFF_REQUESTS = {len(asked)}", *asked]
+            )
+            + "\n"
+        )
+        roster = self.solution(
+            "Amara Tue Day Nurse", "Amara Wed Day Nurse", "Amara Thu Day Nurse", "Amara Sun Day Nurse", "Chen Fri Late Nurse"
+        )
         status, printed, _ = run("roster", "why", "--sce", ward, "--his", history, "--week", week, "--roster", roster)
         self.assertEqual(status, 0)
         self.assertEqual(printed.splitlines(), [
@@ -143,7 +182,9 @@ class Swaps(HelperTest):
 
     def test_a_swap_back_changes_nothing(self):
         words = ("Chen Mon", "Grace Tue")
-        self.assertEqual(run("roster", "swap", *words, *words, *WEEK_OPTIONS, "--roster", ROSTER), (0, "   +0  in all; penalty 20 instead of 20\n", ""))
+        self.assertEqual(
+            run("roster", "swap", *words, *words, *WEEK_OPTIONS, "--roster", ROSTER), (0, "   +0  in all; penalty 20 instead of 20\n", "")
+        )
 
     def test_a_swap_that_breaks_a_hard_rule(self):
         for pair, rule in (
@@ -188,7 +229,12 @@ class Older(HelperTest):
         other = self.changed(ROSTER, "Grace Mon Day Nurse", "Chen Mon Late Nurse")
         lines = run("roster", "show", "--old", ROSTER, "--roster", other)[1].splitlines()
         self.assertEqual(lines[-2:], ["changed: Chen Mon: Late Nurse instead of off", "changed: Grace Mon: off instead of Day Nurse"])
-        self.assertEqual(Counter(line.startswith("changed") for line in run("roster", "show", "--old", ROSTER, "--roster", ROSTER)[1].splitlines())[True], 0)
+        self.assertEqual(
+            Counter(line.startswith("changed") for line in run("roster", "show", "--old", ROSTER, "--roster", ROSTER)[1].splitlines())[
+                True
+            ],
+            0,
+        )
 
     def test_two_weeks(self):
         two = ("--sce", SCENARIO, "--his", HISTORY, "--week", WEEK, "--week", WARD / "week-1.txt")

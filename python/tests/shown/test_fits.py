@@ -22,7 +22,9 @@ class Fits(HelperTest):
         claims = [Claim(Choice(1, nurse, 0, None)) for nurse in ("Amara", "Bruno")]
         facts.write_text(facts_text("ward", [*claims, Claim(Choice(1, "Ewa", 0, "Day"), False)]))
         lines = run("roster", "fits", *WEEK_OPTIONS, "--given", facts)[1].splitlines()
-        self.assertEqual(lines[:3], ["Mon Day Charge (1,1): nobody", "Mon Day Nurse (1,2): Chen Grace", "Mon Late Nurse (1,1): Chen Ewa Finn Grace"])
+        self.assertEqual(
+            lines[:3], ["Mon Day Charge (1,1): nobody", "Mon Day Nurse (1,2): Chen Grace", "Mon Late Nurse (1,1): Chen Ewa Finn Grace"]
+        )
 
     def test_a_fault_of_a_file(self):
         missing = self.folder / "none.txt"

@@ -28,7 +28,7 @@ class PageTest(HelperTest):
         """The page of a command without a fault."""
         status, printed, said = run("roster", "show", "--html", *given)
         self.assertEqual((status, said), (0, ""))
-        self.assertTrue(printed.startswith("<!DOCTYPE html>\n<html lang=\"en\">"))
+        self.assertTrue(printed.startswith('<!DOCTYPE html>\n<html lang="en">'))
         return ElementTree.fromstring(printed)
 
     def caption(self, page, begin):
@@ -53,21 +53,27 @@ class PageTest(HelperTest):
 
 class Markup(unittest.TestCase):
     def test_elements(self):
-        self.assertEqual(element("td", "a<b", hidden("&"), class_="x\"y"), '<td class="x&quot;y">a&lt;b<span class="hidden">&amp;</span></td>')
+        self.assertEqual(
+            element("td", "a<b", hidden("&"), class_='x"y'), '<td class="x&quot;y">a&lt;b<span class="hidden">&amp;</span></td>'
+        )
         self.assertEqual(element("meta", charset="utf-8", name=None), '<meta charset="utf-8"/>')
         self.assertEqual(element("p", "\x00\x1b\udce4"), "<p>\ufffd\ufffd\ufffd</p>")
 
 
 class Page(PageTest):
     def test_each_table_can_be_heard(self):
-        page = self.page(*WEEK_OPTIONS, *MONDAY, "--old", ROSTER, "--roster", self.changed(ROSTER, "Grace Mon Day Nurse", "Chen Mon Late Nurse"))
+        page = self.page(
+            *WEEK_OPTIONS, *MONDAY, "--old", ROSTER, "--roster", self.changed(ROSTER, "Grace Mon Day Nurse", "Chen Mon Late Nurse")
+        )
         tables = list(page.iter("table"))
         self.assertEqual(len(tables), 5)
         for one in tables:
             self.assertTrue(words(one.find("caption")))
             self.assertTrue(all(head.get("scope") in ("col", "colgroup", "row") for head in one.iter("th")))
             self.assertTrue(all(row[0].get("scope") == "row" for row in one.find("tbody")))
-        self.assertEqual([part.tag for part in page.iter() if part.get("src") or part.get("href") or part.tag in ("script", "link", "img")], [])
+        self.assertEqual(
+            [part.tag for part in page.iter() if part.get("src") or part.get("href") or part.tag in ("script", "link", "img")], []
+        )
         self.assertNotIn("url(", page.find("head/style").text)
         # A mark for eyes has its words next to it.
         marks = [part for part in page.iter("td") if any(inner.get("class") == "mark" for inner in part)]
@@ -75,7 +81,18 @@ class Page(PageTest):
         self.assertTrue(all(any(inner.get("class") == "hidden" for inner in part) for part in marks))
 
     def test_the_roster_and_its_dates(self):
-        page = self.page(*WEEK_OPTIONS, *MONDAY, "--times", "Late=13:00-21:15", "--times", "Day=6:00-14:15", "--times", "Night=22:00-06:15", "--roster", ROSTER)
+        page = self.page(
+            *WEEK_OPTIONS,
+            *MONDAY,
+            "--times",
+            "Late=13:00-21:15",
+            "--times",
+            "Day=6:00-14:15",
+            "--times",
+            "Night=22:00-06:15",
+            "--roster",
+            ROSTER,
+        )
         self.assertEqual(words(page.find(".//h1")), "ward, 30 Nov to 6 Dec 2026 (calendar week 49)")
         rows = self.caption(page, "Shifts")
         self.assertEqual(rows[0], ["nurse", "Mon 30 Nov", "Tue 1 Dec", "Wed 2 Dec", "Thu 3 Dec", "Fri 4 Dec", "Sat 5 Dec", "Sun 6 Dec"])
@@ -94,7 +111,10 @@ class Page(PageTest):
         covered = self.caption(page, "Nurses at each place")
         self.assertEqual(covered[2][:3], ["Day Nurse", "2 1\u20132minimum 1, best 2", "2 1\u20132minimum 1, best 2"])
         folds = [words(part) for part in page.iter("details")]
-        self.assertEqual(folds, ["Chen: 10 (S4 10)10 (S4) Sat: on Night, and asked to be off", "Dilek: 10 (S4 10)10 (S4) Fri: on Day, and asked to be off"])
+        self.assertEqual(
+            folds,
+            ["Chen: 10 (S4 10)10 (S4) Sat: on Night, and asked to be off", "Dilek: 10 (S4 10)10 (S4) Fri: on Day, and asked to be off"],
+        )
 
     def test_places_with_too_few_and_too_many(self):
         roster = self.changed(ROSTER, "Amara Mon Day Charge", "Amara Mon Day Nurse")
@@ -106,18 +126,26 @@ class Page(PageTest):
         self.assertEqual(list(page.iter("details")), [])
         # A page without costs does not explain the names of rules.
         wall = self.page(*WEEK_OPTIONS, "--only-table", "--roster", roster)
-        self.assertIn("below the minimum number: Mon Day Charge has 0 nurses and needs at least 1", [words(part) for part in wall.iter("p")])
+        self.assertIn(
+            "below the minimum number: Mon Day Charge has 0 nurses and needs at least 1", [words(part) for part in wall.iter("p")]
+        )
 
     def test_changes(self):
         other = self.changed(ROSTER, "Grace Mon Day Nurse", "Chen Mon Late Nurse")
         page = self.page(*MONDAY, "--old", ROSTER, "--roster", other)
-        self.assertEqual(self.caption(page, "2 changes")[1:], [["Chen", "Mon 30 Nov", "off", "Late Nurse"], ["Grace", "Mon 30 Nov", "Day Nurse", "off"]])
+        self.assertEqual(
+            self.caption(page, "2 changes")[1:], [["Chen", "Mon 30 Nov", "off", "Late Nurse"], ["Grace", "Mon 30 Nov", "Day Nurse", "off"]]
+        )
         grace = next(row for row in self.caption(page, "Shifts") if row[0] == "Grace")
         self.assertEqual(grace[1], "off\u0394 changed since the older roster, instead of Day Nurse")
-        self.assertIn("Nothing is changed since the older roster.", [words(part) for part in self.page("--old", ROSTER, "--roster", ROSTER).iter("p")])
+        self.assertIn(
+            "Nothing is changed since the older roster.", [words(part) for part in self.page("--old", ROSTER, "--roster", ROSTER).iter("p")]
+        )
 
     def test_only_the_table(self):
-        page = self.page(*WEEK_OPTIONS, "--fix", ROSTER, "--only-table", "--old", self.changed(ROSTER, "Grace Mon", "Chen Mon"), "--roster", ROSTER)
+        page = self.page(
+            *WEEK_OPTIONS, "--fix", ROSTER, "--only-table", "--old", self.changed(ROSTER, "Grace Mon", "Chen Mon"), "--roster", ROSTER
+        )
         self.assertEqual([words(one) for one in page.iter("caption")], ["Shifts of each nurse"])
         self.assertEqual([words(one) for one in page.iter("p")], ["7 nurses, 33 shifts"])
         self.assertEqual([words(one) for one in page.iter("li")], ["\u0394 = changed since the older roster", "WE = weekends with work"])
@@ -138,7 +166,9 @@ class Page(PageTest):
 
     def test_absences_in_tables_of_text(self):
         ill = self.away("Amara=Thu")
-        self.assertRegex(run("roster", "show", "--sce", SCENARIO, "--week", ill, "--roster", ROSTER)[1], r"(?m)^Amara  (Day..... +){3}away +\.  ")
+        self.assertRegex(
+            run("roster", "show", "--sce", SCENARIO, "--week", ill, "--roster", ROSTER)[1], r"(?m)^Amara  (Day..... +){3}away +\.  "
+        )
         later = self.changed(ROSTER, "0 ward", "1 ward", "later.txt")
         printed = run("roster", "show", "--sce", SCENARIO, "--week", ill, "--week", WARD / "week-1.txt", "--roster", ROSTER, later)[1]
         self.assertRegex(printed, r"(?m)^Amara  D  D  D  -  \.  \| D  D   \|\|  D  D  D! \.  \.  \|")
@@ -146,7 +176,7 @@ class Page(PageTest):
 
     def test_colors_are_printed(self):
         style = self.page("--roster", ROSTER).find("head/style").text
-        printed = style[style.index("@media print {"):]
+        printed = style[style.index("@media print {") :]
         self.assertIn("print-color-adjust: exact", printed)
         self.assertNotIn("background", printed[: printed.index("\n}\n")])
         self.assertIn(f".s0 {{ background: {COLORS[0]}; color: #000000 }}", style)
@@ -156,7 +186,9 @@ class Page(PageTest):
         two = ("--sce", SCENARIO, "--his", HISTORY, "--week", WEEK, "--week", WARD / "week-1.txt")
         page = self.page(*two, *MONDAY, "--roster", ROSTER, later)
         rows = self.caption(page, "Shifts")
-        self.assertEqual((rows[0], rows[1][8], len(rows[2])), (["", "week 1, calendar week 49", "week 2, calendar week 50"], "Mon 7 Dec", 15))
+        self.assertEqual(
+            (rows[0], rows[1][8], len(rows[2])), (["", "week 1, calendar week 49", "week 2, calendar week 50"], "Mon 7 Dec", 15)
+        )
         self.assertEqual(rows[2][1], "DcDay Charge")
         self.assertIn("c = Charge", [words(item) for item in page.iter("li")])
         self.assertIn("Amara,10,17 to 21,7 to 11 left,10,0,0,2,2,1,0,1,10".split(","), self.caption(page, "Totals"))
@@ -192,11 +224,20 @@ class Page(PageTest):
             (("--only-table",), "--only-table is for --html: give both"),
             (("--html", "--times", "Day"), "--times Day: give a shift type, its start and its end, such as Early=06:00-14:15"),
             (("--html", "--times", "Day=6-14"), "--times Day=6-14: give a shift type, its start and its end, such as Early=06:00-14:15"),
-            (("--html", "--times", "Day=06:00-24:30"), "--times Day=06:00-24:30: 24:30 is no time of a day: give hours from 0 to 24 and minutes from 00 to 59"),
-            (("--html", "--times", "Day=06:60-14:00"), "--times Day=06:60-14:00: 06:60 is no time of a day: give hours from 0 to 24 and minutes from 00 to 59"),
+            (
+                ("--html", "--times", "Day=06:00-24:30"),
+                "--times Day=06:00-24:30: 24:30 is no time of a day: give hours from 0 to 24 and minutes from 00 to 59",
+            ),
+            (
+                ("--html", "--times", "Day=06:60-14:00"),
+                "--times Day=06:60-14:00: 06:60 is no time of a day: give hours from 0 to 24 and minutes from 00 to 59",
+            ),
             (("--html", "--times", "Dy=06:00-14:00"), "--times Dy=06:00-14:00: 'Dy' is no shift type: did you mean Day?"),
             (("--html", *["--times", "Day=06:00-14:00"] * 2), "--times Day=06:00-14:00: Day has two times: give one"),
-            (("--html", "--times", "Day=06:00-14:00"), "--times has no times of Late, Night: give them too, such as --times Late=06:00-14:15"),
+            (
+                ("--html", "--times", "Day=06:00-14:00"),
+                "--times has no times of Late, Night: give them too, such as --times Late=06:00-14:15",
+            ),
         ):
             with self.subTest(given):
                 self.assertEqual(run("roster", "show", *week, *given)[1:], ("", f"inrc2pb-roster: {line}\n"))
@@ -216,7 +257,9 @@ class Totals(PageTest):
         printed = run("roster", "show", *WEEK_OPTIONS, "--roster", ROSTER)[1]
         self.assertRegex(printed, r"(?m)^Chen .*  0 2 3  5/17-21  1/2       0/1       10  S4 10$")
         self.assertNotIn("weekends", run("roster", "show", "--sce", SCENARIO, "--roster", ROSTER)[1])
-        chen = next(row for row in csv.reader(io.StringIO(run("roster", "show", *WEEK_OPTIONS, "--csv", "--roster", ROSTER)[1])) if row[0] == "Chen")
+        chen = next(
+            row for row in csv.reader(io.StringIO(run("roster", "show", *WEEK_OPTIONS, "--csv", "--roster", ROSTER)[1])) if row[0] == "Chen"
+        )
         self.assertEqual(chen[8:], ["10", "S4 10", "5", "17", "21", "1", "2", "1", "0", "0", "2", "3"])
 
     def test_the_last_week_says_what_is_missed(self):
@@ -240,7 +283,9 @@ class Totals(PageTest):
         self.assertIn("Night Nurse #", run("roster", "show", *given, "--csv")[1])
         self.assertIn("310  S4  Chen, Sat: on Night, while away (31 requests)\n", run("roster", "why", *given)[1])
         rows = {row[0]: row for row in self.caption(self.page(*given), "Shifts")}
-        self.assertEqual((rows["Chen"][6], rows["Amara"][4]), ("Night Nurse#, on duty while away, or on a shift type that she never works", "away"))
+        self.assertEqual(
+            (rows["Chen"][6], rows["Amara"][4]), ("Night Nurse#, on duty while away, or on a shift type that she never works", "away")
+        )
 
 
 class Calendars(PageTest):
@@ -258,28 +303,41 @@ class Calendars(PageTest):
         return found
 
     def test_the_events_are_the_shifts(self):
-        found = self.calendars("--times", "Late=13:00-21:15", "--times", "Day=06:00-14:15", "--times", "Night=22:00-06:15", "--roster", ROSTER)
+        found = self.calendars(
+            "--times", "Late=13:00-21:15", "--times", "Day=06:00-14:15", "--times", "Night=22:00-06:15", "--roster", ROSTER
+        )
         rows = files.read_solution(ROSTER).cells
         self.assertEqual({name: lines.count("BEGIN:VEVENT") for name, lines in found.items()}, Counter(f"{row.nurse}.ics" for row in rows))
         chen = found["Chen.ics"]
-        for lines in (("DTSTART:20261202T130000", "DTEND:20261202T211500", "SUMMARY:Late Nurse"), ("DTSTART:20261206T220000", "DTEND:20261207T061500", "SUMMARY:Night Nurse")):
+        for lines in (
+            ("DTSTART:20261202T130000", "DTEND:20261202T211500", "SUMMARY:Late Nurse"),
+            ("DTSTART:20261206T220000", "DTEND:20261207T061500", "SUMMARY:Night Nurse"),
+        ):
             begin = chen.index(lines[0])
             self.assertEqual(chen[begin : begin + len(lines)], list(lines))
         numbers = [line for lines in found.values() for line in lines if line.startswith("UID:")]
         self.assertEqual(len(set(numbers)), len(rows))
         self.assertTrue(all("DTSTAMP:20261130T000000Z" in lines for lines in found.values()))
-        self.assertEqual(found, self.calendars("--times", "Late=13:00-21:15", "--times", "Day=06:00-14:15", "--times", "Night=22:00-06:15", "--roster", ROSTER))
+        self.assertEqual(
+            found,
+            self.calendars("--times", "Late=13:00-21:15", "--times", "Day=06:00-14:15", "--times", "Night=22:00-06:15", "--roster", ROSTER),
+        )
 
     def test_a_nurse_without_shifts_and_hostile_names(self):
         found = self.calendars(*self.hostile_week())
-        self.assertEqual(sorted(found), sorted(["_b__&'__b_.ics", "_._.._x.ics", "Jose\u0301;_n_.ics", *(f"{name}.ics" for name in ("Bruno", "Dilek", "Ewa", "Finn"))]))
+        self.assertEqual(
+            sorted(found),
+            sorted(["_b__&'__b_.ics", "_._.._x.ics", "Jose\u0301;_n_.ics", *(f"{name}.ics" for name in ("Bruno", "Dilek", "Ewa", "Finn"))]),
+        )
         self.assertIn("SUMMARY:</td><script> Nurse", found["Ewa.ics"])
         roster = self.solution("Grace Mon Day Nurse", "Ben Sun Late \u00e9" + "\u00e9" * 60 + ";\\x", name="rows.txt")
         found = self.calendars("--roster", roster)
         self.assertIn("SUMMARY:Late " + "\u00e9" * 61 + "\\;\\\\x", found["Ben.ics"])
         found = self.calendars("--sce", SCENARIO, "--roster", self.solution(name="none.txt"))
         event = found["Finn.ics"]
-        self.assertEqual(event[-6:-2], ["DTSTART;VALUE=DATE:20261130", "DTEND;VALUE=DATE:20261207", "TRANSP:TRANSPARENT", "SUMMARY:no shift"])
+        self.assertEqual(
+            event[-6:-2], ["DTSTART;VALUE=DATE:20261130", "DTEND;VALUE=DATE:20261207", "TRANSP:TRANSPARENT", "SUMMARY:no shift"]
+        )
 
     def test_names_that_differ_in_case_or_signs_only(self):
         self.assertEqual(list(file_names(["Ann", "ann", "ANN", "a/b", "a:b", ".", "x" * 99, "x" * 98]).values()), [

@@ -71,7 +71,9 @@ class Tables(HelperTest):
     def test_a_name_that_is_not_utf_8(self):
         roster = self.folder / "latin.txt"
         roster.write_bytes(ROSTER.read_bytes().replace(b"Amara", b"Am\xe4ra"))
-        page = subprocess.run([str(HELPERS / "inrc2pb-roster"), "show", "--html", "--roster", str(roster)], stdout=subprocess.PIPE, check=True).stdout
+        page = subprocess.run(
+            [str(HELPERS / "inrc2pb-roster"), "show", "--html", "--roster", str(roster)], stdout=subprocess.PIPE, check=True
+        ).stdout
         self.assertIn("Am\ufffdra", page.decode("utf-8"))
         xml.dom.minidom.parseString(page)
 

@@ -77,7 +77,9 @@ class NoResult(HelperTest):
         began = time.monotonic()
         self.assert_fault(run("solve", "--answer", huge), f"inrc2pb-solve: {huge} has more than 256 MiB: this is no answer")
         outcome = answer_of_file(huge)
-        self.assertEqual((outcome.answer, outcome.fault), ("", f"its result file has a fault: {huge} has more than 256 MiB: this is no answer"))
+        self.assertEqual(
+            (outcome.answer, outcome.fault), ("", f"its result file has a fault: {huge} has more than 256 MiB: this is no answer")
+        )
         self.assertLess(time.monotonic() - began, 10)
 
 
@@ -144,7 +146,10 @@ class LinearPrograms(unittest.TestCase):
                 lp_of(model)
 
     def test_files_that_are_no_models_need_little_memory(self):
-        for text, says in (("* #variable=" * 100, "does not begin with"), ("* #variable= 1 #constraint= 1\n" + "+1 x1 " * 2_000_000, "too long")):
+        for text, says in (
+            ("* #variable=" * 100, "does not begin with"),
+            ("* #variable= 1 #constraint= 1\n" + "+1 x1 " * 2_000_000, "too long"),
+        ):
             source = io.StringIO(text)
             with self.assertRaisesRegex(ModelFault, says):
                 write_linear_program(source, io.StringIO())

@@ -9,7 +9,13 @@ from inrc2pb.week.faults import FileFault, fault_line
 
 class Lines(HelperTest):
     def test_signs_that_no_terminal_shows_are_codes(self):
-        for text, shown in (("a\x1b[2Jb", "a\\x1b[2Jb"), ("\udcff", "\\xff"), ("\u202e", "\\u202e"), ("G\u00fcl", "G\u00fcl"), ("a\nb", "a b")):
+        for text, shown in (
+            ("a\x1b[2Jb", "a\\x1b[2Jb"),
+            ("\udcff", "\\xff"),
+            ("\u202e", "\\u202e"),
+            ("G\u00fcl", "G\u00fcl"),
+            ("a\nb", "a b"),
+        ):
             self.assertEqual(fault_line(FileFault("f", 1, text)), f"f line 1: {shown}")
 
     def test_a_name_with_the_codes_of_a_terminal(self):
