@@ -1,7 +1,7 @@
 #!/usr/bin/env bash
 # Checks the Python programs: pytest runs their tests on the program, mypy checks the types of the library and of the programs that
-# use it, flake8 finds what nothing uses, and the imports between packages go one way. Compares the options in their manual page with
-# their help, but for --help and --version, and the fault texts of docs/answers.md with those that docs/your_ward.md explains.
+# use it, flake8 finds what nothing uses, black lays out the code, and the imports between packages go one way. Compares the options in
+# their manual pages with their help, but for --help and --version, and the fault texts of docs/answers.md with those that docs/your_ward.md explains.
 #
 #   python/tests/checks.sh [llvm | rattle | PROGRAM]
 #
@@ -43,6 +43,12 @@ checks_types() {
     {
         types_hold python/inrc2pb && types_hold bench/*.py build.py tests/edits/*.py
     } || complain "$(head -n 20 "$out")"
+}
+
+black_lays_it_out() {
+    has black || return
+    begins_case 'the layout of Python by black'
+    black --config $settings --check "${python_files[@]}" > "$out" 2>&1 || complain "$(head -n 20 "$out")"
 }
 
 nothing_is_unused() {
@@ -110,6 +116,7 @@ checks_types
 imports_go_one_way
 variables_have_names
 nothing_is_unused
+black_lays_it_out
 begins_case 'the readers find the same faults in changed files'
 tests/random/changed_tokens.py > "$room/out" || complain "$(cat "$room/out")"
 manual_has_each_option
