@@ -1,7 +1,7 @@
 #!/usr/bin/env bash
 # Checks the Python programs: pytest runs their tests on the program, mypy checks the types of the library and of the programs that
 # use it, flake8 finds what nothing uses, black lays out the code, and the imports between packages go one way. Compares the options in
-# their manual pages with their help, but for --help and --version, and the fault texts of docs/answers.md with those that docs/your_ward.md explains.
+# their manual pages with their help, but for --help and --version, and the fault texts of docs/answers.md with those that docs/ward_reference.md explains.
 #
 #   python/tests/checks.sh [llvm | rattle | PROGRAM]
 #
@@ -94,10 +94,10 @@ fault_texts() {
 
 explains_each_fault() {
     local text
-    begins_case 'the faults that docs/your_ward.md explains'
+    begins_case 'the faults that docs/ward_reference.md explains'
     [ "$(fault_texts | wc -l)" -ge 20 ] || complain "only $(fault_texts | wc -l) texts in docs/answers.md"
     while read -r text; do
-        grep -qF -- "$text" docs/your_ward.md || complain "docs/your_ward.md does not explain '$text'"
+        grep -qF -- "$text" docs/ward_reference.md || complain "docs/ward_reference.md does not explain '$text'"
     done < <(fault_texts)
 }
 
