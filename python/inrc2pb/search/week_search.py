@@ -112,7 +112,7 @@ class WeekSearch:
         if self._best.penalty is not None:
             return
         held = f" and has the rows of {self._files.fix}" if self._files.fix else ""
-        why = f"{page('your_ward.md')} shows how to find out why"
+        why = f"{page('ward_reference.md')} shows how to find out why"
         if run.without_row:
             raise ProgramFault(NO_ROSTER, f"no roster keeps the hard rules{held}: those of {run.without_row} contradict one another")
         by = bounds.no_roster(run.plan.hard_only(), run.minimums, PROOF_SECONDS) if run.minimums else None
@@ -139,7 +139,7 @@ class WeekSearch:
                 raise
             if "UNSATISFIABLE" in fault.message and self._best.penalty is None:
                 raise ProgramFault(
-                    NO_ROSTER, f"no roster keeps the hard rules, says {solver.name}: {page('your_ward.md')} shows how to find out why"
+                    NO_ROSTER, f"no roster keeps the hard rules, says {solver.name}: {page('ward_reference.md')} shows how to find out why"
                 ) from fault
             return
         self._best.offer(read_solution(path).cells, solver.name)

@@ -107,7 +107,7 @@ _PROGRAM_ADVICE = (
     ("write failed", "look at the folder's name and permissions and at the free space (TMPDIR has the temporary files)"),
     ("read failed", "look at the file's name, folder and permissions"),
     ("out of memory", "end other programs"),
-    ("UNSATISFIABLE", f"the minimum numbers cannot all be met; {page('your_ward.md')} shows how to find out why"),
+    ("UNSATISFIABLE", f"the minimum numbers cannot all be met; {page('ward_reference.md')} shows how to find out why"),
     ("UNKNOWN", "give the solver more time"),
     ("answer: ", "look at what the solver prints, or use another solver"),
     ("roster breaks", "correct its file, or leave it out"),

@@ -9,7 +9,20 @@ from ward import HAS_CBC, HAS_CLASP, HISTORY, ROOT, SCENARIO, WEEK, WEEK_OPTIONS
 
 from inrc2pb.judging.demand import asked_shifts, demand_warnings, supplied_shifts
 from inrc2pb.week.part_contracts import PartContract, part_contract
-from inrc2pb.week.records import Absence, Contract, KeptLimit, Limits, Nurse, Place, Request, Requirement, Scenario, ShiftType, WeekData
+from inrc2pb.week.records import (
+    Absence,
+    Cell,
+    Contract,
+    KeptLimit,
+    Limits,
+    Nurse,
+    Place,
+    Request,
+    Requirement,
+    Scenario,
+    ShiftType,
+    WeekData,
+)
 from inrc2pb.shown.ward_sentences import history_sentences, limit_sentences, scenario_sentences, supply_text, ward_sentence
 from inrc2pb.shown.week_sentences import DescribedWeek, weeks_sentences
 
@@ -172,6 +185,12 @@ class Telling(HelperTest):
             "Late Nurse: 1 on all days; week 5: 0 on Fri.", "Night Nurse: 1 on all days; week 6: 0 on all days.",
             "Always off: Chen on Tue.", "Leave: Ewa on 12 13 14.", "Would rather be off: Ewa on 7 (2 requests).",
         ])  # fmt: skip
+
+    def test_held_shifts_of_weeks_in_sentences(self):
+        held = [Cell("Grace", 5, "Day", "Nurse"), Cell("Chen", 0, "Late", "Nurse")]
+        weeks = [DescribedWeek(0, DATA), DescribedWeek(1, DATA, held=held)]
+        found = list(weeks_sentences(WARD, weeks, lambda days: " ".join(map(str, sorted(days)))))
+        self.assertEqual(found[-1], "For certain: Grace Day Nurse on 12; Chen Late Nurse on 7.")
 
     def test_check_tells_held_shifts(self):
         fix = self.solution("Grace Sat Day Nurse", "Chen Mon Late Nurse", "Grace Sun Day Nurse")

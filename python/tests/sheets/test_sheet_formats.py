@@ -18,6 +18,7 @@ from inrc2pb.sheets.plan_sheets import read_days
 from inrc2pb.week.records import DAYS
 from inrc2pb.sheets.sheet_files import Book, read_book
 from inrc2pb.sheets.sheet_looks import look_warnings
+from inrc2pb.sheets.sheet_parts import Grid
 from inrc2pb.sheets.sheet_rows import letters_of
 from inrc2pb.sheets.ward_template import write_template
 
@@ -81,6 +82,13 @@ class Formats(HelperTest):
     def assert_same(self, path):
         book = read_book(path)
         self.assertEqual(ward.ward_files(book, "ward", read_days(book), ()).texts, self.wanted)
+
+    def test_a_merged_cell_at_the_right_edge_adds_no_column(self):
+        grid = Grid("plan", None)
+        for row, column, text in ((0, 0, "a"), (0, 2, "b"), (1, 2, "x")):
+            grid.put(range(row, row + 1), range(column, column + 1), text)
+        grid.merge(range(1, 2), range(2, 5))
+        self.assertEqual([list(row) for row in grid.rows()], [["a", "", "b"], ["", "", "x"]])
 
     def test_files_that_libreoffice_wrote(self):
         # Their row of one week is of the first.

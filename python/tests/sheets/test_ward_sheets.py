@@ -457,6 +457,11 @@ class Contents(unittest.TestCase):
         # Week 2 has 0+1 on Monday, and nothing on Tuesday: all weeks have 1+1 there.
         self.assertEqual([data.requirements[Place(day, "Day", "Nurse")] for day in (0, 1)], [Requirement(0, 1), Requirement(1, 2)])
 
+    def test_empty_cells_of_the_past_are_0(self):
+        # Amara has worked no shifts and no weekends in the period.
+        for column in (5, 6):
+            self.assertEqual(texts(changed("nurses", 2, column, ""))["history-0.txt"], texts(SHEETS)["history-0.txt"])
+
     def test_the_date_of_a_bank_holiday(self):
         sheets = changed("needs", 6, 0, "2026-12-08")
         sheets["plan"][0] = ["nurse", *(f"2026-{'11-30' if not day else f'12-{day:02}'}" for day in range(14))]

@@ -11,7 +11,11 @@ from ward import HISTORY, ROSTER, SCENARIO, WARD, WEEK, WEEK_OPTIONS, HelperTest
 
 from inrc2pb.shown.calendars import file_names
 from inrc2pb.shown.markup import element, hidden
+from inrc2pb.shown.page import page_text
+from inrc2pb.shown.page_tables import Content
+from inrc2pb.shown.roster_files import RosterFiles, read_view
 from inrc2pb.shown.roster_text import COLORS
+from inrc2pb.week.records import DAYS
 
 MONDAY = ("--monday", "2026-11-30")
 # Names that would be markup, a path, or a second line, and one whose accent is a letter of its own.
@@ -141,6 +145,13 @@ class Page(PageTest):
         self.assertIn(
             "Nothing is changed since the older roster.", [words(part) for part in self.page("--old", ROSTER, "--roster", ROSTER).iter("p")]
         )
+
+    def test_the_dot_of_a_bank_holiday_in_the_second_week(self):
+        files_of = RosterFiles([ROSTER, ROSTER], SCENARIO, [HISTORY], [WEEK, WARD / "week-1.txt"])
+        page = ElementTree.fromstring(page_text(Content(read_view(files_of), holidays={11})))
+        heads = [words(head) for head in page.find(".//table").iter("th")]
+        days = [head for head in heads if head[:3] in DAYS]
+        self.assertEqual([number for number, head in enumerate(days) if "as on a bank holiday" in head], [11])
 
     def test_only_the_table(self):
         page = self.page(
