@@ -18,7 +18,7 @@ ERROR = re.compile(r"(?:note: )?(?:\./)?(\S+?\.(?:rt|antt)):\d+:\d+: error: (.*)
 GOAL = re.compile(r"`([^`]+)`: (.*)")
 UNPROVED = re.compile(r"did not prove ((?:`[^`]+`(?:, | and )?)+)")
 # The error names what the edit took away, or has its type no longer: the answer was not tried on the goal.
-NO_LONGER_FITS = re.compile(r"expected type|has no field|is not in scope|has no `|was not admitted|is no name")
+NO_LONGER_FITS = re.compile(r"expected type|the two types (?:first )?differ|differ only|has no field|is not in scope|has no `|was not admitted|is no name")
 # Errors of reading, which say nothing of a goal.
 UNREADABLE = re.compile(r"is not in scope|has no field|is no name|operand is missing|expected the end|cannot continue")
 COMPILER_ERROR = re.compile(r"^error(\[|:)|\berror\[[\w-]+\]", re.M)
@@ -100,7 +100,8 @@ class Reader:
     def read_function(self, path: str, told: str) -> None:
         """Reads a function's line; the notes before it are the function's."""
         notes, self.notes = self.notes, []
-        if told == "proved" or told.startswith("assumed"):
+        # A closure can be `proved where its callers give what it asks`.
+        if told.startswith(("proved", "assumed")):
             return
         name = function_of(path)
         unproved = UNPROVED.search(told)

