@@ -18,7 +18,9 @@ ERROR = re.compile(r"(?:note: )?(?:\./)?(\S+?\.(?:rt|antt)):\d+:\d+: error: (.*)
 GOAL = re.compile(r"`([^`]+)`: (.*)")
 UNPROVED = re.compile(r"did not prove ((?:`[^`]+`(?:, | and )?)+)")
 # The error names what the edit took away, or has its type no longer: the answer was not tried on the goal.
-NO_LONGER_FITS = re.compile(r"expected type|the two types (?:first )?differ|differ only|has no field|is not in scope|has no `|was not admitted|is no name")
+NO_LONGER_FITS = re.compile(
+    r"expected type|the two types (?:first )?differ|differ only|has no field|is not in scope|has no `|was not admitted|is no name"
+)
 # Errors of reading, which say nothing of a goal.
 UNREADABLE = re.compile(r"is not in scope|has no field|is no name|operand is missing|expected the end|cannot continue")
 COMPILER_ERROR = re.compile(r"^error(\[|:)|\berror\[[\w-]+\]", re.M)
