@@ -1,7 +1,7 @@
 -- A certificate of one leaf, in which each price is 0.
 use Rattle.std.proofs.Common.{◌≡◌, ℕ, refl, ap, sym, ◌∙◌, arith, List, [], ◌∷◌, length}
 use Rattle.std.specs.List.{AllByRecursion}
-use Rattle.rota_core.specs.Certificates.{open_after}
+use Rattle.rota_core.specs.Certificates.{leaf_tree, nodes_of}
 use Rattle.rota_core.specs.InstanceTables.{InstanceTables, problem_of}
 use Rattle.rota_core.specs.PriceTables.{IsForWeek, PriceTables}
 use Rattle.rota_core.specs.ScenarioTables.{ScenarioTables}
@@ -25,7 +25,7 @@ for-week t week same table free = record {
 pub is-free : (t : ScenarioTables) (weeks : ℕ) (found : Certificate) (leaf : Leaf) →
     AllByRecursion (λ list. AreFreeTables t weeks list.items) found.prices.items → length found.prices.items ≡ 1 →
     found.nodes.items ≡ nodes.Leaf leaf ∷ [] → leaf.prices ≡ 0 → leaf.surcharges.items ≡ [] → IsFreeCertificate t weeks found
-unfolding open_after
+unfolding nodes_of
 is-free t weeks found leaf free one nodes_are first none = record {
   fits = record {
     each = λ week same. record {
@@ -35,7 +35,7 @@ is-free t weeks found leaf free one nodes_are first none = record {
           (λ list are. (are.count, all-imply (IsFree t) (IsForWeek (problem_of week)) (for-week t week same) list.items are.free))
           found.prices.items free;
       nodes = rw nodes_are (record { number = omega (arith, one, first); surcharges = rw none tt }, tt);
-      tree = rw nodes_are refl;
+      tree = (leaf_tree leaf, nodes_are);
       count = rw nodes_are (omega arith);
     };
   };

@@ -1,3 +1,4 @@
+pub mod CertificateTrees
 pub mod FreePrices
 pub mod InTurn
 pub mod JudgedAfter

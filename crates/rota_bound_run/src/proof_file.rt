@@ -1,5 +1,6 @@
 //! The certificate, from its file.
 ghost use Rattle.std.specs.Prelude.{◌≡◌, ◌<◌, ◌≤◌, IfOk, MatchResult};
+ghost use Rattle.rota_core.specs.Certificates.{IsTreeOf};
 ghost use Rattle.rota_core.specs.declared.fault.FileName.TheVariants as names;
 ghost use Rattle.rota_certificate_read.specs.CertificateLayout.{IsCertificateOf, SpellsCertificate, certificate};
 ghost use Rattle.rota_pb.specs.RunPorts.{IsRead, reader_of};
@@ -60,6 +61,7 @@ fn free_certificate(
 
 // The certificate, if no fact occurs more than once on a path of its tree.
 fn check_paths(alloc: Global, certificate: Certificate) -> Result<Certificate, Fault>
+    requires { (tree : _) × IsTreeOf certificate tree }
     ensures { (check_paths certificate).ends result }
 {
     if repeats_fact(alloc, &certificate)? {

@@ -1,7 +1,7 @@
 -- The bound of a certificate is at most the cost of each plan that meets the given conditions.
 use Rattle.std.proofs.Common.{◌≡◌, ℕ, zero, suc, ◌*◌, ◌<◌, ◌≤◌, sym, refl, subst, arith, List, [], ◌∷◌, length, map, reverse, slice_index_or}
 use Rattle.std.specs.List.{AllByRecursion}
-use Rattle.rota_core.specs.Certificates.{IsFactFor, IsLeafFor, IsNodeFor}
+use Rattle.rota_core.specs.Certificates.{IsFactFor, IsLeafFor, IsNodeFor, IsTreeOf, Tree, nodes_of}
 use Rattle.rota_core.specs.PriceTables.{PriceTables, prices_of}
 use Rattle.rota_core.specs.Prices.{ArePrices}
 use Rattle.rota_core.specs.Problem.{Problem}
@@ -25,7 +25,7 @@ use Rattle.rota_certificate.proofs.LeafWeeks.{have-nurses, plan-keeps}
 use Rattle.rota_certificate.proofs.ListSteps.{all-append, all-reverse}
 use Rattle.rota_certificate.proofs.PlanParts.{HaveNurses, plan-tenths}
 use Rattle.rota_certificate.proofs.Rounding.{rounded-within}
-use Rattle.rota_certificate.proofs.TreeSoundness.{AllFacts, PassesNode, root-covered, tree-sound}
+use Rattle.rota_certificate.proofs.TreeSoundness.{AllFacts, PassesNode, tree-sound}
 
 -- ---- lists
 
@@ -44,7 +44,7 @@ tables-at (first ∷ lists) (suc i) within = tables-at lists i within.1
 
 module _ (first : Problem) (later : List Problem) (given : Case) (certificate : Certificate)
     (evidence : AreEvidenceFor first later given certificate) (rosters : List Roster)
-    (feasible : KeepAndMeet (first ∷ later) given rosters) where
+    (feasible : KeepAndMeet (first ∷ later) given rosters) (tree : Tree Leaf) (is_tree : IsTreeOf certificate tree) where
   abbrev problems : List Problem
   problems = first ∷ later
 
@@ -65,6 +65,9 @@ module _ (first : Problem) (later : List Problem) (given : Case) (certificate : 
       AllByRecursion (PassesNode IsForPlan IsLeafOf) list
   nodes-pass [] all = tt
   nodes-pass (node ∷ list) all = (node-passes node all.0, nodes-pass list all.1)
+
+  tree-passes : AllByRecursion (PassesNode IsForPlan IsLeafOf) (nodes_of tree)
+  tree-passes = subst (AllByRecursion (PassesNode IsForPlan IsLeafOf)) is_tree (nodes-pass certificate.nodes.items evidence.is_for.nodes)
 
   nurses_are : nurses_of plan ≡ first.nurses
   nurses_are = nurses-are first later rosters feasible.keep.count
@@ -91,27 +94,27 @@ module _ (first : Problem) (later : List Problem) (given : Case) (certificate : 
       (leaf-sound thousandths leaf.surcharges.items path leaf facts is_in)
 
   -- the plan costs no less than the bound
-  costs-bound : lower_bound problems given certificate ≤ plan_cost plan
+  costs-bound : lower_bound problems given certificate tree ≤ plan_cost plan
   costs-bound =
       tree-sound plan IsForPlan (plan_cost plan)
       (λ path leaf. rounded_up (case_of path given) (bound_at thousandths problems given certificate path leaf)) IsLeafOf leaf-rounded
-      [] certificate.nodes.items tt (nodes-pass certificate.nodes.items evidence.is_for.nodes) (root-covered plan IsForPlan)
+      [] tree tt tree-passes tt
 
   -- there is no such plan if the bound without the soft rules is above 0
-  costs-minimums : 0 < minimums_bound problems given certificate → ⊥
+  costs-minimums : 0 < minimums_bound problems given certificate tree → ⊥
   costs-minimums above =
       let below = tree-sound plan IsForPlan 0
       (λ path leaf. leaf_bound 0 problems (case_of path given) (prices_of_leaf certificate leaf) []) IsLeafOf
       (λ path leaf facts is_leaf is_in. omega (arith, leaf-sound 0 [] path leaf facts is_in))
-      [] certificate.nodes.items tt (nodes-pass certificate.nodes.items evidence.is_for.nodes) (root-covered plan IsForPlan) in
+      [] tree tt tree-passes tt in
       absurd (omega (arith, above, below))
 
 module _ (first : Problem) (later : List Problem) (given : Case) (certificate : Certificate)
-    (evidence : AreEvidenceFor first later given certificate) where
+    (evidence : AreEvidenceFor first later given certificate) (tree : Tree Leaf) (is_tree : IsTreeOf certificate tree) where
   -- no plan that meets the conditions costs less than the bound
-  pub lower_bound-sound : NoneCostLess (first ∷ later) given (lower_bound (first ∷ later) given certificate)
-  lower_bound-sound = λ rosters feasible. costs-bound first later given certificate evidence rosters feasible
+  pub lower_bound-sound : NoneCostLess (first ∷ later) given (lower_bound (first ∷ later) given certificate tree)
+  lower_bound-sound = λ rosters feasible. costs-bound first later given certificate evidence rosters feasible tree is_tree
 
   -- no plan meets the conditions if the bound without the soft rules is above 0
-  pub minimums-prove : 0 < minimums_bound (first ∷ later) given certificate → HaveNoPlan (first ∷ later) given
-  minimums-prove above = λ rosters feasible. costs-minimums first later given certificate evidence rosters feasible above
+  pub minimums-prove : 0 < minimums_bound (first ∷ later) given certificate tree → HaveNoPlan (first ∷ later) given
+  minimums-prove above = λ rosters feasible. costs-minimums first later given certificate evidence rosters feasible tree is_tree above

@@ -26,6 +26,14 @@ module _ {X : Type 0} (P : X → Type 0) where
   all-append [] ys all more = more
   all-append (x ∷ xs) ys all more = (all.0, all-append xs ys all.1 more)
 
+  pub all-front : (xs ys : List X) → AllByRecursion P (xs ++ ys) → AllByRecursion P xs
+  all-front [] ys all = tt
+  all-front (x ∷ xs) ys all = (all.0, all-front xs ys all.1)
+
+  pub all-back : (xs ys : List X) → AllByRecursion P (xs ++ ys) → AllByRecursion P ys
+  all-back [] ys all = all
+  all-back (x ∷ xs) ys all = all-back xs ys all.1
+
   pub all-reverse : (xs : List X) → AllByRecursion P xs → AllByRecursion P (reverse xs)
   all-reverse [] all = tt
   all-reverse (x ∷ xs) all =

@@ -2,7 +2,7 @@
 use Rattle.std.proofs.Common.{◌≡◌, ℕ, ◌<◌, ◌≤◌, sym, subst, List, [], ◌∷◌, length, map, slice_index_or}
 use Rattle.std.specs.List.{AllByRecursion}
 use Rattle.std.proofs.lemmas.List.{length-map}
-use Rattle.rota_core.specs.Certificates.{AreConditionsFor, IsCertificateFor, IsFactFor, IsLeafFor, IsNodeFor}
+use Rattle.rota_core.specs.Certificates.{AreConditionsFor, IsCertificateFor, IsFactFor, IsLeafFor, IsNodeFor, IsTreeOf, Tree}
 use Rattle.rota_core.specs.InstanceTables.{InstanceTables, problem_of}
 use Rattle.rota_core.specs.Problem.{Problem}
 use Rattle.rota_core.specs.Sizes.{Numbers}
@@ -10,6 +10,7 @@ use Rattle.rota_core.specs.declared.certificate.Certificate.{Certificate}
 use Rattle.rota_core.specs.declared.certificate.Condition.{Condition}
 use Rattle.rota_core.specs.declared.certificate.Fact.{Fact}
 use Rattle.rota_core.specs.declared.certificate.Fact.TheVariants.{Charges, Choice, EvenShiftRuns, Nurses}
+use Rattle.rota_core.specs.declared.certificate.Leaf.{Leaf}
 use Rattle.rota_core.specs.declared.certificate.Node.{Node}
 use Rattle.rota_core.specs.declared.certificate.Node.TheVariants as nodes
 use Rattle.rota_certificate.specs.CaseLimits.{IsLimited}
@@ -66,17 +67,22 @@ module _ (given : Case) (certificate : Certificate) (tables : HaveTables certifi
         tables = tables;
       }
 
-  pub none-cost_less : (weeks : List InstanceTables) → AreEvidence weeks given certificate →
-      NoneCostLess (map problem_of weeks) given (lower_bound (map problem_of weeks) given certificate)
+  -- evidence is of a certificate that has a tree
+  pub has-tree : (weeks : List InstanceTables) → AreEvidence weeks given certificate → (tree : Tree Leaf) × IsTreeOf certificate tree
+  has-tree [] evidence = absurd evidence.is_for
+  has-tree (first ∷ later) evidence = evidence.is_for.tree
+
+  pub none-cost_less : (weeks : List InstanceTables) → AreEvidence weeks given certificate → (tree : Tree Leaf) → IsTreeOf certificate tree →
+      NoneCostLess (map problem_of weeks) given (lower_bound (map problem_of weeks) given certificate tree)
   none-cost_less [] evidence = absurd evidence.is_for
   none-cost_less (first ∷ later) evidence =
       lower_bound-sound (problem_of first) (map problem_of later) given certificate (for-problems first later evidence)
 
-  pub have-no-plan : (weeks : List InstanceTables) → AreEvidence weeks given certificate →
-      0 < minimums_bound (map problem_of weeks) given certificate → HaveNoPlan (map problem_of weeks) given
-  have-no-plan [] evidence above = absurd evidence.is_for
-  have-no-plan (first ∷ later) evidence above =
-      minimums-prove (problem_of first) (map problem_of later) given certificate (for-problems first later evidence) above
+  pub have-no-plan : (weeks : List InstanceTables) → AreEvidence weeks given certificate → (tree : Tree Leaf) → IsTreeOf certificate tree →
+      0 < minimums_bound (map problem_of weeks) given certificate tree → HaveNoPlan (map problem_of weeks) given
+  have-no-plan [] evidence = absurd evidence.is_for
+  have-no-plan (first ∷ later) evidence =
+      minimums-prove (problem_of first) (map problem_of later) given certificate (for-problems first later evidence)
 
 -- rosters that cost as much as a bound are optimal
 pub are-optimal : (weeks : List Problem) (given : Case) (points : ℕ) → NoneCostLess weeks given points → AreOptimalAt weeks given points

@@ -2,13 +2,15 @@
 use Rattle.std.proofs.Common.{◌≡◌, ◌↔◌, ◌⊎◌, inl, inr, ℕ, ◌+◌, ◌-◌, ◌<◌, ◌≤◌, ap, sym, ◌∙◌, subst, arith, List, [], ◌∷◌, ◌++◌, length, drop, reverse, slice_index_or}
 use Rattle.std.specs.Prelude.{IsSomeAnd, Some, None}
 use Rattle.std.specs.List.{Any}
-use Rattle.std.proofs.lemmas.List.{drop_all, get_or-reverse, length-reverse, reverse-reverse}
+use Rattle.std.proofs.lemmas.List.{append-nil, append_assoc, drop_all, get_or-reverse, length-reverse, reverse-reverse}
+use Rattle.rota_core.specs.Certificates.{Tree, leaf_tree, nodes_of, split_tree}
 use Rattle.rota_core.specs.declared.certificate.Condition.{Condition}
 use Rattle.rota_core.specs.declared.certificate.Fact.{Fact}
 use Rattle.rota_core.specs.declared.certificate.Leaf.{Leaf}
 use Rattle.rota_core.specs.declared.certificate.Node.{Node}
 use Rattle.rota_core.specs.declared.certificate.Node.TheVariants as nodes
-use Rattle.rota_certificate.specs.CasePaths.{CasePath, IsOnPath, RepeatsFrom, next_path, with}
+use Rattle.rota_certificate.specs.CasePaths.{CasePath, IsOnPath, Repeats, with, without}
+use Rattle.rota_certificate.specs.NextPaths.{next_path}
 use Rattle.rota_certificate.proofs.ListSteps.{list-more}
 use Rattle.rota_certificate.proofs.TreePaths.{reverse-push}
 
@@ -31,6 +33,70 @@ on-reversed fact items is = any-reverse (λ one. one.fact ≡ fact) items is
 
 pub on-forward : (fact : Fact) (items : List Condition) → IsOnPath fact (reverse items) → IsOnPath fact items
 on-forward fact items is = subst (IsOnPath fact) (reverse-reverse items) (any-reverse (λ one. one.fact ≡ fact) (reverse items) is)
+
+-- ---- the nodes of a tree in preorder
+
+-- from this node on, a split has a fact that is on its path; the path leads to this node
+unfoldable pub RepeatsFrom : CasePath → List Node → Type 0
+RepeatsFrom path [] = ⊥
+RepeatsFrom path (nodes.Split fact ∷ later) = IsOnPath fact path ⊎ RepeatsFrom (with fact ∷ path) later
+RepeatsFrom path (nodes.Leaf leaf ∷ later) = IsSomeAnd (next_path path) (λ next. RepeatsFrom next later)
+
+-- the tree at the end of the path has such a split, or the nodes after it
+abbrev IsThereOrLater : CasePath → Tree Leaf → List Node → Type 0
+IsThereOrLater path tree later = Repeats path tree ⊎ IsSomeAnd (next_path path) (λ next. RepeatsFrom next later)
+
+from-nodes : (path : CasePath) (tree : Tree Leaf) (later : List Node) → RepeatsFrom path (nodes_of tree ++ later) → IsThereOrLater path tree later
+unfolding RepeatsFrom Repeats nodes_of next_path
+from-nodes path (leaf_tree one) later repeats = inr repeats
+from-nodes path (split_tree fact first second) later (inl on) = inl (inl on)
+from-nodes path (split_tree fact first second) later (inr more) =
+    let rest = subst (RepeatsFrom (with fact ∷ path)) (append_assoc (nodes_of first) (nodes_of second) later) more in
+    elim (from-nodes (with fact ∷ path) first (nodes_of second ++ later) rest) [
+      | inl here ↦ inl (inr (inl here))
+      | inr next ↦
+          elim (from-nodes (without fact ∷ path) second later next) [
+            | inl there ↦ inl (inr (inr there))
+            | inr after ↦ inr after
+          ]
+    ]
+
+to-nodes : (path : CasePath) (tree : Tree Leaf) (later : List Node) → IsThereOrLater path tree later → RepeatsFrom path (nodes_of tree ++ later)
+unfolding RepeatsFrom Repeats nodes_of next_path
+to-nodes path (leaf_tree one) later (inl here) = absurd here
+to-nodes path (leaf_tree one) later (inr next) = next
+to-nodes path (split_tree fact first second) later there =
+    let joined = sym (append_assoc (nodes_of first) (nodes_of second) later) in
+    let go_on : IsThereOrLater (with fact ∷ path) first (nodes_of second ++ later) → RepeatsFrom path (nodes_of (split_tree fact first second) ++ later) =
+    λ is. inr (subst (RepeatsFrom (with fact ∷ path)) joined (to-nodes (with fact ∷ path) first (nodes_of second ++ later) is)) in
+    elim there [
+      | inl here ↦
+          elim here [
+            | inl on ↦ inl on
+            | inr below ↦
+                elim below [
+                  | inl one ↦ go_on (inl one)
+                  | inr two ↦ go_on (inr (to-nodes (without fact ∷ path) second later (inl two)))
+                ]
+          ]
+      | inr next ↦ go_on (inr (to-nodes (without fact ∷ path) second later (inr next)))
+    ]
+
+-- all nodes of a tree
+module _ (list : List Node) (tree : Tree Leaf) (is : list ≡ nodes_of tree) where
+  whole : list ≡ nodes_of tree ++ []
+  whole = is ∙ sym (append-nil (nodes_of tree))
+
+  pub there-or-nowhere : RepeatsFrom [] list → Repeats [] tree
+  unfolding next_path
+  there-or-nowhere repeats =
+      elim (from-nodes [] tree [] (subst (RepeatsFrom []) whole repeats)) [
+        | inl here ↦ here
+        | inr later ↦ absurd later
+      ]
+
+  pub from-there : Repeats [] tree → RepeatsFrom [] list
+  from-there here = subst (RepeatsFrom []) (sym whole) (to-nodes [] tree [] (inl here))
 
 -- ---- the nodes from an index on
 

@@ -1,9 +1,10 @@
 -- Steps through a tree of cases.
 use Rattle.std.proofs.Common.{◌≡◌, ℕ, ◌+◌, ◌*◌, ◌<◌, ◌≤◌, Bool, true, false, refl, ap, sym, ◌∙◌, subst, cond, min, arith, List, [], ◌∷◌, ◌++◌, length, drop, reverse, slice_index_or}
-use Rattle.std.specs.Prelude.{Some, None}
+use Rattle.std.specs.Prelude.{Option, Some, None}
 use Rattle.std.specs.Option.{option_map_or}
 use Rattle.std.specs.List.{AllByRecursion}
-use Rattle.std.proofs.lemmas.List.{drop_all, length-append, length-reverse, reverse-append, reverse-reverse}
+use Rattle.std.proofs.lemmas.List.{append-nil, append_assoc, drop_all, length-append, length-reverse, reverse-append, reverse-reverse}
+use Rattle.rota_core.specs.Certificates.{Tree, leaf_tree, nodes_of, split_tree}
 use Rattle.rota_core.specs.Limits.{max_number}
 use Rattle.rota_core.specs.declared.certificate.Condition.{Condition}
 use Rattle.rota_core.specs.declared.certificate.Fact.{Fact}
@@ -11,7 +12,8 @@ use Rattle.rota_core.specs.declared.certificate.Leaf.{Leaf}
 use Rattle.rota_core.specs.declared.certificate.Node.{Node}
 use Rattle.rota_core.specs.declared.certificate.Node.TheVariants as nodes
 use Rattle.rota_certificate.specs.CaseLimits.{IsLimited, IsLimitedCase}
-use Rattle.rota_certificate.specs.CasePaths.{CasePath, next_path, with, without}
+use Rattle.rota_certificate.specs.CasePaths.{CasePath, with, without}
+use Rattle.rota_certificate.specs.NextPaths.{next_path}
 use Rattle.rota_certificate.specs.CertificateBounds.{case_of, least_bound}
 use Rattle.rota_certificate.specs.LeafBounds.{most_bound}
 use Rattle.rota_certificate.specs.Evidence.{IsShortPath}
@@ -59,33 +61,66 @@ next-short n (last ∷ path) next is few each =
     short-at n last.holds last.fact path next is (omega (arith, few)) each.0 each.1
     (λ same. next-short n path next same (omega (arith, few)) each.1)
 
+-- ---- the nodes of a tree in preorder
+
+-- the minimum of the bounds of the leaves from a node on; the path leads to this node
+unfoldable pub least_from : (CasePath → Leaf → ℕ) → CasePath → List Node → ℕ
+least_from bound path [] = 0
+least_from bound path (nodes.Split fact ∷ later) = least_from bound (with fact ∷ path) later
+least_from bound path (nodes.Leaf leaf ∷ later) =
+    option_map_or (λ next. min (bound path leaf) (least_from bound next later)) (next_path path) (bound path leaf)
+
+min-later : (a b : ℕ) (f : CasePath → ℕ) (next : Option CasePath) →
+    min a (option_map_or (λ one. min b (f one)) next b) ≡ option_map_or (λ one. min (min a b) (f one)) next (min a b)
+min-later a b f None = refl
+min-later a b f (Some one) = omega arith
+
+-- the nodes of the tree at the end of the path, and those after it
+least-tree : (bound : CasePath → Leaf → ℕ) (path : CasePath) (tree : Tree Leaf) (later : List Node) →
+    least_from bound path (nodes_of tree ++ later) ≡
+    option_map_or (λ next. min (least_bound bound path tree) (least_from bound next later)) (next_path path) (least_bound bound path tree)
+unfolding least_from least_bound nodes_of next_path
+least-tree bound path (leaf_tree one) later = refl
+least-tree bound path (split_tree fact first second) later =
+    ap (least_from bound (with fact ∷ path)) (append_assoc (nodes_of first) (nodes_of second) later) ∙
+    least-tree bound (with fact ∷ path) first (nodes_of second ++ later) ∙
+    ap (min (least_bound bound (with fact ∷ path) first)) (least-tree bound (without fact ∷ path) second later) ∙
+    min-later (least_bound bound (with fact ∷ path) first) (least_bound bound (without fact ∷ path) second)
+    (λ next. least_from bound next later) (next_path path)
+
+-- all nodes of a tree
+pub least-whole : (bound : CasePath → Leaf → ℕ) (list : List Node) (tree : Tree Leaf) → list ≡ nodes_of tree →
+    least_from bound [] list ≡ least_bound bound [] tree
+unfolding next_path
+least-whole bound list tree is = ap (least_from bound []) (is ∙ sym (append-nil (nodes_of tree))) ∙ least-tree bound [] tree []
+
 -- ---- the nodes from an index on
 
 module _ (bound : CasePath → Leaf → ℕ) (path : CasePath) (tree : List Node) (i : ℕ) (node : Node) (inside : i < length tree)
     (is : node ≡ slice_index_or tree i node) where
-  least-node : least_bound bound path (drop i tree) ≡ least_bound bound path (node ∷ drop (i + 1) tree)
-  least-node = ap (least_bound bound path) (list-more tree i node inside is)
+  least-node : least_from bound path (drop i tree) ≡ least_from bound path (node ∷ drop (i + 1) tree)
+  least-node = ap (least_from bound path) (list-more tree i node inside is)
 
   pub least-split : (fact : Fact) → node ≡ nodes.Split fact →
-      least_bound bound path (drop i tree) ≡ least_bound bound (with fact ∷ path) (drop (i + 1) tree)
-  unfolding least_bound
-  least-split fact split = least-node ∙ ap (λ (one : Node). least_bound bound path (one ∷ drop (i + 1) tree)) split
+      least_from bound path (drop i tree) ≡ least_from bound (with fact ∷ path) (drop (i + 1) tree)
+  unfolding least_from
+  least-split fact split = least-node ∙ ap (λ (one : Node). least_from bound path (one ∷ drop (i + 1) tree)) split
 
-  least-leaf : (leaf : Leaf) → node ≡ nodes.Leaf leaf → least_bound bound path (drop i tree) ≡
-      option_map_or (λ next. min (bound path leaf) (least_bound bound next (drop (i + 1) tree))) (next_path path) (bound path leaf)
-  unfolding least_bound
-  least-leaf leaf is_leaf = least-node ∙ ap (λ (one : Node). least_bound bound path (one ∷ drop (i + 1) tree)) is_leaf
+  least-leaf : (leaf : Leaf) → node ≡ nodes.Leaf leaf → least_from bound path (drop i tree) ≡
+      option_map_or (λ next. min (bound path leaf) (least_from bound next (drop (i + 1) tree))) (next_path path) (bound path leaf)
+  unfolding least_from
+  least-leaf leaf is_leaf = least-node ∙ ap (λ (one : Node). least_from bound path (one ∷ drop (i + 1) tree)) is_leaf
 
   pub least-later : (leaf : Leaf) (next : CasePath) → node ≡ nodes.Leaf leaf → next_path path ≡ Some next →
-      least_bound bound path (drop i tree) ≡ min (bound path leaf) (least_bound bound next (drop (i + 1) tree))
+      least_from bound path (drop i tree) ≡ min (bound path leaf) (least_from bound next (drop (i + 1) tree))
   least-later leaf next is_leaf later = least-leaf leaf is_leaf ∙ rw later refl
 
-  pub least-last : (leaf : Leaf) → node ≡ nodes.Leaf leaf → next_path path ≡ None → least_bound bound path (drop i tree) ≡ bound path leaf
+  pub least-last : (leaf : Leaf) → node ≡ nodes.Leaf leaf → next_path path ≡ None → least_from bound path (drop i tree) ≡ bound path leaf
   least-last leaf is_leaf none = least-leaf leaf is_leaf ∙ rw none refl
 
-pub least-end : (bound : CasePath → Leaf → ℕ) (path : CasePath) (tree : List Node) (i : ℕ) → length tree ≤ i → least_bound bound path (drop i tree) ≡ 0
-unfolding least_bound
-least-end bound path tree i past = ap (least_bound bound path) (drop_all i tree past)
+pub least-end : (bound : CasePath → Leaf → ℕ) (path : CasePath) (tree : List Node) (i : ℕ) → length tree ≤ i → least_from bound path (drop i tree) ≡ 0
+unfolding least_from
+least-end bound path tree i past = ap (least_from bound path) (drop_all i tree past)
 
 -- ---- the case of a path
 
@@ -116,7 +151,7 @@ case-limited items given path few each = record {
 
 -- before the node with this index, these are the minimum so far and the conditions of the path
 pub record IsSearched (bound : CasePath → Leaf → ℕ) (tree : List Node) (i least : ℕ) (items : List Condition) : Type 0 where
-  pub minimum : min least (least_bound bound (reverse items) (drop i tree)) ≡ min 18446744073709551615 (least_bound bound [] tree)
+  pub minimum : min least (least_from bound (reverse items) (drop i tree)) ≡ min 18446744073709551615 (least_from bound [] tree)
   pub path : IsShortPath i items
 
 module _ (bound : CasePath → Leaf → ℕ) (tree : List Node) (i least : ℕ) (items : List Condition) (node : Node) (inside : i < length tree)
@@ -125,7 +160,7 @@ module _ (bound : CasePath → Leaf → ℕ) (tree : List Node) (i least : ℕ) 
       IsSearched bound tree (i + 1) least after
   after-split fact after split limited pushed =
       let same = least-split bound (reverse items) tree i node inside is fact split ∙
-      ap (λ (path : CasePath). least_bound bound path (drop (i + 1) tree)) (sym (reverse-push after items (with fact) pushed)) in
+      ap (λ (path : CasePath). least_from bound path (drop (i + 1) tree)) (sym (reverse-push after items (with fact) pushed)) in
       record {
         minimum = ap (min least) (sym same) ∙ searched.minimum;
         path = record {
@@ -146,10 +181,10 @@ module _ (bound : CasePath → Leaf → ℕ) (tree : List Node) (i least : ℕ) 
       }
 
   pub at-last : (leaf : Leaf) (found : ℕ) → node ≡ nodes.Leaf leaf → next_path (reverse items) ≡ None → found ≡ bound (reverse items) leaf →
-      found ≤ most_bound → min least found ≡ least_bound bound [] tree
+      found ≤ most_bound → min least found ≡ least_from bound [] tree
   at-last leaf found is_leaf none is_bound small =
       omega (arith, least-last bound (reverse items) tree i node inside is leaf is_leaf none, is_bound, searched.minimum, small)
 
 pub at-end : (bound : CasePath → Leaf → ℕ) (tree : List Node) (i least : ℕ) (items : List Condition) → length tree ≤ i →
-    IsSearched bound tree i least items → 0 ≡ least_bound bound [] tree
+    IsSearched bound tree i least items → 0 ≡ least_from bound [] tree
 at-end bound tree i least items past searched = omega (arith, least-end bound (reverse items) tree i past, searched.minimum)

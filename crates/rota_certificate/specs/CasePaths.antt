@@ -1,11 +1,11 @@
 -- The paths of a tree of cases, and facts that are on a path more than once.
-use Rattle.std.specs.Prelude.{◌≡◌, ◌⊎◌, true, false, if◌then◌else◌, Option, Some, None, IsSomeAnd, List, [], ◌∷◌}
+use Rattle.std.specs.Prelude.{◌≡◌, ◌⊎◌, true, false, List, [], ◌∷◌}
 use Rattle.std.specs.List.{Any}
+use Rattle.rota_core.specs.Certificates.{IsTreeOf, Tree, leaf_tree, split_tree}
 use Rattle.rota_core.specs.declared.certificate.Certificate.{Certificate}
 use Rattle.rota_core.specs.declared.certificate.Condition.{Condition}
 use Rattle.rota_core.specs.declared.certificate.Fact.{Fact}
-use Rattle.rota_core.specs.declared.certificate.Node.{Node}
-use Rattle.rota_core.specs.declared.certificate.Node.TheVariants as nodes
+use Rattle.rota_core.specs.declared.certificate.Leaf.{Leaf}
 
 -- the conditions from a node to the root
 abbrev pub CasePath : Type 0
@@ -19,23 +19,17 @@ with fact = record { fact = fact; holds = true }
 abbrev pub without : Fact → Condition
 without fact = record { fact = fact; holds = false }
 
--- the path to the case that comes next in the tree, after all cases below the end of this path
-unfoldable pub next_path : CasePath → Option CasePath
-next_path [] = None
-next_path (condition ∷ path) = (if condition.holds then Some (without condition.fact ∷ path) else next_path path)
-
--- ---- facts that occur more than once
-
 -- a condition of the path says that the fact holds, or that it does not hold
 abbrev pub IsOnPath : Fact → CasePath → Type 0
 IsOnPath fact path = Any (λ one. one.fact ≡ fact) path
 
--- from this node on, a split has a fact that is on its path
-unfoldable pub RepeatsFrom : CasePath → List Node → Type 0
-RepeatsFrom path [] = ⊥
-RepeatsFrom path (nodes.Split fact ∷ later) = IsOnPath fact path ⊎ RepeatsFrom (with fact ∷ path) later
-RepeatsFrom path (nodes.Leaf leaf ∷ later) = IsSomeAnd (next_path path) (λ next. RepeatsFrom next later)
+-- in the tree at the end of this path, a split has a fact that is on its path
+unfoldable pub Repeats : CasePath → Tree Leaf → Type 0
+Repeats path (leaf_tree one) = ⊥
+Repeats path (split_tree fact first second) = IsOnPath fact path ⊎ Repeats (with fact ∷ path) first ⊎ Repeats (without fact ∷ path) second
 
--- a split of the certificate has a fact that is on its path
-abbrev pub RepeatsFact : Certificate → Type 0
-RepeatsFact certificate = RepeatsFrom [] certificate.nodes.items
+-- a split of the certificate's tree has a fact that is on its path
+pub record RepeatsFact (certificate : Certificate) : Type 0 where
+  pub tree : Tree Leaf
+  pub is : IsTreeOf certificate tree
+  pub repeats : Repeats [] tree

@@ -1,8 +1,8 @@
--- The bound of a certificate: the minimum of the bounds of its leaves. The nodes are a tree in preorder. The case of a node has the
--- conditions on its path to the root, and the given conditions, which all plans are asked to meet.
+-- The bound of a certificate: the minimum of the bounds of the leaves of its tree. The case of a leaf has the conditions on its path to the
+-- root, and the given conditions, which all plans are asked to meet.
 use Rattle.std.specs.Prelude.{ℕ, ◌+◌, ◌-◌, ◌/◌, ◌*◌, ◌++◌, Bool, true, false, min, if◌then◌else◌, List, [], ◌∷◌, map, reverse, slice_index_or}
 use Rattle.std.specs.List.{AllByRecursion, list_any}
-use Rattle.std.specs.Option.{option_map_or}
+use Rattle.rota_core.specs.Certificates.{Tree, leaf_tree, split_tree}
 use Rattle.rota_core.specs.PriceTables.{PriceTables, prices_of}
 use Rattle.rota_core.specs.Prices.{ArePrices, Prices}
 pub use Rattle.rota_core.specs.Prices.{thousandths}
@@ -11,9 +11,7 @@ use Rattle.rota_core.specs.declared.certificate.Certificate.{Certificate}
 use Rattle.rota_core.specs.declared.certificate.Fact.{Fact}
 use Rattle.rota_core.specs.declared.certificate.Fact.TheVariants.{EvenShiftRuns}
 use Rattle.rota_core.specs.declared.certificate.Leaf.{Leaf}
-use Rattle.rota_core.specs.declared.certificate.Node.{Node}
-use Rattle.rota_core.specs.declared.certificate.Node.TheVariants as nodes
-use Rattle.rota_certificate.specs.CasePaths.{CasePath, next_path, with}
+use Rattle.rota_certificate.specs.CasePaths.{CasePath, with, without}
 use Rattle.rota_certificate.specs.Facts.{Case}
 use Rattle.rota_certificate.specs.LeafBounds.{leaf_bound}
 pub use Rattle.rota_certificate.specs.Optimality.{AreOptimal}
@@ -48,12 +46,11 @@ rounded_up case sum =
 
 -- ---- the tree
 
--- the minimum of the bounds of the leaves from this node on; a case without a leaf has the bound 0
-unfoldable pub least_bound : (CasePath → Leaf → ℕ) → CasePath → List Node → ℕ
-least_bound bound path [] = 0
-least_bound bound path (nodes.Split fact ∷ later) = least_bound bound (with fact ∷ path) later
-least_bound bound path (nodes.Leaf leaf ∷ later) =
-    option_map_or (λ next. min (bound path leaf) (least_bound bound next later)) (next_path path) (bound path leaf)
+-- the minimum of the bounds of the leaves of the tree at the end of this path
+unfoldable pub least_bound : (CasePath → Leaf → ℕ) → CasePath → Tree Leaf → ℕ
+least_bound bound path (leaf_tree one) = bound path one
+least_bound bound path (split_tree fact first second) =
+    min (least_bound bound (with fact ∷ path) first) (least_bound bound (without fact ∷ path) second)
 
 -- ---- the certificate
 
@@ -78,12 +75,12 @@ abbrev pub bound_at : ℕ → List Problem → (given : Case) → Certificate �
 bound_at unit weeks given certificate path leaf =
     leaf_bound unit weeks (case_of path given) (prices_of_leaf certificate leaf) leaf.surcharges.items
 
--- the lower bound of the cost of all plans of the weeks that meet the given conditions, in points
-abbrev pub lower_bound : List Problem → (given : Case) → Certificate → ℕ
-lower_bound weeks given certificate =
-    least_bound (λ path leaf. rounded_up (case_of path given) (bound_at thousandths weeks given certificate path leaf)) [] certificate.nodes.items
+-- the lower bound of the cost of all plans of the weeks that meet the given conditions, in points, by the certificate with this tree
+abbrev pub lower_bound : List Problem → (given : Case) → Certificate → Tree Leaf → ℕ
+lower_bound weeks given certificate tree =
+    least_bound (λ path leaf. rounded_up (case_of path given) (bound_at thousandths weeks given certificate path leaf)) [] tree
 
 -- the bound with the soft rules and the surcharges left out: no plan meets the given conditions if it is above 0
-abbrev pub minimums_bound : List Problem → (given : Case) → Certificate → ℕ
-minimums_bound weeks given certificate =
-    least_bound (λ path leaf. leaf_bound 0 weeks (case_of path given) (prices_of_leaf certificate leaf) []) [] certificate.nodes.items
+abbrev pub minimums_bound : List Problem → (given : Case) → Certificate → Tree Leaf → ℕ
+minimums_bound weeks given certificate tree =
+    least_bound (λ path leaf. leaf_bound 0 weeks (case_of path given) (prices_of_leaf certificate leaf) []) [] tree

@@ -11,6 +11,7 @@ pub mod LeafBounds
 pub mod LentLeaves
 pub mod Minimums
 pub mod Nearness
+pub mod NextPaths
 pub mod NurseBounds
 pub mod NurseCosts
 pub mod Optimality

@@ -1,7 +1,8 @@
 //! The path from the root of a tree of cases to a node: the first condition is the root's.
 
 ghost use Rattle.std.specs.Prelude.{◌≡◌, ◌++◌, ◌↔◌, IfOk, IsTrue, None, Some, if◌then◌else◌, reverse};
-ghost use Rattle.rota_certificate.specs.CasePaths.{IsOnPath, next_path, with, without};
+ghost use Rattle.rota_certificate.specs.CasePaths.{IsOnPath, with, without};
+ghost use Rattle.rota_certificate.specs.NextPaths.{next_path};
 
 use rota_core::{Condition, Fact};
 use std::alloc::{AllocError, Global};

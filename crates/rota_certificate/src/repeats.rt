@@ -1,7 +1,8 @@
 //! Whether a certificate has a fact on a path more than once.
 
-ghost use Rattle.std.specs.Prelude.{◌↔◌, IfOk, IsTrue};
-ghost use Rattle.rota_certificate.specs.CasePaths.{RepeatsFact};
+ghost use Rattle.std.specs.Prelude.{◌↔◌, IfOk, IsTrue, []};
+ghost use Rattle.rota_core.specs.Certificates.{IsTreeOf};
+ghost use Rattle.rota_certificate.specs.CasePaths.{Repeats};
 
 use crate::paths::{go_on, is_on_path, with};
 use rota_core::{Certificate, Node};
@@ -12,7 +13,7 @@ use std::alloc::{AllocError, Global};
 ///
 /// The only error is that memory runs out.
 pub fn repeats_fact(alloc: Global, certificate: &Certificate) -> Result<bool, AllocError>
-    ensures { IfOk result (λ is. IsTrue is ↔ RepeatsFact certificate.now) }
+    ensures { (tree : _) → IsTreeOf certificate.now tree → IfOk result (λ is. IsTrue is ↔ Repeats [] tree) }
 {
     let mut path = Vec::new(alloc);
     for node in &certificate.nodes {

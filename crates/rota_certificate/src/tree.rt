@@ -2,7 +2,7 @@
 
 ghost use Rattle.std.specs.Prelude.{◌≡◌, ◌*◌, ◌≤◌, IfOk, [], length, map, nat_lt, reverse, true};
 ghost use Rattle.std.specs.List.{AllByRecursion, list_any};
-ghost use Rattle.rota_core.specs.Certificates.{IsLeafFor};
+ghost use Rattle.rota_core.specs.Certificates.{IsLeafFor, IsTreeOf};
 ghost use Rattle.rota_core.specs.InstanceTables.{problem_of};
 ghost use Rattle.rota_core.specs.Limits.{max_number, max_price};
 ghost use Rattle.rota_core.specs.PriceTables.{prices_of};
@@ -190,7 +190,7 @@ fn bound_at(
 
 // The minimum of the bounds of all leaves.
 fn least_bound(alloc: Global, evidence: &Evidence<'_>) -> Result<u64, AllocError>
-    ensures { IfOk result (λ least. least ≡ least_bound (bound_asked evidence.now) [] evidence.now.certificate.nodes.items) }
+    ensures { (tree : _) → IsTreeOf evidence.now.certificate tree → IfOk result (λ least. least ≡ least_bound (bound_asked evidence.now) [] tree) }
 {
     let mut known = Known::for_weeks(alloc, evidence.weeks.len())?;
     let mut path = Vec::new(alloc);
@@ -222,7 +222,8 @@ pub fn lower_bound(
     certificate: &Certificate,
 ) -> Result<u64, AllocError>
     requires { AreEvidence weeks.now given.now certificate.now }
-    ensures bound { IfOk result (λ points. points ≡ lower_bound (map problem_of weeks.now) given.now certificate.now) }
+    ensures bound { (tree : _) → IsTreeOf certificate.now tree →
+        IfOk result (λ points. points ≡ lower_bound (map problem_of weeks.now) given.now certificate.now tree) }
     ensures sound { IfOk result (NoneCostLess (map problem_of weeks.now) given.now) }
     ensures optimal { IfOk result (AreOptimalAt (map problem_of weeks.now) given.now) }
 {
@@ -247,7 +248,8 @@ pub fn no_plan_exists(
     certificate: &Certificate,
 ) -> Result<bool, AllocError>
     requires { AreEvidence weeks.now given.now certificate.now }
-    ensures answer { IfOk result (λ is. is ≡ nat_lt 0 (minimums_bound (map problem_of weeks.now) given.now certificate.now)) }
+    ensures answer { (tree : _) → IsTreeOf certificate.now tree →
+        IfOk result (λ is. is ≡ nat_lt 0 (minimums_bound (map problem_of weeks.now) given.now certificate.now tree)) }
     ensures sound { IfOk result (λ is. is ≡ true → HaveNoPlan (map problem_of weeks.now) given.now) }
 {
     check_lists(certificate);

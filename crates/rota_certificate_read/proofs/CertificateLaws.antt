@@ -5,14 +5,16 @@ use Rattle.std.specs.List.{AllByRecursion}
 use Rattle.std.specs.Option.{option_map_or}
 use Rattle.std.specs.Str.{bytes_eq}
 use Rattle.std.proofs.lemmas.Bool.Decides.{nat_tests}
-use Rattle.std.proofs.lemmas.List.{length-map}
-use Rattle.rota_core.specs.Certificates.{IsFactFor, IsNodeFor, open_after}
+use Rattle.std.specs.List.{flat_map}
+use Rattle.std.proofs.lemmas.List.{append-nil, append_assoc, length-map}
+use Rattle.rota_core.specs.Certificates.{IsFactFor, IsNodeFor, Tree, leaf_tree, nodes_of, split_tree}
 use Rattle.rota_core.specs.InstanceTables.{InstanceTables, problem_of}
 use Rattle.rota_core.specs.Limits.{max_price}
 use Rattle.rota_core.specs.PriceTables.{IsForWeek, PriceTables}
 use Rattle.rota_core.specs.ScenarioTables.{ScenarioTables, numbers_of}
 use Rattle.rota_core.specs.declared.certificate.Certificate.{Certificate}
 use Rattle.rota_core.specs.declared.certificate.Fact.{Fact}
+use Rattle.rota_core.specs.declared.certificate.Leaf.{Leaf}
 use Rattle.rota_core.specs.declared.certificate.Node.{Node}
 use Rattle.rota_core.specs.declared.certificate.Node.TheVariants as nodes
 use Rattle.rota_core.specs.declared.fault.Kind.{Kind}
@@ -109,12 +111,46 @@ open-append zero left (node ∷ front) rest h = absurd (cc)
 open-append (suc subtrees) left (split_by one ∷ front) rest h = open-append (suc (suc subtrees)) left front rest h
 open-append (suc subtrees) left (leaf_with number surcharges ∷ front) rest h = open-append subtrees left front rest h
 
-open-same : (subtrees : ℕ) (tree : List Node) → open_after subtrees tree ≡ open_tables subtrees (map node_of tree)
-unfolding open_after
-open-same subtrees [] = refl
-open-same zero (node ∷ rest) = refl
-open-same (suc subtrees) (nodes.Split one ∷ rest) = open-same (suc (suc subtrees)) rest
-open-same (suc subtrees) (nodes.Leaf one ∷ rest) = open-same subtrees rest
+-- the nodes of several trees, one after the other
+record AreTrees (subtrees : ℕ) (list : List Node) : Type 0 where
+  pub trees : List (Tree Leaf)
+  pub count : length trees ≡ subtrees
+  pub are : list ≡ flat_map nodes_of trees
+
+-- a split before its two trees
+trees-joined : (fact : Fact) (subtrees : ℕ) (rest : List Node) (trees : List (Tree Leaf)) → length trees ≡ suc (suc subtrees) →
+    rest ≡ flat_map nodes_of trees → AreTrees (suc subtrees) (nodes.Split fact ∷ rest)
+unfolding nodes_of
+trees-joined fact subtrees rest [] count are = absurd (omega (arith, count))
+trees-joined fact subtrees rest (first ∷ []) count are = absurd (omega (arith, count))
+trees-joined fact subtrees rest (first ∷ second ∷ others) count are = record {
+  trees = split_tree fact first second ∷ others;
+  count = omega (arith, count);
+  are = ap (λ (list : List Node). nodes.Split fact ∷ list) (are ∙ sym (append_assoc (nodes_of first) (nodes_of second) (flat_map nodes_of others)));
+}
+
+trees-of : (subtrees : ℕ) (list : List Node) → open_tables subtrees (map node_of list) ≡ Some 0 → AreTrees subtrees list
+unfolding nodes_of
+trees-of subtrees [] h = let none : subtrees ≡ 0 = cc in record { trees = []; count = sym none; are = refl }
+trees-of zero (node ∷ rest) h = absurd (cc)
+trees-of (suc subtrees) (nodes.Split fact ∷ rest) h =
+    let more = trees-of (suc (suc subtrees)) rest h in
+    trees-joined fact subtrees rest more.trees more.count more.are
+trees-of (suc subtrees) (nodes.Leaf one ∷ rest) h =
+    let more = trees-of subtrees rest h in
+    record {
+      trees = leaf_tree one ∷ more.trees;
+      count = omega (arith, more.count);
+      are = ap (λ (list : List Node). nodes.Leaf one ∷ list) more.are;
+    }
+
+only-tree : (list : List Node) (trees : List (Tree Leaf)) → length trees ≡ 1 → list ≡ flat_map nodes_of trees → (tree : Tree Leaf) × (list ≡ nodes_of tree)
+only-tree list [] one are = absurd (omega (arith, one))
+only-tree list (tree ∷ []) one are = (tree, are ∙ append-nil (nodes_of tree))
+only-tree list (first ∷ second ∷ others) one are = absurd (omega (arith, one))
+
+tree-of : (list : List Node) → open_tables 1 (map node_of list) ≡ Some 0 → (tree : Tree Leaf) × (list ≡ nodes_of tree)
+tree-of list h = let all = trees-of 1 list h in only-tree list all.trees all.count all.are
 
 -- a word that fits has its meaning
 meant : {V : Type 0} (meaning : Option V) (kind : Kind) (value : V) → option_map_or (λ v. Ok v) meaning (Err kind) ≡ Ok value → meaning ≡ Some value
@@ -325,7 +361,7 @@ certificate-read t weeks text found h = record {
         nodes = all_of_map (IsNode week.scenario weeks (length found.prices.items))
             (IsNodeFor (numbers_of week.scenario) weeks (length found.prices.items)) node_of
             (node-is week weeks (length found.prices.items)) found.nodes.items listed;
-        tree = open-same 1 found.nodes.items ∙ are.tree;
+        tree = tree-of found.nodes.items are.tree;
         count = omega (arith, are.count, length-map found.nodes.items node_of);
       };
 }

@@ -1,5 +1,5 @@
 -- Certificates for the plans of some weeks.
-use Rattle.std.specs.Prelude.{◌≡◌, ℕ, zero, suc, ◌*◌, ◌≤◌, ◌<◌, List, [], ◌∷◌, length, Option, Some, None}
+use Rattle.std.specs.Prelude.{◌≡◌, ℕ, ◌*◌, ◌≤◌, ◌<◌, List, [], ◌∷◌, ◌++◌, length}
 use Rattle.std.specs.List.{AllByRecursion}
 use Rattle.std.specs.Option.{ForSome}
 use Rattle.rota_core.specs.Limits.{max_number, max_price}
@@ -58,22 +58,26 @@ abbrev pub IsNodeFor : Numbers → (weeks prices : ℕ) → Node → Type 0
 IsNodeFor numbers weeks prices (nodes.Split fact) = IsFactFor numbers weeks fact
 IsNodeFor numbers weeks prices (nodes.Leaf leaf) = IsLeafFor prices leaf
 
--- The number of subtrees that are still to come, if this number of them comes before these nodes: a split has two subtrees, and a leaf
--- has none. `None` if a node comes after the last subtree.
-unfoldable pub open_after : ℕ → List Node → Option ℕ
-open_after subtrees [] = Some subtrees
-open_after zero (node ∷ rest) = None
-open_after (suc subtrees) (nodes.Split fact ∷ rest) = open_after (suc (suc subtrees)) rest
-open_after (suc subtrees) (nodes.Leaf leaf ∷ rest) = open_after subtrees rest
+-- ---- the tree
 
--- the nodes are one tree in preorder
-abbrev pub IsOneTree : List Node → Type 0
-IsOneTree tree = open_after 1 tree ≡ Some 0
+-- a tree of cases: a leaf; or a split by a fact, with the tree of the case in which it holds, and then that of the case in which it does not
+pub data Tree (A : Type 0) : Type 0 where
+  leaf_tree : A → Tree A
+  split_tree : Fact → Tree A → Tree A → Tree A
+
+-- the nodes of a tree in preorder: a split comes before its trees
+unfoldable pub nodes_of : Tree Leaf → List Node
+nodes_of (leaf_tree one) = nodes.Leaf one ∷ []
+nodes_of (split_tree fact first second) = nodes.Split fact ∷ nodes_of first ++ nodes_of second
+
+-- the nodes of the certificate are those of this tree
+abbrev pub IsTreeOf : Certificate → Tree Leaf → Type 0
+IsTreeOf certificate tree = certificate.nodes.items ≡ nodes_of tree
 
 -- The certificate is for plans of this number of weeks: in each list of prices there is a table for each week, the nodes are one tree, with
 -- no more nodes than its file may have, and each fact and leaf of it is as above.
 pub record IsCertificateFor (problem : Problem) (weeks : ℕ) (certificate : Certificate) : Type 0 where
   pub prices : AllByRecursion (λ list. (length list.items ≡ weeks) × AllByRecursion (IsForWeek problem) list.items) certificate.prices.items
   pub nodes : AllByRecursion (IsNodeFor problem.numbers weeks (length certificate.prices.items)) certificate.nodes.items
-  pub tree : IsOneTree certificate.nodes.items
+  pub tree : (tree : Tree Leaf) × IsTreeOf certificate tree
   pub count : length certificate.nodes.items ≤ 2 * max_number

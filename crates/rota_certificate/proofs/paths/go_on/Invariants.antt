@@ -1,5 +1,5 @@
 use Rattle.std.proofs.Common.{◌≡◌, reverse, length}
-use Rattle.rota_certificate.specs.CasePaths.{next_path}
+use Rattle.rota_certificate.specs.NextPaths.{next_path}
 use Rattle.rota_certificate.proofs.paths.go_on.Given as goal
 
 -- the next case is the one after the path so far

@@ -2,7 +2,7 @@ use Rattle.std.proofs.Common.{◌≡◌, ◌<◌, ◌≤◌, ◌++◌, ◌∷◌
 use Rattle.rota_core.specs.declared.certificate.Condition.{Condition}
 use Rattle.rota_core.specs.declared.certificate.Node.{Node}
 use Rattle.rota_certificate.specs.CasePaths.{IsOnPath}
-use Rattle.rota_certificate.proofs.RepeatedFacts.{found-there, left-after_leaf, left-after_split, none-after_last, none-at_end}
+use Rattle.rota_certificate.proofs.RepeatedFacts.{found-there, from-there, left-after_leaf, left-after_split, none-after_last, none-at_end, there-or-nowhere}
 use Rattle.rota_certificate.proofs.repeats.repeats_fact.Goals as goal
 use Rattle.rota_certificate.proofs.repeats.repeats_fact.Goals.{in-Split+else-is_on_path+in_ok-push-in-Split, in-Leaf+in_ok-go_on-in-Leaf+else-not-branch}
 
@@ -17,7 +17,7 @@ returns-then-is_on_path c =
     c.node-item.is ∙ ap (λ (xs : List Node). slice_index_or xs i node) c.deref-node-items.ensures.value in
     let on = subst (IsOnPath c.in-Split.fact) c.deref.ensures.value (c.is_on_path.ensures.0 c.if-is_on_path.true) in
     let found = found-there nodes i c.loop-node.path.items node inside is c.loop-node.invariant c.in-Split.fact c.in-Split.is on in
-    (λ _. found, λ _. grind (arith))
+    λ tree is_tree. (λ _. there-or-nowhere nodes tree is_tree found, λ _. grind (arith))
 
 pub returns-then-not-branch : goal.returns-then-not-branch
 returns-then-not-branch c =
@@ -28,10 +28,12 @@ returns-then-not-branch c =
     omega (arith, c.loop-node-test.true, ap (λ (xs : List Node). length xs) c.deref-node-items.ensures.value) in
     let is : node ≡ slice_index_or nodes i node =
     c.node-item.is ∙ ap (λ (xs : List Node). slice_index_or xs i node) c.deref-node-items.ensures.value in
-    let none = rw c.if-not-branch.true at c.in_ok-go_on-in-Leaf.ensures in (
+    let none = rw c.if-not-branch.true at c.in_ok-go_on-in-Leaf.ensures in
+    λ tree is_tree. (
       λ is_true. absurd (grind (arith, is_true)),
       λ repeats.
-          absurd (none-after_last nodes i c.loop-node.path.items node inside is c.loop-node.invariant c.in-Leaf.field-0 c.in-Leaf.is none repeats),
+          absurd (none-after_last nodes i c.loop-node.path.items node inside is c.loop-node.invariant c.in-Leaf.field-0 c.in-Leaf.is none
+          (from-there nodes tree is_tree repeats)),
     )
 
 pub loop-node-preserved : goal.loop-node-preserved
@@ -62,7 +64,9 @@ pub returns : goal.returns
 returns c =
     let nodes = c.args.certificate.now.nodes.items in
     let past : length nodes ≤ c.loop-node.node-index =
-    omega (arith, c.loop-node-test.false, ap (λ (xs : List Node). length xs) c.deref-node-items.ensures.value) in (
+    omega (arith, c.loop-node-test.false, ap (λ (xs : List Node). length xs) c.deref-node-items.ensures.value) in
+    λ tree is_tree. (
       λ is_true. absurd (grind (arith, is_true)),
-      λ repeats. absurd (none-at_end nodes c.loop-node.node-index c.loop-node.path.items past c.loop-node.invariant repeats),
+      λ repeats.
+          absurd (none-at_end nodes c.loop-node.node-index c.loop-node.path.items past c.loop-node.invariant (from-there nodes tree is_tree repeats)),
     )

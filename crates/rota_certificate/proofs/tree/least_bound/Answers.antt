@@ -5,7 +5,7 @@ use Rattle.rota_core.specs.declared.certificate.Node.{Node}
 use Rattle.rota_certificate.specs.CaseLimits.{IsLimited}
 use Rattle.rota_certificate.specs.Evidence.{EvidenceTables, IsEvidence, bound_asked}
 use Rattle.rota_certificate.proofs.PeriodProofs.{node-at}
-use Rattle.rota_certificate.proofs.TreePaths.{after-leaf, after-split, at-end, at-last}
+use Rattle.rota_certificate.proofs.TreePaths.{after-leaf, after-split, at-end, at-last, least-whole}
 use Rattle.rota_certificate.proofs.TreeSoundness.{PassesNode}
 use Rattle.rota_certificate.proofs.tree.least_bound.Goals as goal
 use Rattle.rota_certificate.proofs.tree.least_bound.Goals.{in-Split+in_ok-push-in-Split, in-Leaf+in_ok-bound-in-Leaf+in_ok-go_on-in-Leaf+else-not-branch}
@@ -22,11 +22,13 @@ returns-then-not-branch c =
     omega (arith, c.loop-node-test.true, ap (λ (xs : List Node). length xs) items_are) in
     let is : node ≡ slice_index_or nodes i node =
     c.node-item.is ∙ ap (λ (xs : List Node). slice_index_or xs i node) items_are in
+    λ tree is_tree.
     c.min-least.ensures ∙
     at-last (bound_asked evidence) nodes i c.loop-node.least c.loop-node.path.items node inside is c.loop-node.invariant c.in-Leaf.leaf
     c.in_ok-bound-in-Leaf.bound c.in-Leaf.is (rw c.if-not-branch.true at c.in_ok-go_on-in-Leaf.ensures)
     (c.in_ok-bound-in-Leaf.ensures.bound ∙ ap (λ (items : List Condition). bound_asked evidence (reverse items) c.in-Leaf.leaf) c.deref.ensures.value)
-    c.in_ok-bound-in-Leaf.ensures.small
+    c.in_ok-bound-in-Leaf.ensures.small ∙
+    least-whole (bound_asked evidence) nodes tree is_tree
 
 pub loop-node-preserved : goal.loop-node-preserved
 loop-node-preserved c =
@@ -70,4 +72,6 @@ returns c =
     c.deref-node-items.ensures.value ∙ ap (λ (e : EvidenceTables). e.certificate.nodes.items) c.evidence.view_is in
     let past : length nodes ≤ c.loop-node.node-index =
     omega (arith, c.loop-node-test.false, ap (λ (xs : List Node). length xs) items_are) in
-    at-end (bound_asked evidence) nodes c.loop-node.node-index c.loop-node.least c.loop-node.path.items past c.loop-node.invariant
+    λ tree is_tree.
+    at-end (bound_asked evidence) nodes c.loop-node.node-index c.loop-node.least c.loop-node.path.items past c.loop-node.invariant ∙
+    least-whole (bound_asked evidence) nodes tree is_tree
