@@ -6,7 +6,9 @@ goal that its search left open, with the place in the source, and then the funct
     note: src/slots.rt:80:5: it is not proved that what the function ensures holds when it returns (`returns`)
     fn rota_layout::cursor::Cursor::exactly: no proof: expected answers in ..; `search` did not prove `returns`; it calls `..`, which ..
 
-An answer that does not prove its goal has an error line of its own, which names the proof file; that names the function.
+An answer that does not prove its goal has an error line of its own, which names the proof file; that names the function. Functions that
+call one another in a cycle have one folder of proofs, `+NAME`, and each of them has the notes of all; there a goal begins with the name of
+its function.
 """
 
 import re
@@ -21,6 +23,8 @@ UNPROVED = re.compile(r"did not prove ((?:`[^`]+`(?:, | and )?)+)")
 NO_LONGER_FITS = re.compile(
     r"expected type|the two types (?:first )?differ|differ only|has no field|is not in scope|has no `|was not admitted|is no name"
 )
+FOLLOWS = re.compile(r"declarations? that depends? on ")
+CYCLE = re.compile(r"proofs/(.*?)/?\+\w+/")
 # Errors of reading, which say nothing of a goal.
 UNREADABLE = re.compile(r"is not in scope|has no field|is no name|operand is missing|expected the end|cannot continue")
 COMPILER_ERROR = re.compile(r"^error(\[|:)|\berror\[[\w-]+\]", re.M)
@@ -75,6 +79,11 @@ def goal_of(message: str) -> Tuple[str, bool]:
     return name, bool(NO_LONGER_FITS.search(told.partition(". ")[0]))
 
 
+def in_cycle(function: str, goal: str) -> str:
+    """The function of the goal of a cycle, which begins with its name; this one is of the cycle."""
+    return f"{function.rpartition('::')[0]}::{goal.partition('-')[0]}"
+
+
 class Reader:
     """Reads the output of a check, line by line."""
 
@@ -84,6 +93,8 @@ class Reader:
         # For each function its goals, each with whether an answer alone refuses it.
         self.goals: Dict[str, Dict[str, bool]] = {}
         self.lines: Dict[str, Set[Tuple[str, int]]] = {}
+        # For each note the functions that have it.
+        self.noted: Dict[Tuple[str, int, str], Set[str]] = {}
         self.unexplained: Set[str] = set()
         self.proved: Optional[bool] = None
 
@@ -94,7 +105,7 @@ class Reader:
             self.notes.append((note[1], int(note[2]), note[3]))
         elif function:
             self.read_function(function[1], function[2])
-        elif error:
+        elif error and not FOLLOWS.search(error[2]):
             self.errors.append((error[1], error[2]))
         elif line.startswith("logic="):
             self.proved = line.startswith("logic=proved")
@@ -110,19 +121,40 @@ class Reader:
         goals = {goal for _, _, goal in notes} | set(re.findall(r"`([^`]+)`", unproved[1]) if unproved else ())
         self.goals.setdefault(name, {}).update({goal: False for goal in goals})
         self.lines.setdefault(name, set()).update((file, line) for file, line, _ in notes)
+        for note in notes:
+            self.noted.setdefault(note, set()).add(name)
         if not goals and "it calls" not in told:
             self.unexplained.add(name)
+
+    def part_cycles(self) -> None:
+        """A note that several functions have is of one of them."""
+        for (file, line, goal), names in self.noted.items():
+            owner = in_cycle(min(names), goal)
+            for name in names if len(names) > 1 and owner in names else ():
+                if name != owner:
+                    self.goals[name].pop(goal, None)
+                    self.lines[name].discard((file, line))
+
+    def owner_of(self, file: str, goal: str, folders: Dict[str, str]) -> Optional[str]:
+        """The function of an error in this proof file that names this goal; None if it is of no function without a proof."""
+        cycle = CYCLE.match(file)
+        crate = next(iter(self.goals), "").partition("::")[0]
+        name = in_cycle("::".join([crate, *cycle[1].split("/"), ""]), goal) if cycle else ""
+        if name in self.goals:
+            return name
+        return next((function for folder, function in folders.items() if file.startswith(folder)), None)
 
     def verdict(self) -> Verdict:
         """What was read."""
         others = []
+        self.part_cycles()
         folders = {proof_folder(name): name for name in self.goals}
         for file, message in self.errors:
-            owner = next((name for folder, name in folders.items() if file.startswith(folder)), None)
+            goal, only_answer = goal_of(message)
+            owner = self.owner_of(file, goal, folders)
             if owner is None:
                 others.append(f"{file}: {message}")
                 continue
-            goal, only_answer = goal_of(message)
             self.goals[owner].setdefault(goal, only_answer)
         for name in self.unexplained:
             if not self.goals[name]:
