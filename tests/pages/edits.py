@@ -27,7 +27,7 @@ OWNER = re.compile(r"(?:pub |unsafe )*(impl|trait)\b(?:<[^>]*>)? (.*?)\s*(?:\{|w
 PROMISE = re.compile(r"(?m)^ +ensures (\w+)? ?\{ ?((?:.(?!\n +(?:ensures|requires) |\n *\{))*.)", re.S)
 EXACT = re.compile(r"(let .*? in )?result(\.now)? ≡ [^→]*$")
 EQUATION = re.compile(r"(let .*? in )?((If|On)(Ok|Err) result \((λ \w+\. )?)?[a-z⟦][^→]* ≡ [^→]*$")
-Function = namedtuple("Function", "name first last public law fixed promises")
+Function = namedtuple("Function", "name first last public law fixed promises clauses")
 
 
 def promise(label, text):
@@ -88,7 +88,7 @@ def functions(path, module, exports, is_open):
         whole = "::".join([" for ".join(outer), name] if outer else [name])
         law = bool(CITES.fullmatch("".join(lines[begin + 1 : end])))
         fixed = fix_all(text.rstrip(" }") for _, text in clauses)
-        found.append(Function(whole, start, end, public, law, fixed, [promise(*clause) for clause in clauses]))
+        found.append(Function(whole, start, end, public, law, fixed, [promise(*clause) for clause in clauses], clauses))
     return found
 
 
@@ -179,7 +179,7 @@ def main():
         for line in stale:
             print(line)
         for path, found in tables.items():
-            for one in [*found, Function("(no function)", None, None, False, True, False, [])]:
+            for one in [*found, Function("(no function)", None, None, False, True, False, [], [])]:
                 tell(asked, path, one, edits_of.get((path, one.first), {}))
     print(f"{count} edits, {bad} stale")
     sys.exit(bad > 0)

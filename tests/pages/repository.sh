@@ -106,6 +106,12 @@ promises_are_guarded() {
         complain "tests/pages/without_edits.txt (<) is not what tests/pages/edits.py none prints (>): $(head -n 20 "$room/diff")"
 }
 
+# A clause of a public contract that no equation fixes, no proof of a caller names, and no edit was refused by.
+clauses_are_guarded() {
+    begins_case 'the clauses of public contracts that nothing guards'
+    tests/pages/clauses.py check > "$room/clauses" || complain "$(head -n 20 "$room/clauses")"
+}
+
 scripts_are_clean() {
     has shellcheck || return
     begins_case 'the scripts'
@@ -133,6 +139,7 @@ examples_are_tests
 takes_contracts
 mistakes_are_refused
 promises_are_guarded
+clauses_are_guarded
 scripts_are_clean
 scripts_are_executable
 finish
