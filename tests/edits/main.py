@@ -136,7 +136,7 @@ def tell(made: Plan, outcomes: Dict[Edit, Outcome], entries: Dict[Edit, Entry], 
         print(f"edits: {edit.crate}/{edit.name}: {outcome.fault}")
     for edit, entry in entries.items():
         if record.rests_on_answers(entry):
-            print(f"edits: note: {edit.crate}/{edit.name} is refused only by answers that no longer fit: it shows nothing of a contract")
+            print(f"edits: note: {edit.crate}/{edit.name} is refused only by answers that no longer fit: it says little of a contract")
     print(f"edits: {len(outcomes)} tried, {len(made.recorded)} taken from the record")
     if names:
         print(f"edits: the record differs from that of the tree for {', '.join(names)}: 'tests/edits/main.py write' writes it there")

@@ -63,5 +63,5 @@ def read(file: Path) -> Dict[str, Entry]:
 
 
 def rests_on_answers(entry: Entry) -> bool:
-    """Whether the edit is refused only by answers that no longer fit, which says nothing of the contract."""
+    """Whether the edit is refused only by answers that no longer fit, which says little of the contract."""
     return all(goal.only_answer for goal in entry.goals)

@@ -212,6 +212,36 @@ stops() {
     done < "$room/sleepers"
 }
 
+# Functions that call one another in a cycle have the notes of all, and one folder of proofs: `next` has no open goal of its own.
+cycles() {
+    begins_case 'the goals of a cycle of calls'
+    cat > "$room/said" << 'END'
+./proofs/nurses/+week/Answers.antt:72:50: error: `after-returns`: as printed, the two types first differ
+./proofs/nurses/+week/Answers.antt:80:5: error: 1 declaration that depends on `after-returns`, which was rejected, was not checked: after-sound
+note: src/nurses.rt:106:5: it is not proved that the invariant of the loop holds (`least-loop-preserved`)
+fn ward::nurses::after: not proved; in `ward::nurses::next`, of this cycle of calls: it calls `ward::known::cost`, which is not proved
+note: src/nurses.rt:106:5: it is not proved that the invariant of the loop holds (`least-loop-preserved`)
+fn ward::nurses::least: not proved; in `ward::nurses::next`, of this cycle of calls: it calls `ward::known::cost`, which is not proved
+note: src/nurses.rt:106:5: it is not proved that the invariant of the loop holds (`least-loop-preserved`)
+fn ward::nurses::next: not proved; it calls `ward::known::cost`, which is not proved
+logic=not-proved
+END
+    python3 - "$room/said" > "$room/out" << 'END'
+import sys
+sys.path.insert(0, "tests/edits")
+import verdict
+
+said = verdict.verdict_of(open(sys.argv[1]).read())
+print(said.proved, *said.others)
+for function in said.functions:
+    print(*[word for goal in sorted(function.goals) for word in goal], *function.lines)
+END
+    [ "$(cat "$room/out")" = "False
+ward::nurses::after after-returns True
+ward::nurses::least least-loop-preserved False ('src/nurses.rt', 106)" ] || complain "$(cat "$room/out")"
+}
+
+cycles
 first_tries
 planted_edits
 planted_records
