@@ -8,16 +8,23 @@ SHARE = $(DESTDIR)$(PREFIX)/share
 # build.py uses all processors, and rt lets one command at a time into a crate.
 .NOTPARALLEL:
 
-.PHONY: all build try example tour solvers test edits programs bench fuzz dist deb install uninstall clean
+.PHONY: all build try example tour solvers test browser edits programs bench fuzz dist deb install uninstall clean
 
 # The programs that `make` builds, each with its crate.
 CRATES = inrc2pb=inrc2pb inrc2pb-bound=inrc2pb_bound
+ROWS = out/inrc2pb-rows.so
 
-all: build
+all: build $(ROWS)
 
 # Proves the crates below the programs, one for each processor at a time; build.py says in which order.
 build:
 	./build.py $(CRATES)
+
+# The pricing of rows for the searches, which NumPy does without it. An own COMPILER takes the place of the kit's clang, or of cc.
+COMPILER ?= $(firstword $(wildcard $(dir $(realpath $(shell command -v rt)))../toolchain/bin/clang) cc)
+$(ROWS): python/inrc2pb/rows/cheapest_rows.c
+	mkdir -p $(@D)
+	"$(COMPILER)" -O3 $(if $(filter x86_64,$(shell uname -m)),-march=x86-64-v2) -shared -fPIC -s -o $@ $<
 
 # Compiles without a proof and runs the example, in about a minute.
 try:
@@ -32,12 +39,17 @@ tour: build
 	examples/tour.sh
 
 # Installs cbc from Debian, as root, plans the weeks of docs/solvers.md, and writes its table: takes some minutes.
-solvers: build
+solvers: all
 	$(if $(filter 0,$(shell id -u)),,sudo )apt-get install -y coinor-cbc
 	python3 bench/solvers.py
 
 test:
 	.ci/run
+
+# What a planner does in a period on the local page, in a headless Chromium, by mouse and by keyboard, on a screen and on a telephone: takes some
+# minutes. Needs Debian's packages chromium, chromium-driver and python3-selenium; the gate takes a short way only.
+browser: build
+	/usr/bin/python3 -m pytest -q -s python/tests/plans/browser_ways.py python/tests/plans/test_browser.py
 
 # Tries all edits of must-fail/, in rounds and one by one, and writes the record of what refused them: takes an hour or more.
 edits: build
@@ -77,6 +89,7 @@ deb: all
 # The folders of the installed parts. completions/write.py writes the completions for bash, zsh and fish.
 BIN = $(DESTDIR)$(PREFIX)/bin
 PAGES = $(SHARE)/doc/inrc2pb
+LIBRARY = $(DESTDIR)$(PREFIX)/lib/inrc2pb
 ZSH = $(SHARE)/zsh/site-functions
 COMMANDS = $(wildcard python/inrc2pb-*)
 MODULES = $(wildcard python/inrc2pb/*.py python/inrc2pb/*/*.py) python/inrc2pb/py.typed python/pyproject.toml
@@ -91,6 +104,7 @@ install:
 	mkdir -p "$(BIN)" "$(SHARE)/man/man1" "$(PAGES)/docs" "$(PAGES)/bench" $(COMPLETIONS)
 	install -m 755 "$(PROGRAM)" "$(BIN)/inrc2pb"
 	test ! -x "$(BOUND)" || install -m 755 "$(BOUND)" "$(BIN)/inrc2pb-bound"
+	test ! -f $(ROWS) || install -D -m 644 $(ROWS) "$(LIBRARY)/$(notdir $(ROWS))"
 	for command in $(notdir $(COMMANDS)); do install -m 755 python/launcher.py "$(BIN)/$$command" || exit; done
 	for module in $(MODULES:python/%=%); do install -D -m 644 "python/$$module" "$(SHARE)/inrc2pb/$$module" || exit; done
 	install -m 644 man/*.1 "$(SHARE)/man/man1"
@@ -114,7 +128,7 @@ install:
 
 # Removes the files of `install`, with the same PREFIX, and what Python made of the library; then its own folders, if they are empty.
 uninstall:
-	rm -f "$(BIN)/inrc2pb" "$(BIN)/inrc2pb-bound" \
+	rm -f "$(BIN)/inrc2pb" "$(BIN)/inrc2pb-bound" "$(LIBRARY)/$(notdir $(ROWS))" \
 	    $(patsubst man/%,"$(SHARE)/man/man1/%",$(wildcard man/*.1)) \
 	    $(foreach name,$(COMPLETED) $(notdir $(COMMANDS)),"$(SHARE)/bash-completion/completions/$(name)" \
 	    "$(SHARE)/fish/vendor_completions.d/$(name).fish") \
@@ -124,7 +138,7 @@ uninstall:
 	find examples -type f ! -name '*.sh' -exec rm -f "$(PAGES)/{}" \;
 	rm -f $(patsubst python/%,"$(SHARE)/inrc2pb/%",$(MODULES))
 	test ! -d "$(SHARE)/inrc2pb" || find "$(SHARE)/inrc2pb" -name __pycache__ -prune -exec rm -r {} +
-	for folder in "$(PAGES)" "$(SHARE)/inrc2pb"; do test ! -d "$$folder" || find "$$folder" -type d -empty -delete; done
+	for folder in "$(PAGES)" "$(SHARE)/inrc2pb" "$(LIBRARY)"; do test ! -d "$$folder" || find "$$folder" -type d -empty -delete; done
 
 clean:
 	rm -rf out crates/*/out

@@ -1,11 +1,12 @@
 #!/usr/bin/env python3
 """Draws the pictures of the pages anew.
 
-    bench/pictures.py [wall | page | search]
+    bench/pictures.py [wall | page | sheet | search | tree]
 
 `wall` is docs/wall.png, the two weeks of examples/ward as they hang on the wall, and `page` is docs/page.png, the local page of the
-ward that `inrc2pb-plan FOLDER new` makes, both by headless Chromium. `search` is docs/search.svg, the penalty and the bound during a
-search for four weeks of 12 nurses, and takes two minutes. All need the programs that `make` leaves in out.
+ward that `inrc2pb-plan FOLDER new` makes, both by headless Chromium. `sheet` is docs/sheet.png, the sheet plan of that ward, by
+LibreOffice and pdftoppm. `search` is docs/search.svg, the penalty and the bound during a search for four weeks of 12 nurses, and takes
+two minutes. `tree` is docs/tree.svg, the cases of the month's certificate. All need the programs that `make` leaves in out.
 """
 
 import os
@@ -15,16 +16,20 @@ import sys
 import tempfile
 from math import log10
 from pathlib import Path
-from typing import Dict, List, NamedTuple, Sequence
+from typing import Callable, Dict, List, NamedTuple, Sequence
 
 ROOT = Path(__file__).resolve().parents[1]
 sys.path.insert(0, str(ROOT / "bench"))
 
 import make_weeks  # noqa: E402
+from sheet_picture import draw_sheet  # noqa: E402
+from tree_picture import tree_picture  # noqa: E402
 
 WALL = ROOT / "docs" / "wall.png"
 PAGE = ROOT / "docs" / "page.png"
+SHEET = ROOT / "docs" / "sheet.png"
 SEARCH = ROOT / "docs" / "search.svg"
+TREE = ROOT / "docs" / "tree.svg"
 MOST_BYTES = 120_000
 STEP = 100
 PROGRESS = re.compile(r" *([\d.]+) s  penalty (\d+)(?:  bound (\d+))?")
@@ -92,7 +97,7 @@ def draw_wall() -> None:
 
 
 def draw_page() -> None:
-    """Draws the local page after a first plan."""
+    """Draws the local page after a first plan, with what can be done with the first Friday of a nurse."""
     with tempfile.TemporaryDirectory() as folder:
         for verb in (["new"], ["plan", "--time", "10"]):
             run("inrc2pb-plan", "my ward", *verb, folder=folder)
@@ -101,7 +106,7 @@ def draw_page() -> None:
         ) as server:  # fmt: skip
             assert server.stdout
             told = next(line for line in server.stdout if "http://" in line)
-            shoot(told.split()[-1], PAGE, "1060,470")
+            shoot(f"{told.split()[-1]}?nurse=Grace&day=4#cell", PAGE, "1060,540")
             server.terminate()
 
 
@@ -173,16 +178,33 @@ def search_picture(known: Dict[str, List[Value]]) -> str:
     return "\n".join([*parts, "</svg>"]) + "\n"
 
 
+def draw_plan_sheet() -> None:
+    """Draws the sheet plan of the ward that `new` makes, with its first two weeks."""
+    with tempfile.TemporaryDirectory() as folder:
+        run("inrc2pb-plan", "my ward", "new", folder=folder)
+        draw_sheet(Path(folder, "my ward", "ward.ods"), "plan", 15, SHEET)
+
+
+def draw_tree() -> None:
+    """Draws the cases of the month's certificate."""
+    month = ROOT / "examples" / "month"
+    os.environ.update(programs())
+    certificate = (month / "two_cases.txt").read_text()
+    TREE.write_text(tree_picture("All rosters of the month, divided into two cases", files(month, 4), certificate))
+
+
 def main(words: Sequence[str]) -> int:
-    chosen = words or ("wall", "page", "search")
-    if set(chosen) - {"wall", "page", "search"}:
+    draw: Dict[str, Callable[[], object]] = {
+        "wall": draw_wall,
+        "page": draw_page,
+        "sheet": draw_plan_sheet,
+        "search": lambda: SEARCH.write_text(search_picture(searched())),
+        "tree": draw_tree,
+    }
+    if set(words) - set(draw):
         sys.exit(__doc__)
-    if "wall" in chosen:
-        draw_wall()
-    if "page" in chosen:
-        draw_page()
-    if "search" in chosen:
-        SEARCH.write_text(search_picture(searched()))
+    for name in words or draw:
+        draw[name]()
     return 0
 
 

@@ -3,10 +3,12 @@
 
     bench/solvers.py [--time SECONDS] [--only-print] [NAME ..]
 
-Without names all are planned, in about fifteen minutes. The program is out/inrc2pb, or the one that INRC2PB names.
+Without names all are planned, in about half an hour. The program is out/inrc2pb, or the one that INRC2PB names.
 """
 
 import argparse
+import contextlib
+import ctypes
 import os
 import platform
 import re
@@ -16,7 +18,7 @@ import tempfile
 import time
 from dataclasses import replace
 from pathlib import Path
-from typing import Dict, List, NamedTuple, Sequence, Tuple
+from typing import Dict, List, NamedTuple, Sequence, TextIO, Tuple
 
 ROOT = Path(__file__).resolve().parents[1]
 sys.path[:0] = [str(ROOT / "python"), str(ROOT / "bench")]
@@ -37,9 +39,12 @@ WIDE = ((100, 8, 1),)
 # Periods: the nurses, weeks, percentage of the demand, seed, and the most seconds.
 PERIODS = {
     "p12w4": (12, 4, 100, 501, 120), "p20w4": (20, 4, 90, 502, 120), "p40w4": (40, 4, 100, 503, 120), "p60w4": (60, 4, 95, 504, 120),
-    "p16w8": (16, 8, 100, 505, 300), "p30w8": (30, 8, 95, 506, 300),
+    "p80w4": (80, 4, 95, 509, 120), "p100w4": (100, 4, 95, 510, 120), "p120w4": (120, 4, 95, 511, 120), "p16w8": (16, 8, 100, 505, 300),
+    "p30w8": (30, 8, 95, 506, 300), "p40w8": (40, 8, 95, 507, 300), "p60w8": (60, 8, 95, 508, 300),
 }  # fmt: skip
 MONTH_SECONDS = 300
+# Linux's number of the option by which a process gets the children of those that end.
+SET_CHILD_SUBREAPER = 36
 
 
 class Work(NamedTuple):
@@ -126,19 +131,29 @@ def run(work: Work, folder: Path, seed: int = 1) -> Run:
     limits = ["--time", f"{work.seconds / len(work.weeks):g}", "--seed", str(seed), "--proof", str(proof)]
     for old in (*folder.glob("roster-*.txt"), proof):
         old.unlink(missing_ok=True)
-    began = time.monotonic()
+    words = [sys.executable, str(ROOT / "python/inrc2pb-solve"), *work.options(), *target, *limits]
     with open(folder / "said.txt", "w+") as said:
-        words = [sys.executable, str(ROOT / "python/inrc2pb-solve"), *work.options(), *target, *limits]
-        running = subprocess.Popen(words, stdout=said, stderr=subprocess.STDOUT)
-        _, _, used = os.wait4(running.pid, 0)
-        took = time.monotonic() - began
+        took, used, memory = measured(words, said)
         said.seek(0)
         text = said.read()
     none = re.search(r"no rosters? keeps? the hard rules", text)
     penalty, bound, proved, by = checked(work, folder, text)
-    return Run(
-        "none exists" if none else penalty, bound, "yes" if none else proved, took, used.ru_utime + used.ru_stime, used.ru_maxrss >> 10, by,
-    )  # fmt: skip
+    return Run("none exists" if none else penalty, bound, "yes" if none else proved, took, used, memory, by)
+
+
+def measured(words: Sequence[str], said: TextIO) -> Tuple[float, float, int]:
+    """Runs a command, whose output goes to a file: its seconds by the clock and of processors, and its memory in MB. The seconds of all
+    processes that it leaves behind count, too: they become children of this one."""
+    ctypes.CDLL(None).prctl(SET_CHILD_SUBREAPER, 1, 0, 0, 0)
+    began = time.monotonic()
+    running = subprocess.Popen(words, stdout=said, stderr=subprocess.STDOUT)
+    _, _, used = os.wait4(running.pid, 0)
+    took, seconds = time.monotonic() - began, used.ru_utime + used.ru_stime
+    with contextlib.suppress(ChildProcessError):
+        while True:
+            left = os.wait4(-1, 0)[2]
+            seconds += left.ru_utime + left.ru_stime
+    return took, seconds, used.ru_maxrss >> 10
 
 
 def checked(work: Work, folder: Path, said: str) -> Tuple[str, str, str, str]:

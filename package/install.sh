@@ -34,8 +34,8 @@ esac
 
 install_files() {
     sha256sum --check --quiet SHA256SUMS || { echo 'Not installed: a file is not as it was packed.'; exit 1; }
-    # A program that is running cannot be overwritten.
-    for program in bin/*; do
+    # A program or library that is running cannot be overwritten.
+    for program in bin/* lib/inrc2pb/*; do
         rm -f "$prefix/$program" || exit
     done
     for folder in */; do
@@ -63,7 +63,7 @@ uninstall_files() {
 $(grep / "$sums")
 LIST
     find share/inrc2pb -name __pycache__ -prune -exec rm -r {} + 2> /dev/null
-    find share/inrc2pb share/doc/inrc2pb -depth -type d -exec rmdir {} + 2> /dev/null
+    find lib/inrc2pb share/inrc2pb share/doc/inrc2pb -depth -type d -exec rmdir {} + 2> /dev/null
     echo "Removed $removed files from $prefix."
     [ $removed -gt 0 ]
 }

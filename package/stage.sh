@@ -24,8 +24,9 @@ libc=${libc#GLIBC_}
 stage=$(mktemp -d) || exit 2
 trap 'rm -rf "$stage"' EXIT
 
-# install_to FOLDER PREFIX [VARIABLE=VALUE..]: the files of `make install`, and PROVED with the pages. Prints whether the gate passed.
+# install_to FOLDER PREFIX [VARIABLE=VALUE..]: the files of `make install` with the library, and PROVED with the pages. Prints whether the gate passed.
 install_to() {
+    make -s --no-print-directory out/inrc2pb-rows.so || exit
     make -s --no-print-directory install PROGRAM="$PROGRAM" BOUND="$BOUND" \
         DESTDIR="$1" PREFIX="$2" "${@:3}" || exit
     package/proved.sh > "$1$2/share/doc/inrc2pb/PROVED"

@@ -22,7 +22,7 @@ for home in (HERE, os.path.join(HERE, "../share/inrc2pb"), os.path.join(HERE, ".
 else:
     sys.exit(NAME + ": there is no folder share/inrc2pb: install it again with `make install`")
 
-from inrc2pb.commands.launch import launch  # noqa: E402
+from inrc2pb.commands.command import launch  # noqa: E402
 
 if __name__ == "__main__":
     launch()

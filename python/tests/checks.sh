@@ -25,6 +25,17 @@ run_tests() {
     skipped=$((skipped + left))
 }
 
+# The tests of claims and of certified optima once more, with inrc2pb-bound beside inrc2pb, where the commands look for it.
+run_tests_with_bound() {
+    has pytest || return
+    begins_case 'the tests that need inrc2pb-bound'
+    mkdir "$room/programs"
+    cp "$program" "$room/programs/inrc2pb"
+    cp crates/inrc2pb_bound/out/inrc2pb_bound "$room/programs/inrc2pb-bound"
+    INRC2PB=$room/programs/inrc2pb timeout 900 pytest -q --tb=short python/tests/{bench/test_certified,search/test_solver_claims}.py > "$out" 2>&1 ||
+        complain "$(tail -n 60 "$out")"
+}
+
 # number_of WORD: the number before this word in the last line of pytest, such as `1 failed, 601 passed, 3 skipped in 90.12s`.
 number_of() {
     local number
@@ -41,7 +52,7 @@ checks_types() {
     has mypy || return
     begins_case 'the types of the Python programs'
     {
-        types_hold python/inrc2pb && types_hold bench/*.py build.py tests/edits/*.py
+        types_hold python/inrc2pb && types_hold bench/*.py bench/certified/*.py build.py tests/edits/*.py
     } || complain "$(head -n 20 "$out")"
 }
 
@@ -112,6 +123,7 @@ variables_have_names() {
 }
 
 run_tests
+run_tests_with_bound
 checks_types
 imports_go_one_way
 variables_have_names

@@ -1,12 +1,10 @@
 #!/usr/bin/env python3
 """A cbc for tests: `fake_cbc.py HOW CBC WORDS..` behaves as HOW says.
 
-`crash` ends by a signal, `hang` never ends, `empty` and `cut` write a part of an answer, `nan` and `wrong` replace the prices,
-`unknown` names a column that is not there, `takes_none` takes no column, and `denies` says that an integer program has no answer.
+`crash` ends by a signal, `hang` never ends, `empty` and `cut` write a part of an answer, `nan` replaces the values, `unknown` names a column that is not there, `takes_none` takes no column, and `denies` says that an integer program has no answer.
 """
 
 import os
-import random
 import signal
 import subprocess
 import sys
@@ -17,10 +15,8 @@ from pathlib import Path
 def changed(how, line):
     """A line of an answer, as HOW says."""
     words = line.split()
-    if how == "nan" and words[1][0] == "c":
-        words[3] = "nan"
-    elif how == "wrong" and words[1][0] in "cn":
-        words[3] = str(random.Random(line).uniform(-5000, 5000))
+    if how == "nan":
+        words[2] = "nan"
     elif how == "unknown" and words[1][0] == "v":
         words[1] = "v999999"
     elif how == "takes_none" and words[1][0] == "v":

@@ -16,7 +16,7 @@ sys.path.insert(0, str(HELPERS))
 
 from inrc2pb.programs import program  # noqa: E402
 from inrc2pb.week import files, records, writing  # noqa: E402, F401
-from inrc2pb.commands.launch import launch  # noqa: E402
+from inrc2pb.commands.command import launch  # noqa: E402
 from inrc2pb.judging.absences import with_requests  # noqa: E402
 
 WARD = ROOT / "examples" / "ward"

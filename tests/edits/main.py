@@ -1,19 +1,20 @@
 #!/usr/bin/env python3
 """Tries the edits of crates/*/must-fail, each of which the prover has to refuse, and keeps what refused them.
 
-usage: main.py [--anew] [--alone] [--both] [CRATE..]
+usage: main.py [--anew] [--alone] [--both] [--built] [CRATE..]
        main.py write
 
   --anew   try all edits, and take nothing from the record
   --alone  try each edit in a check of its own
   --both   try all edits, and then each by `rt must-fail` too, which has to say the same; leave that result in out/edits/alone
+  --built  the crates are proved as they are, and their libraries in crates/*/out/rlib: `rt ci` has just done that
   CRATE    only the edits of these crates
   write    write the record of the last run into crates/*/edits.txt
 
-An edit is tried unless the record, crates/*/edits.txt, has it with its present checksum. First the crates with edits to try are proved as
-they are, by build.py; what is proved already is not proved again. Edits of different functions are tried in one check (rounds.py), several
-checks side by side. The run leaves the new record in out/edits, and prints an edit that is not refused. The last line is
-`N passed, M failed`, with one for each edit.
+An edit is tried unless the record, crates/*/edits.txt, has it with its present checksum. First build.py builds the libraries below the
+crates with edits to try, unless they are built. Edits of different functions are tried in one check (rounds.py), the crates side by side.
+The run leaves the new record in out/edits, and prints an edit that is not refused. The last line is `N passed, M failed`, with one for each
+edit.
 """
 
 import shutil
@@ -29,10 +30,13 @@ import build  # noqa: E402
 import one_by_one  # noqa: E402
 import record  # noqa: E402
 from edit import Edit, edits_of  # noqa: E402
+from prover import ROOMS  # noqa: E402
 from record import Entry  # noqa: E402
-from trial import ROOMS, Outcome, Trials  # noqa: E402
+from trial import Outcome, Trials  # noqa: E402
 
 NEW = build.OUT / "edits"
+# Says at which values the goals of the edits that only answers refuse are false.
+VALUES = "tests/pages/refused_by_answers.txt"
 
 
 class Plan(NamedTuple):
@@ -76,9 +80,10 @@ def stale_of(crates: Dict[str, build.Crate], names: List[str]) -> List[str]:
     ]
 
 
-def prove(names: List[str]) -> bool:
-    """Proves these crates as they are, and says whether that succeeded."""
-    return not names or subprocess.run([build.ROOT / "build.py", *names]).returncode == 0
+def build_below(crates: Dict[str, build.Crate], edits: List[Edit]) -> bool:
+    """Builds the libraries that checks with these edits need, and says whether that succeeded."""
+    below = set().union(*(crates[name].below for name in {edit.crate for edit in edits}))
+    return not below or subprocess.run([build.ROOT / "build.py", *sorted(below)]).returncode == 0
 
 
 def plural(count: int, what: str) -> str:
@@ -86,7 +91,7 @@ def plural(count: int, what: str) -> str:
     return f"{count} {what}{'s' * (count != 1)}"
 
 
-def tried(crates: Dict[str, build.Crate], made: Plan, each_alone: bool) -> Dict[Edit, Outcome]:
+def tried(crates: Dict[str, build.Crate], made: Plan, each_alone: bool, are_proved: bool) -> Dict[Edit, Outcome]:
     """Tries the edits of the plan. The record in `out/edits` has each as soon as it is refused, also if the run is ended."""
     by_crate: Dict[str, List[Edit]] = {}
     for edit in made.untried:
@@ -97,7 +102,8 @@ def tried(crates: Dict[str, build.Crate], made: Plan, each_alone: bool) -> Dict[
         entries.update(entries_of(made, outcomes))
         leave(sorted({edit.crate for edit in outcomes}), entries)
 
-    trials = Trials(crates, by_crate, each_alone, keep)
+    shutil.rmtree(ROOMS, ignore_errors=True)
+    trials = Trials(crates, by_crate, each_alone, are_proved, keep)
     try:
         outcomes = trials.run()
     finally:
@@ -136,7 +142,7 @@ def tell(made: Plan, outcomes: Dict[Edit, Outcome], entries: Dict[Edit, Entry], 
         print(f"edits: {edit.crate}/{edit.name}: {outcome.fault}")
     for edit, entry in entries.items():
         if record.rests_on_answers(entry):
-            print(f"edits: note: {edit.crate}/{edit.name} is refused only by answers that no longer fit: it says little of a contract")
+            print(f"edits: note: only answers that no longer fit refuse {edit.crate}/{edit.name}; its line is in {VALUES}")
     print(f"edits: {len(outcomes)} tried, {len(made.recorded)} taken from the record")
     if names:
         print(f"edits: the record differs from that of the tree for {', '.join(names)}: 'tests/edits/main.py write' writes it there")
@@ -162,10 +168,10 @@ def run(words: List[str]) -> int:
         print(f"edits: STALE: the record has {one}, and there is no such edit any more")
     both = "--both" in words
     made = plan(crates, names, both or "--anew" in words)
-    if made.untried and not prove(sorted({edit.crate for edit in made.untried})):
-        print("edits: a crate is not proved as it is, so its edits were not tried\n0 passed, 1 failed")
+    if "--built" not in words and not build_below(crates, made.untried):
+        print("edits: a crate is not proved, so no edits of those above it were tried\n0 passed, 1 failed")
         return 1
-    outcomes = tried(crates, made, "--alone" in words)
+    outcomes = tried(crates, made, "--alone" in words, "--built" in words)
     if made.checksums != plan(crates, names, True).checksums:
         print("edits: files changed while the edits were tried: try them again\n0 passed, 1 failed")
         return 1
@@ -188,7 +194,7 @@ def main(words: List[str]) -> int:
     if words == ["write"]:
         write()
         return 0
-    if any(word.startswith("--") and word not in ("--anew", "--alone", "--both") for word in words):
+    if any(word.startswith("--") and word not in ("--anew", "--alone", "--both", "--built") for word in words):
         print(__doc__, file=sys.stderr)
         return 2
     for one in (signal.SIGINT, signal.SIGTERM, signal.SIGHUP):

@@ -34,11 +34,6 @@ class Round(NamedTuple):
     changes: Tuple[FrozenSet[Place], ...]
 
     @property
-    def crate(self) -> str:
-        """The name of the crate."""
-        return self.edits[0].crate
-
-    @property
     def changed(self) -> FrozenSet[Place]:
         """All functions that the edits change."""
         return frozenset().union(*self.changes)

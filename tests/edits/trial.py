@@ -1,27 +1,29 @@
-"""Tries edits: rounds of them side by side, each in a room of its own, and alone what a round does not settle."""
+"""Tries edits: the rounds of a crate one after another, those of several crates side by side, and alone what a round does not settle.
+
+The first round of a crate is a check from nothing, unless a check in its folder has kept its work. All functions but the edited ones are
+proved in it, and the next round only proves what the rounds before it did not. So no crate is proved once more for its edits alone.
+"""
 
 import os
 import re
-import shutil
-import signal
-import subprocess
 import sys
-import threading
 import time
 from concurrent.futures import FIRST_COMPLETED, Future, ThreadPoolExecutor, wait
 from pathlib import Path
-from typing import Callable, Dict, FrozenSet, Iterable, List, NamedTuple, Optional, Set
+from typing import Callable, Dict, FrozenSet, List, NamedTuple, Optional, Set, Tuple
 
 sys.path.insert(0, str(Path(__file__).resolve().parents[2]))
 
 import build  # noqa: E402
-from edit import Edit, Unfit, edited  # noqa: E402
+from edit import Edit, Unfit  # noqa: E402
+from prover import Check, check, stop  # noqa: E402
 from rounds import Place, Round, functions_of, rounds_of  # noqa: E402
-from verdict import NO_LONGER_FITS, Function, Goal, Verdict, is_readable, verdict_of  # noqa: E402
+from verdict import NO_LONGER_FITS, Function, Goal, Verdict, is_readable  # noqa: E402
 
-ROOMS = build.OUT / "edits" / "rooms"
 # The memory that one check is planned to take, in KiB.
 MEMORY = 2_500_000
+# A round without edits: it shows that the crate is proved as it is.
+AS_IT_IS = Round((), ())
 
 
 class Outcome(NamedTuple):
@@ -29,51 +31,6 @@ class Outcome(NamedTuple):
 
     goals: FrozenSet[Goal]
     fault: str
-
-
-class Check(NamedTuple):
-    """A check with edits in place: what it said, its last lines, its seconds of processor time, and by the clock."""
-
-    verdict: Verdict
-    tail: str
-    processor: float
-    clock: float
-
-
-# ---- one check
-
-
-def keep(source: str, target: str) -> None:
-    """Gives a file of kept work to a room: a check replaces a checked module, and writes into other files."""
-    if source.endswith(".oantt"):
-        os.link(source, target)
-    else:
-        shutil.copy2(source, target)
-
-
-def check(crate: build.Crate, crates: Dict[str, build.Crate], edits: Iterable[Edit], room: Path, running: Set[int]) -> Check:
-    """Checks the crate with these edits in this room, over what its own check kept. Its process is among those that are running as long as
-    it is. Raises Unfit if the edits do not fit."""
-    texts = edited(edits, crate.home)
-    folder = build.furnish(room, crate, crates)
-    try:
-        for path, text in texts.items():
-            # The room's files are second names of the tree's.
-            (folder / path).unlink()
-            (folder / path).write_text(text, encoding="utf-8")
-        shutil.copytree(crate.home / "out" / "incremental", folder / "out" / "incremental", copy_function=keep)
-        began = time.monotonic()
-        with (room / "log").open("wb") as log:
-            words = ["rt", "check", "--jobs", "1"]
-            process = subprocess.Popen(words, cwd=folder, stdin=subprocess.DEVNULL, stdout=log, stderr=subprocess.STDOUT)
-        running.add(process.pid)
-        _, status, used = os.wait4(process.pid, 0)
-        running.discard(process.pid)
-        process.returncode = os.waitstatus_to_exitcode(status)
-        output = (room / "log").read_text(encoding="utf-8", errors="replace")
-    finally:
-        shutil.rmtree(room, ignore_errors=True)
-    return Check(verdict_of(output), output[-1500:], used.ru_utime + used.ru_stime, time.monotonic() - began)
 
 
 # ---- what a check says of its edits
@@ -106,7 +63,7 @@ def refused(round: Round, said: Verdict, places: List[Place]) -> Dict[Edit, Froz
 
 
 def alone(edit: Edit, made: Check) -> Outcome:
-    """What a check with this edit alone says of it."""
+    """What a check with this edit alone, of a crate that is proved as it is, says of the edit."""
     said = made.verdict
     if said.proved:
         return Outcome(frozenset(), "NOT REFUSED: the crate is proved with this edit")
@@ -130,21 +87,68 @@ def lanes() -> int:
     return max(1, min(len(os.sched_getaffinity(0)), most))
 
 
+class Chain:
+    """The rounds of a crate that are still to be tried. Before edits are tried alone, the crate has to be proved as it is: then an open
+    goal is the edit's."""
+
+    def __init__(self, crate: build.Crate, edits: List[Edit], each_alone: bool, is_proved: bool) -> None:
+        self.crate, self.is_proved = crate, is_proved
+        self.places = places_in(crate.home)
+        whole = rounds_of(edits, crate.home)
+        rounds = [one for round in whole if round.changed for one in (round.split() if each_alone else [round])]
+        self.rounds = sorted(rounds, key=lambda round: -len(round.edits))
+        self.alone = [round for round in whole if not round.changed]
+
+    def is_done(self) -> bool:
+        """Whether all is tried."""
+        return not self.rounds and not self.alone
+
+    def take(self) -> Round:
+        """The next round."""
+        if self.rounds:
+            return self.rounds.pop(0)
+        return self.alone.pop(0) if self.is_proved else AS_IT_IS
+
+    def weight(self) -> int:
+        """The crate whose rounds take longest comes first: those with the most code, most often."""
+        return self.crate.code_size() * (1 + len(self.rounds) + len(self.alone))
+
+    def settle(self, round: Round, made: Check) -> Dict[Edit, Outcome]:
+        """What the round says of its edits. Of what it does not settle each is tried alone."""
+        if round == AS_IT_IS:
+            return self.settle_as_it_is(made)
+        goals = refused(round, made.verdict, self.places)
+        found = {edit: Outcome(one, "") for edit, one in goals.items()}
+        if self.is_proved and len(round.edits) == 1:
+            found = {edit: found.get(edit) or alone(edit, made) for edit in round.edits}
+        self.alone += [one for one in round.split() if one.edits[0] not in found]
+        return found
+
+    def settle_as_it_is(self, made: Check) -> Dict[Edit, Outcome]:
+        """Lets the edits be tried alone if the crate is proved as it is."""
+        self.is_proved = bool(made.verdict.proved)
+        if self.is_proved:
+            return {}
+        fault = f"NOT TRIED: the crate is not proved as it is:\n{made.tail}"
+        lost, self.alone = self.alone, []
+        return {edit: Outcome(frozenset(), fault) for round in lost for edit in round.edits}
+
+
 class Trials:
-    """The trials of the edits of some crates. Each outcome is kept as soon as it is known."""
+    """The trials of the edits of some crates, which may be proved as they are already. Each outcome is kept as soon as it is known."""
 
     def __init__(
-        self, crates: Dict[str, build.Crate], edits: Dict[str, List[Edit]], each_alone: bool, keep: Callable[[Dict[Edit, Outcome]], None]
+        self,
+        crates: Dict[str, build.Crate],
+        edits: Dict[str, List[Edit]],
+        each_alone: bool,
+        are_proved: bool,
+        keep: Callable[[Dict[Edit, Outcome]], None],
     ) -> None:
         self.crates, self.keep = crates, keep
         self.outcomes: Dict[Edit, Outcome] = {}
-        self.places = {name: places_in(crates[name].home) for name in edits}
-        self.left: List[Round] = []
-        for name, some in edits.items():
-            rounds = rounds_of(some, crates[name].home)
-            self.left += [one for round in rounds for one in (round.split() if each_alone else [round])]
-        self.left.sort(key=lambda round: -len(round.edits))
-        self.number, self.processor, self.checks = 0, 0.0, 0
+        self.waiting = [Chain(crates[name], some, each_alone, are_proved) for name, some in edits.items()]
+        self.processor, self.checks = 0.0, 0
         self.running: Set[int] = set()
         self.began = time.monotonic()
 
@@ -154,53 +158,45 @@ class Trials:
             try:
                 self.run_in(pool)
             finally:
-                for process in list(self.running):
-                    os.kill(process, signal.SIGTERM)
+                stop(self.running)
         return self.outcomes
 
     def run_in(self, pool: ThreadPoolExecutor) -> None:
-        """Tries all, as many at a time as the pool has threads."""
-        running: Dict["Future[Check]", Round] = {}
+        """Tries all, as many crates at a time as the pool has threads; if they are fewer, each gets several jobs."""
+        running: Dict["Future[Check]", Tuple[Chain, Round]] = {}
         count = lanes()
-        while self.left or running:
-            while self.left and len(running) < count:
-                round = self.left.pop(0)
-                running[pool.submit(self.check, round)] = round
+        while self.waiting or running:
+            self.waiting.sort(key=Chain.weight)
+            while self.waiting and len(running) < count:
+                jobs = max(1, count // (len(self.waiting) + len(running)))
+                chain = self.waiting.pop()
+                round = chain.take()
+                running[pool.submit(check, chain.crate, self.crates, round.edits, jobs, self.running)] = chain, round
             for done in wait(running, return_when=FIRST_COMPLETED).done:
-                self.settle(running.pop(done), done)
+                chain, round = running.pop(done)
+                self.settle(chain, round, done)
+                if not chain.is_done():
+                    self.waiting.append(chain)
 
-    def check(self, round: Round) -> Check:
-        """Checks a round."""
-        with LOCK:
-            self.number += 1
-            room = ROOMS / str(self.number)
-        return check(self.crates[round.crate], self.crates, round.edits, room, self.running)
-
-    def settle(self, round: Round, done: "Future[Check]") -> None:
-        """Takes what a round came to; what it does not settle is tried alone."""
+    def settle(self, chain: Chain, round: Round, done: "Future[Check]") -> None:
+        """Takes what a round came to."""
         try:
             made = done.result()
         except Unfit as fault:
             self.outcomes.update({edit: Outcome(frozenset(), f"STALE: {fault}") for edit in round.edits})
             return
         self.processor, self.checks = self.processor + made.processor, self.checks + 1
-        found = {edit: Outcome(goals, "") for edit, goals in refused(round, made.verdict, self.places[round.crate]).items()}
-        if len(round.edits) == 1:
-            found = {edit: found.get(edit) or alone(edit, made) for edit in round.edits}
+        found = chain.settle(round, made)
         self.outcomes.update(found)
         self.keep(found)
-        self.left += [one for one in round.split() if one.edits[0] not in found]
-        self.tell(round, made, len(found))
+        self.tell(chain, round, made, sum(edit not in found for edit in round.edits))
 
-    def tell(self, round: Round, made: Check, settled: int) -> None:
+    def tell(self, chain: Chain, round: Round, made: Check, left: int) -> None:
         """Prints what a round came to."""
         minutes, seconds = divmod(int(time.monotonic() - self.began), 60)
-        what = round.edits[0].name if len(round.edits) == 1 else f"{len(round.edits)} edits"
-        again = f"; {len(round.edits) - settled} to be tried alone" if settled < len(round.edits) else ""
-        print(f"{minutes:3}:{seconds:02}  {round.crate}: {what}, {made.processor:.0f} s of processor time{again}", flush=True)
-
-
-LOCK = threading.Lock()
+        what = "as it is" if round == AS_IT_IS else round.edits[0].name if len(round.edits) == 1 else f"{len(round.edits)} edits"
+        again = f"; {left} to be tried alone" if left else ""
+        print(f"{minutes:3}:{seconds:02}  {chain.crate.name}: {what}, {made.processor:.0f} s of processor time{again}", flush=True)
 
 
 def places_in(folder: Path) -> List[Place]:

@@ -46,7 +46,7 @@ script() {
 
 # The scripts, those of tests/kit left out. The slowest come first, so that others run at the same time.
 scripts() {
-    printf '%s\n' python/tests/checks.sh python/tests/improve.sh tests/program/longest_model.sh {python/tests,tests/{pages,program,random}}/*.sh |
+    printf '%s\n' python/tests/checks.sh tests/program/longest_model.sh {python/tests,tests/{pages,program,random}}/*.sh |
         awk '!seen[$0]++'
 }
 

@@ -31,6 +31,6 @@ END_OF_CLASP
 
 # If no solver of linear programs is installed, `inrc2pb-solve` takes clasp. It comes after `stand_in_for_clasp`.
 stand_in_for_cbc() {
-    command -v cbc clp glpsol > /dev/null && return
+    command -v cbc clp > /dev/null && return
     printf '#!/bin/sh\nexec "%s/python/inrc2pb-solve" "$@" --solver clasp\n' "$PWD" | stand_in inrc2pb-solve
 }

@@ -1,12 +1,14 @@
 # shellcheck shell=bash
 # The tools that scripts of tests/ use if they are installed, each with its package of Debian. To be sourced.
 tools=(
-    clasp:clasp cbc:coinor-cbc clp:coinor-clp glpsol:glpk-utils minisat+:minisat+ parallel:parallel shellcheck:shellcheck
+    clasp:clasp cbc:coinor-cbc glpsol:glpk-utils minisat+:minisat+ parallel:parallel shellcheck:shellcheck
     pytest:python3-pytest mypy:mypy flake8:flake8 black:black
+    chromium:chromium chromedriver:chromium-driver
     mandoc:mandoc man:man-db zsh:zsh fish:fish lintian:lintian script:bsdutils setpriv:util-linux
 )
 
-# The packages of the tools that are not installed, NumPy's, if no python3 has it, and that by which pytest uses several processors.
+# The packages of the tools that are not installed, NumPy's, if no python3 has it, that by which pytest uses several processors, and that by
+# which tests use a browser.
 missing_packages() {
     local tool
     for tool in "${tools[@]}"; do
@@ -14,6 +16,7 @@ missing_packages() {
     done
     has_numpy python3 || has_numpy /usr/bin/python3 || echo python3-numpy
     /usr/bin/python3 -c 'import xdist' 2> /dev/null || echo python3-pytest-xdist
+    /usr/bin/python3 -c 'import selenium' 2> /dev/null || echo python3-selenium
 }
 
 # has_numpy PYTHON

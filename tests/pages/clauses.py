@@ -6,17 +6,20 @@ usage: clauses.py [list | without | fields | check]
   list     each clause with its guard; a clause without one has `nothing`
   without  the clauses without a guard
   fields   the fields of records of definitions that no proof and no other definition names
-  check    compares the clauses without a guard with tests/pages/without_guard.txt; the word may be left out
+  check    compares the clauses without a guard with tests/pages/without_guard.txt, and those fields with tests/pages/without_name.txt; the
+           word may be left out
 
 A clause is guarded if one of these holds:
 
   equation  it fixes the result, or what it changes, by an equation: a body that gives anything else is refused
   proof     the proof of a caller names it, as in `c.run_bound.ensures.same`
   edit      an edit of must-fail/ was refused at a goal that names it, as in `returns-clause-same`
+  values    an edit was refused there only by an answer that no longer fits, and tests/pages/refused_by_answers.txt has values at which the
+            goal is false
 
 A proof by search may use a clause without naming it, so a clause of without_guard.txt may well be needed: its line says by what kind of
 caller or test, after a colon. The goals of the edits are those of the record, crates/*/edits.txt. Nothing is proved: it takes some
-seconds. Ends with status 1 if a clause without a guard is not listed, or a listed one has a guard or is gone.
+seconds. Ends with status 1 if a clause or field is not listed, or a listed one has a guard, has a name in a proof, or is gone.
 """
 
 import os
@@ -31,6 +34,8 @@ import edits  # noqa: E402
 
 ROOT = Path(__file__).resolve().parents[2]
 LIST = ROOT / "tests" / "pages" / "without_guard.txt"
+FIELDS = ROOT / "tests" / "pages" / "without_name.txt"
+ANSWERS = ROOT / "tests" / "pages" / "refused_by_answers.txt"
 # The crates of tests and examples: their functions are called by nothing.
 TESTS = {"call_report", "call_tests", "run_tests", "who_fits"}
 CALL = re.compile(r"\b(\w+)(?:::<[^;{}()]*>)?\(")
@@ -128,13 +133,21 @@ def named_in_proofs(bodies: Iterable[Body]) -> Set[Tuple[str, str]]:
     return named
 
 
-def refused_at(crate: str) -> Set[Tuple[str, str]]:
-    """The goals at which edits of the crate were refused, each with its function. A refusal that only shows that an answer no longer fits
-    is left out."""
+def refusals(crate: str) -> Iterator[Tuple[str, str, str, bool]]:
+    """The refusals of the crate's record: edit, function, goal, and whether it only shows that an answer no longer fits."""
     record = ROOT / "crates" / crate / "edits.txt"
     lines = record.read_text(encoding="utf-8").splitlines() if record.exists() else []
-    words = (line.split() for line in lines if not line.startswith("#"))
-    return {("::".join(one[2].split("::")[-2:]), one[3]) for one in words if len(one) == 4}
+    for words in (line.split() for line in lines if not line.startswith("#")):
+        yield words[0], "::".join(words[2].split("::")[-2:]), words[3], len(words) == 5
+
+
+def refused_at(crate: str, has_values: Set[str]) -> Tuple[Set[Tuple[str, str]], Set[Tuple[str, str]]]:
+    """The goals at which edits of the crate were refused, each with its function, without those that only show that an answer no longer
+    fits; and those of these for which the list has values."""
+    found = list(refusals(crate))
+    searched = {(place, goal) for _, place, goal, only_answer in found if not only_answer}
+    argued = {(place, goal) for edit, place, goal, _ in found if f"{crate} {edit} {goal}" in has_values}
+    return searched, argued
 
 
 def is_refused(clause: Clause, is_alone: bool, goals: Set[Tuple[str, str]]) -> bool:
@@ -148,16 +161,19 @@ def guards() -> Iterator[Tuple[Clause, str]]:
     """Each clause of the product's public contracts, with its guard, or `nothing`."""
     crates = product_crates()
     named = named_in_proofs(body for crate in crates for body in bodies_of(crate))
+    has_values = set(listed(ANSWERS))
     for crate in crates:
-        clauses, goals = list(clauses_of(crate)), refused_at(crate)
+        clauses, (searched, argued) = list(clauses_of(crate)), refused_at(crate, has_values)
         for clause, is_equation in clauses:
             is_alone = sum(other.path == clause.path and other.function == clause.function for other, _ in clauses) == 1
             if is_equation:
                 yield clause, "equation"
             elif (clause.name, clause.label) in named:
                 yield clause, "proof"
-            elif is_refused(clause, is_alone, goals):
+            elif is_refused(clause, is_alone, searched):
                 yield clause, "edit"
+            elif is_refused(clause, is_alone, argued):
+                yield clause, "values"
             else:
                 yield clause, "nothing"
 
@@ -176,19 +192,19 @@ def unnamed_fields() -> Iterator[str]:
                     yield f"{path.relative_to(ROOT).parts[1]} {name}.{field}"
 
 
-# ---- the list
+# ---- the lists
 
 
-def listed() -> Dict[str, str]:
-    """The clauses of without_guard.txt, each with its reason."""
-    lines = LIST.read_text(encoding="utf-8").splitlines() if LIST.exists() else []
+def listed(file: Path) -> Dict[str, str]:
+    """The clauses or fields of a list, each with its reason."""
+    lines = file.read_text(encoding="utf-8").splitlines() if file.exists() else []
     pairs = (line.partition(": ") for line in lines if line and not line.startswith("#"))
-    return {clause.strip(): reason.strip() for clause, _, reason in pairs}
+    return {one.strip(): reason.strip() for one, _, reason in pairs}
 
 
 def differences(found: Iterable[Tuple[Clause, str]]) -> Iterator[str]:
-    """What the list and the tree do not agree on."""
-    known = listed()
+    """What the list of clauses and the tree do not agree on."""
+    known = listed(LIST)
     guard_of = {str(clause): guard for clause, guard in found}
     for clause, guard in guard_of.items():
         if guard == "nothing" and not known.get(clause):
@@ -196,6 +212,24 @@ def differences(found: Iterable[Tuple[Clause, str]]) -> Iterator[str]:
     for clause in known:
         if guard_of.get(clause) != "nothing":
             yield f"{clause}: {LIST.relative_to(ROOT)} lists it, and it {'has a guard' if clause in guard_of else 'is gone'}"
+    for clause, reason in known.items():
+        kind, _, other = reason.partition(" ")
+        if kind == "follows" and f"{clause.rpartition(' ')[0]} {other}" not in guard_of:
+            yield f"{clause}: its function has no clause {other}"
+
+
+def differences_of_fields(found: Set[str]) -> Iterator[str]:
+    """What the list of fields and the tree do not agree on."""
+    known = listed(FIELDS)
+    for field in sorted(found):
+        if not known.get(field):
+            yield f"{field}: nothing names it: write an edit, and a line in {FIELDS.relative_to(ROOT)} that says what needs it"
+    for field, reason in known.items():
+        if field not in found:
+            yield f"{field}: {FIELDS.relative_to(ROOT)} lists it, and it is named or gone"
+        kind, _, edit = reason.partition(" ")
+        if kind == "edit" and not any(ROOT.glob(f"crates/*/must-fail/{edit}.edit")):
+            yield f"{field}: there is no edit {edit}"
 
 
 def main(words: List[str]) -> int:
@@ -209,8 +243,8 @@ def main(words: List[str]) -> int:
     if asked in ("list", "without"):
         print("\n".join(f"{clause}: {guard}" for clause, guard in found if asked == "list" or guard == "nothing"))
         return 0
-    lines = list(differences(found))
-    counts = ", ".join(f"{sum(guard == one for _, guard in found)} {one}" for one in ("equation", "proof", "edit", "nothing"))
+    lines = [*differences(found), *differences_of_fields(set(unnamed_fields()))]
+    counts = ", ".join(f"{sum(guard == one for _, guard in found)} {one}" for one in ("equation", "proof", "edit", "values", "nothing"))
     print("\n".join([*lines, f"{len(found)} clauses: {counts}"]))
     return int(bool(lines))
 

@@ -9,28 +9,26 @@
 . "$(dirname "$0")/../kit/stand_ins.sh"
 
 # A prover for the test. A function is proved unless a line of it is `wrong`, or it calls one that is not proved; `nonsense` does not compile;
-# a definition that is `wrong` leaves a lemma without a proof. Each check is a line of `checks`: the crate, and the lines that are wrong.
-stand_in rt << 'END_OF_RT'
+# a definition that is `wrong` leaves a lemma without a proof. Each check is a line of `checks`: the crate, the lines that are wrong, and how
+# many checks had kept their work before. It needs the libraries of the crates below.
+stand_in rattle << 'END_OF_RATTLE'
 #!/usr/bin/env python3
 import os, re, sys, time
 from pathlib import Path
 
-name = Path.cwd().name
-if sys.argv[1] == "version":
-    sys.exit(print("kit of the test"))
-if sys.argv[1] == "must-fail":
-    sys.exit(print(Path(os.environ["CALLS"], "must-fail").read_text(), end=""))
-if sys.argv[1] == "lib":
-    for file in ("rlib/stamp", "incremental/proofs.oantt"):
-        Path("out", file).parent.mkdir(parents=True, exist_ok=True)
-        Path("out", file).write_text(name)
-    sys.exit()
+words = sys.argv[1:]
+after = lambda flag: [words[number + 1] for number, word in enumerate(words) if word == flag]
+name, kept = after("--crate-name")[0], Path(after("--incremental")[0])
+for library in after("--extern"):
+    if "/crates/" in library and not Path(library.partition("=")[2], "format").exists():
+        sys.exit(f"there is no {library}")
 if Path(os.environ["CALLS"], "waits").exists():
     print(os.getpid(), file=Path(os.environ["CALLS"], "sleepers").open("a"), flush=True)
     time.sleep(60)
 text, definition = Path("src/lib.rt").read_text(), Path("specs/Words.antt").read_text()
 with Path(os.environ["CALLS"], "checks").open("a") as file:
-    print(name, *re.findall(r"wrong (\w+)|same (\w+)", text + definition), Path("out/incremental/proofs.oantt").read_text(), file=file)
+    print(name, *re.findall(r"wrong (\w+)|same (\w+)", text + definition), len(list(kept.iterdir())), file=file)
+Path(kept, f"{len(list(kept.iterdir()))}.oantt").touch()
 if "nonsense" in text:
     sys.exit("error[syntax]: src/lib.rt")
 if "wrong" in definition:
@@ -49,6 +47,22 @@ print(f"fn {name}::lib::fn::first::map: proved where its callers give what it as
 failed = lost or "wrong" in definition
 print("logic=not-proved" if failed else "logic=proved functions=3")
 sys.exit(bool(failed))
+END_OF_RATTLE
+
+stand_in rt << 'END_OF_RT'
+#!/usr/bin/env python3
+import os, sys
+from pathlib import Path
+
+if sys.argv[1] == "version":
+    sys.exit(print("kit of the test"))
+if sys.argv[1] == "must-fail":
+    sys.exit(print(Path(os.environ["CALLS"], "must-fail").read_text(), end=""))
+name = Path.cwd().name
+print(name, file=Path(os.environ["CALLS"], "built").open("a"))
+for file in ("rlib/stamp", f"rlib/{name}.rlib/format"):
+    Path("out", file).parent.mkdir(parents=True, exist_ok=True)
+    Path("out", file).write_text(name)
 END_OF_RT
 
 ward=$room/ward
@@ -90,10 +104,10 @@ tries() {
 
 tells() { grep -qF -- "$1" "$room/out" || complain "no '$1' in its output: $(cat "$room/out")"; }
 
-# checks NUMBER: the last run made this number of checks, each over what a check of its crate kept.
+# checks NUMBER: the last run made this number of checks, the first of a crate from nothing, each other one over what those before it kept.
 checks() {
     [ "$(wc -l < "$room/checks")" = "$1" ] || complain "not $1 checks: $(cat "$room/checks")"
-    ! awk '$1 != $NF { bad = 1 } END { exit !bad }' "$room/checks" || complain "over other work: $(cat "$room/checks")"
+    awk '$NF != made[$1]++ { exit 1 }' "$room/checks" || complain "over other work: $(cat "$room/checks")"
 }
 
 # writes: the record of the last run becomes that of the tree.
@@ -103,8 +117,9 @@ record=$ward/crates/upper/edits.txt
 
 first_tries() {
     tries 'all edits, in rounds' 0 '5 passed, 0 failed'
-    # In `upper` first and second together, then the other edit of second, and the definition.
-    checks 4
+    # In `upper` first and second together, then the other edit of second, then the crate as it is, and with it the definition.
+    checks 5
+    [ "$(cat "$room/built")" = base ] || complain "built: $(cat "$room/built")"
     tells '5 tried, 0 taken from the record'
     tells "the record differs from that of the tree for base, upper"
     writes
@@ -117,11 +132,23 @@ second_left_out upper::lib::second returns" ] || complain "$(cat "$record")"
     checks 0
     tells '0 tried, 5 taken from the record'
     tries 'all anew' 0 '5 passed, 0 failed' --anew
-    checks 4
-    ! grep -q 'the record differs' "$room/out" || complain 'another record'
-    tries 'each alone' 0 '5 passed, 0 failed' --anew --alone
     checks 5
     ! grep -q 'the record differs' "$room/out" || complain 'another record'
+    tries 'each alone' 0 '5 passed, 0 failed' --anew --alone
+    checks 6
+    ! grep -q 'the record differs' "$room/out" || complain 'another record'
+}
+
+# Over libraries that are built, as the gate tries edits, nothing else is built.
+over_built_libraries() {
+    rm "$ward/crates/base/out/proved"
+    : > "$room/built"
+    tries 'over the libraries that are there' 0 '5 passed, 0 failed' --anew --built
+    checks 4
+    [ ! -s "$room/built" ] || complain "built: $(cat "$room/built")"
+    rm -r "$ward/crates/base/out/rlib"
+    tries 'over libraries that are not there' 1 '1 passed, 4 failed' --anew --built
+    tells 'upper/first_left_out: NOT READ'
 }
 
 # Edits that are not refused, each beside the good ones.
@@ -130,17 +157,22 @@ planted_edits() {
     tries 'an edit that is proved, of a function that calls another edited one' 1 '5 passed, 1 failed' --anew
     tells 'upper/third_accepted: NOT REFUSED: the crate is proved with this edit'
     ! grep -q third_accepted "$ward/out/edits/upper.txt" || complain 'the record has it'
+    tries 'the same over built libraries' 1 '5 passed, 1 failed' --anew --built
+    tells 'upper/third_accepted: NOT REFUSED: the crate is proved with this edit'
+    [ "$(grep -c 'upper::lib::first' "$ward/out/edits/upper.txt")" = 1 ] || complain "the record: $(cat "$ward/out/edits/upper.txt")"
     edit upper third_accepted 'right third' 'nonsense'
     tries 'an edit that does not compile' 1 '5 passed, 1 failed' --anew
+    tells 'upper/third_accepted: NOT READ'
+    tries 'the same over built libraries' 1 '5 passed, 1 failed' --anew --built
     tells 'upper/third_accepted: NOT READ'
     edit upper third_accepted 'no such line' 'wrong third'
     tries 'an edit that does not fit' 1 '5 passed, 1 failed'
     tells 'upper/third_accepted: STALE'
     rm "$ward/crates/upper/must-fail/third_accepted.edit"
     sed -i '/^fn third/,/^}/s/right/wrong/' "$ward/crates/upper/src/lib.rt"
-    tries 'edits beside a function without a proof' 0 '5 passed, 0 failed'
-    # The round of two says nothing, so each of its edits is tried alone.
-    checks 5
+    tries 'edits beside a function without a proof' 1 '1 passed, 4 failed'
+    tells 'upper/first_left_out: NOT TRIED: the crate is not proved as it is'
+    tells 'upper/definition_turned: NOT TRIED: the crate is not proved as it is'
     sed -i '/^fn third/,/^}/s/wrong/right/' "$ward/crates/upper/src/lib.rt"
 }
 
@@ -243,6 +275,7 @@ ward::nurses::least least-loop-preserved False ('src/nurses.rt', 106)" ] || comp
 
 cycles
 first_tries
+over_built_libraries
 planted_edits
 planted_records
 one_by_one

@@ -103,6 +103,14 @@ edits_are_told_apart() {
     says_of_edits 'edits of another commit' "0$commit" '9 passed, 0 failed' "$kit" "$not"
 }
 
+# prices FOLDER: the searches installed to this prefix find the compiled library.
+prices() {
+    begins_case "the library of ${1#"$room"/}"
+    python3 -B -c 'import sys; sys.path.insert(0, sys.argv[1])
+from inrc2pb.rows import compiled
+assert compiled.library' "$1/share/inrc2pb" > "$out" 2>&1 || complain "it is not loaded: $(tail -n 1 "$out")"
+}
+
 # Every command that is installed runs.
 starts() {
     local command
@@ -127,7 +135,7 @@ uninstalls() {
         complain "$(head -n 5 "$room/diff")"
     has_line "Left, because it was changed or is of another version: $room/prefix/$changed"
     [ -d "$room/prefix/share/fonts" ] || complain 'a folder of others is gone'
-    [ ! -e "$room/prefix/share/inrc2pb" ] || complain 'the folder of the library is left'
+    [ -z "$(find "$room"/prefix/{share,lib}/inrc2pb 2> /dev/null)" ] || complain 'a folder of the library is left'
     begins_case 'install.sh --uninstall, again'
     rm "$room/prefix/$changed"
     ! "$1" --uninstall "$room/prefix" > "$out" 2>&1 || complain 'it finds nothing, and succeeds'
@@ -155,6 +163,7 @@ installs_package() {
     states_proof "$pages/PROVED"
     works "$room/root/usr"
     starts "$room/root/usr"
+    prices "$room/root/usr"
     begins_case 'what the package needs'
     dpkg-deb --field "$1" Depends Recommends > "$out"
     has_line "Depends: libc6 (>= $(sed -n 's/^libc: \([0-9.]*\).*/\1/p' "$pages/PROVED")), python3 (>= 3.11), python3-numpy"
@@ -180,6 +189,7 @@ diff -r "$room/unpacked/$archive/bin" "$room/prefix/bin" > "$out" || complain "$
 mv "$room/unpacked" "$room/packed"
 works "$room/prefix"
 starts "$room/prefix"
+prices "$room/prefix"
 uninstalls "$room/packed/$archive/install.sh"
 
 if command -v dpkg-deb dpkg strip | wc -l | grep -qx 3; then

@@ -54,7 +54,7 @@ LISTS = [
     FileList("The exact bound", [], [BOUND], set()),
 ]
 # Names that two files of the lists define: these and no more.
-NAMES_OF_TWO = {"EndsInTurn", "check", "join", "read_week", "readers_of", "◌>>=◌"}
+NAMES_OF_TWO = {"EndsInTurn", "check", "◌>>=◌"}
 USE = re.compile(r"(?m)^ *(?:pub )?(?:ghost )?use Rattle\.(\w+)\.specs\.([\w.]+?)(?:\.\{([^}]*)\})?(?: as \w+)?;?$")
 ROW = re.compile(r"(?m)^- `([\w/]+\.antt)` \((\d+)\):")
 FIRST_LISTS = 2

@@ -106,10 +106,16 @@ promises_are_guarded() {
         complain "tests/pages/without_edits.txt (<) is not what tests/pages/edits.py none prints (>): $(head -n 20 "$room/diff")"
 }
 
-# A clause of a public contract that no equation fixes, no proof of a caller names, and no edit was refused by.
+# A clause of a public contract that no equation fixes, no proof of a caller names, and no edit was refused by. A field that nothing names.
 clauses_are_guarded() {
     begins_case 'the clauses of public contracts that nothing guards'
     tests/pages/clauses.py check > "$room/clauses" || complain "$(head -n 20 "$room/clauses")"
+}
+
+# An edit that only an answer refuses, since it no longer fits, has a line that says why no other answer can prove it.
+answers_refuse_rightly() {
+    begins_case 'the edits that only answers refuse'
+    tests/pages/refused_by_answers.py check > "$room/answers" || complain "$(head -n 20 "$room/answers")"
 }
 
 scripts_are_clean() {
@@ -140,6 +146,7 @@ takes_contracts
 mistakes_are_refused
 promises_are_guarded
 clauses_are_guarded
+answers_refuse_rightly
 scripts_are_clean
 scripts_are_executable
 finish

@@ -107,7 +107,7 @@ completes_commands() {
     is 'options of a verb' "$(offered python/inrc2pb-roster next --)" '--help --his --new-period --out --roster --sce --version '
     is 'options of a command' "$(offered python/inrc2pb-solve --a)" '--ahead --answer '
     is 'options of a mode' "$(offered python/inrc2pb-solve --inrc2 --c)" '--cusIn --cusOut '
-    is 'verbs' "$(offered python/inrc2pb-roster '')" 'check fits next show swap why '
+    is 'verbs' "$(offered python/inrc2pb-roster '')" 'check fits names next referee results show swap why '
     is 'verbs after a folder' "$(offered python/inrc2pb-plan 'my ward' p)" 'page plan '
     is 'options after a folder and a verb' "$(offered python/inrc2pb-plan 'my ward' files --c)" '--credit '
     is 'a file, which bash completes' "$(offered python/inrc2pb-roster show ward.txt '')" ' '

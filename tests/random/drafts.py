@@ -12,9 +12,9 @@ ROOT = os.path.abspath(f"{os.path.dirname(__file__)}/../..")
 sys.path.insert(0, f"{ROOT}/python")
 
 from inrc2pb.judging import rules  # noqa: E402
-from inrc2pb.week import faults, files, records  # noqa: E402
+from inrc2pb.week import faults, files, records, soft_rules  # noqa: E402
 
-DAYS, SOFT_RULES, FileFault = list(records.DAYS), rules.SOFT_RULES, faults.FileFault
+DAYS, SOFT_RULES, FileFault = list(records.DAYS), soft_rules.SOFT_RULES, faults.FileFault
 
 
 def week_of(draft):

@@ -66,10 +66,10 @@ fn has_values(certificate: &Certificate) -> bool {
         day: 6,
         choice: None,
     });
-    if certificate.prices.len() != 2 || certificate.nodes.len() != 5 {
+    if certificate.prices.len() != 2 || certificate.tree.nodes.len() != 5 {
         return false;
     }
-    let nodes = &certificate.nodes;
+    let nodes = &certificate.tree.nodes;
     has_prices(&certificate.prices[0], [[7, 0], [0, 0]])
         && has_prices(&certificate.prices[1], [[0, 0], [0, 999999999]])
         && is_split(&nodes[0], Fact::EvenShiftRuns)
@@ -109,7 +109,7 @@ const TREES: &[(&[u8], usize)] = &[
 fn trees_have_their_nodes(rt: HostRuntime) {
     for (text, nodes) in TREES {
         let found = certificate_of(rt.alloc(), text);
-        assert!(rt; found.is_ok_and(|certificate| certificate.nodes.len() == *nodes));
+        assert!(rt; found.is_ok_and(|certificate| certificate.tree.nodes.len() == *nodes));
     }
 }
 

@@ -61,7 +61,7 @@ const CERTIFICATE: &[u8] =
 // The number of nodes.
 fn count_of_nodes(alloc: Global, scenario: &Scenario) -> Result<usize, FileFault> {
     match read_certificate(alloc, scenario, 1, CERTIFICATE) {
-        Ok(certificate) => Ok(certificate.nodes.len()),
+        Ok(certificate) => Ok(certificate.tree.nodes.len()),
         Err(fault) => Err(fault),
     }
 }

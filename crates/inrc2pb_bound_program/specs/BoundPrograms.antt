@@ -10,7 +10,7 @@ use Rattle.inrc2pb_frame.specs.Runs.{IsRun, IsWholeRun, Program}
 use Rattle.inrc2pb_frame.specs.declared.stop.Stop.{Stop}
 use Rattle.inrc2pb_frame.specs.declared.stop.Stop.TheVariants as stops
 use Rattle.rota_bound_run.specs.Bounding.{bound_run}
-use Rattle.rota_bound_run.specs.PeriodFiles.{readers_of}
+use Rattle.rota_bound_run.specs.PeriodFiles.{period_readers}
 use Rattle.rota_bound_run.specs.declared.files.PeriodFiles.{PeriodFiles}
 use Rattle.rota_pb.specs.declared.period_fault.PeriodFault.{PeriodFault}
 use Rattle.rota_pb.specs.declared.period_fault.PeriodFault.TheVariants.{Run}
@@ -35,7 +35,7 @@ pub data BoundOutcome {F : Type 0} (opener : Opener F) (job : BoundJob) (out : W
       BoundOutcome opener job out result
   ran : OpensEach opener (bound_paths job.paths) → (opened left : PeriodFiles F) →
       ArePeriodOpen opener.port opener.at job.paths opened →
-      (bound_run job.question (readers_of opener.port opened left) out).ends result → BoundOutcome opener job out result
+      (bound_run job.question (period_readers opener.port opened left) out).ends result → BoundOutcome opener job out result
 
 -- no file was opened, and nothing was written
 pub record IsIdle {F : Type 0} (opener : Opener F) (writer : Writer) : Type 0 where

@@ -5,7 +5,7 @@ ghost use Rattle.rota_core.specs.Limits.{max_weeks};
 ghost use Rattle.inrc2pb_frame.specs.Options.{texts};
 ghost use Rattle.inrc2pb_bound_program.specs.FixTexts.{are_fixes as each_has_a_week, fix_of, path_named, week_named};
 
-use rota_core::MAX_WEEKS;
+use rota_core::{MAX_WEEKS, decimal_up_to};
 
 /// The path that one of the texts names for the week with this number, from 1, if one does. The number of weeks is
 /// given.
@@ -45,23 +45,8 @@ fn named(weeks: usize, text: &str) -> (usize, &str)
     let Some((number, path)) = text.split_once('=') else {
         return (unnumbered, text);
     };
-    match week_number(number.as_bytes()) {
-        Some(week) => (week, path),
+    match decimal_up_to(number.as_bytes(), u32::from(MAX_WEEKS) + 1) {
+        Some(week) => (week as usize, path),
         None => (unnumbered, text),
     }
-}
-
-// The number that the digits spell, or one more than the maximum of weeks if it is larger, or `None` if a byte is no
-// digit.
-fn week_number(digits: &[u8]) -> Option<usize>
-    ensures { result ≡ (if is_decimal digits.now then Some (min (decimal digits.now) (max_weeks + 1)) else None) }
-{
-    let mut week: usize = 0;
-    for byte in digits {
-        if !byte.is_ascii_digit() {
-            return None;
-        }
-        week = (10 * week + usize::from(*byte - b'0')).min(usize::from(MAX_WEEKS) + 1);
-    }
-    Some(week)
 }

@@ -1,13 +1,12 @@
 -- A certificate of one leaf, in which each price is 0.
-use Rattle.std.proofs.Common.{◌≡◌, ℕ, refl, ap, sym, ◌∙◌, arith, List, [], ◌∷◌, length}
+use Rattle.std.proofs.Common.{◌≡◌, ℕ, ap, sym, ◌∙◌, arith, List, [], ◌∷◌, length}
 use Rattle.std.specs.List.{AllByRecursion}
-use Rattle.rota_core.specs.Certificates.{leaf_tree, nodes_of}
 use Rattle.rota_core.specs.InstanceTables.{InstanceTables, problem_of}
 use Rattle.rota_core.specs.PriceTables.{IsForWeek, PriceTables}
+use Rattle.rota_core.specs.Certificates.{IsTreeFor}
 use Rattle.rota_core.specs.ScenarioTables.{ScenarioTables}
+use Rattle.rota_core.specs.Trees.{leaf_tree, leaves_in}
 use Rattle.rota_core.specs.declared.certificate.Certificate.{Certificate}
-use Rattle.rota_core.specs.declared.certificate.Leaf.{Leaf}
-use Rattle.rota_core.specs.declared.certificate.Node.TheVariants as nodes
 use Rattle.rota_bound_run.specs.CertificateRead.{AreFreeTables, IsFree, IsFreeCertificate}
 
 -- what holds of each element implies something else of it
@@ -22,11 +21,11 @@ for-week t week same table free = record {
   skills = free.skills ∙ ap (λ (s : ScenarioTables). length s.skills) (sym same);
 }
 
-pub is-free : (t : ScenarioTables) (weeks : ℕ) (found : Certificate) (leaf : Leaf) →
+pub is-free : (t : ScenarioTables) (weeks : ℕ) (found : Certificate) →
     AllByRecursion (λ list. AreFreeTables t weeks list.items) found.prices.items → length found.prices.items ≡ 1 →
-    found.nodes.items ≡ nodes.Leaf leaf ∷ [] → leaf.prices ≡ 0 → leaf.surcharges.items ≡ [] → IsFreeCertificate t weeks found
-unfolding nodes_of
-is-free t weeks found leaf free one nodes_are first none = record {
+    found.tree ≡ leaf_tree (record { prices = 0; surcharges = [] }) → IsFreeCertificate t weeks found
+unfolding IsTreeFor leaves_in
+is-free t weeks found free one leaf = record {
   fits = record {
     each = λ week same. record {
       prices =
@@ -34,12 +33,11 @@ is-free t weeks found leaf free one nodes_are first none = record {
           (λ list. (length list.items ≡ weeks) × AllByRecursion (IsForWeek (problem_of week)) list.items)
           (λ list are. (are.count, all-imply (IsFree t) (IsForWeek (problem_of week)) (for-week t week same) list.items are.free))
           found.prices.items free;
-      nodes = rw nodes_are (record { number = omega (arith, one, first); surcharges = rw none tt }, tt);
-      tree = (leaf_tree leaf, nodes_are);
-      count = rw nodes_are (omega arith);
+      tree = rw leaf (record { number = omega (arith, one); surcharges = tt });
+      count = rw leaf (omega arith);
     };
   };
   lists = one;
   free = free;
-  leaf = rw (nodes_are, first, none) refl;
+  leaf = leaf;
 }

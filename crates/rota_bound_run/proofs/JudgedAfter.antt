@@ -12,7 +12,7 @@ use Rattle.rota_core.specs.RosterTables.{RosterTables, set_of}
 use Rattle.rota_core.specs.WeekTables.{IsPast}
 use Rattle.rota_core.specs.declared.fault.FileName.TheVariants as names
 use Rattle.rota_core.specs.declared.values.Past.{Past}
-use Rattle.rota_certificate.specs.Plans.{History, after, history_after}
+use Rattle.rota_certificate.specs.Plans.{Pasts, after, history_after}
 use Rattle.rota_pb.specs.Extending.{BreaksRule}
 use Rattle.rota_pb.specs.RunPorts.{Reader}
 use Rattle.rota_pb.specs.Steps.{went_on}
@@ -40,7 +40,7 @@ are-pasts week shifts pasts same count each = record {
   each = subst (λ (s : ℕ). AllByRecursion (IsPast s) pasts) same (all-pasts shifts pasts each);
 }
 
-module _ (week : Problem) (history : History) (shifts : ℕ) (pasts : List Past) (same : shifts ≡ week.shifts)
+module _ (week : Problem) (history : Pasts) (shifts : ℕ) (pasts : List Past) (same : shifts ≡ week.shifts)
     (are : ArePastsIn week.nurses history pasts) where
   -- the pasts are within the limits
   pub pasts-of : Each shifts pasts → ArePastsOf (after week history)
@@ -60,7 +60,7 @@ module _ (week : Problem) (history : History) (shifts : ℕ) (pasts : List Past)
       absurd cc
 
   -- the history of the list
-  abbrev listed : History
+  abbrev listed : Pasts
   listed n = slice_index_or pasts n no_past
 
   agree : Agree week listed history
@@ -87,7 +87,7 @@ module _ (week : Problem) (history : History) (shifts : ℕ) (pasts : List Past)
         pasts = record { count = left.count; each = λ n n_in. left.each n n_in ∙ left-alike week roster listed history agree n n_in };
       }
 
-module _ (tables : InstanceTables) (history : History) (shifts : ℕ) (pasts : List Past) (reader : Reader) (roster : RosterTables)
+module _ (tables : InstanceTables) (history : Pasts) (shifts : ℕ) (pasts : List Past) (reader : Reader) (roster : RosterTables)
     (same : shifts ≡ (problem_of tables).shifts) (are : ArePastsIn (problem_of tables).nurses history pasts) (each : Each shifts pasts)
     (read : (read_roster names.Solution tables reader).ends (Ok roster)) where
   -- the roster of the week is judged after the history

@@ -14,7 +14,7 @@ use Rattle.rota_core.proofs.LogicWords.{AllByRecursion-append}
 use Rattle.rota_rules.specs.CostBounds.{penalty_limit}
 use Rattle.rota_rules.specs.Penalty.{penalty}
 use Rattle.rota_certificate.specs.CountedCharges.{HaveShapes, IsPlanned, numbers_in}
-use Rattle.rota_certificate.specs.Plans.{History, after, history_after, plan_after, plan_cost, plan_from}
+use Rattle.rota_certificate.specs.Plans.{Pasts, after, history_after, plan_after, plan_cost, plan_from}
 use Rattle.rota_certificate.specs.PeriodBounds.{IsPeriod}
 use Rattle.rota_certificate.proofs.CountedPlans.{numbers-at}
 use Rattle.rota_bound_run.specs.Judging.{history_left}
@@ -77,24 +77,12 @@ module _ (weeks : List InstanceTables) (i : ℕ) (rosters : List RosterTables) (
         cost_is = omega (arith, judged.cost_is, is.costs.penalty_is, costs, sum, one);
         small = omega (arith, judged.small, is.costs.small);
         left =
-            subst (λ (history : History). ArePastsIn (numbers_in weeks).nurses history found.pasts.items)
+            subst (λ (history : Pasts). ArePastsIn (numbers_in weeks).nurses history found.pasts.items)
             (sym (history-more rosters roster week (drop (i + 1) weeks) weeks at))
             (subst (λ (all : Numbers). ArePastsIn all.nurses (history_after (after (problem_of week) (before weeks rosters))
             (set_of roster)) found.pasts.items)
             numbers is.pasts);
       }
-
-  -- all rosters are judged
-  pub judges-all : IsPeriod weeks → i ≡ length weeks → IsPlanned weeks rosters
-  judges-all period all = let long : length weeks ≤ i = omega (arith, all) in record {
-    count = period.count;
-    period = period.period;
-    shapes = subst (λ (ws : List InstanceTables). HaveShapes ws rosters) (take_all i weeks long) judged.shapes;
-    keep = record {
-      count = length-map rosters set_of ∙ judged.number ∙ all ∙ sym (length-map weeks problem_of);
-      keep = judged.keep;
-    };
-  }
 
 -- the sum of the penalties of 52 weeks is small
 pub small-sum : (i cost more : ℕ) → i < 52 → cost ≤ i * penalty_limit → more < penalty_limit → cost + more < 2 ^ 64

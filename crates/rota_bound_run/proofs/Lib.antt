@@ -1,4 +1,3 @@
-pub mod CertificateTrees
 pub mod FreePrices
 pub mod InTurn
 pub mod JudgedAfter

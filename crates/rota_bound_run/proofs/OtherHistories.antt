@@ -14,16 +14,16 @@ use Rattle.rota_rules.specs.ConsecutiveDaysOff.{consecutive_day_off_cost_of}
 use Rattle.rota_rules.specs.TotalAssignments.{assignment_cost_of}
 use Rattle.rota_rules.specs.WorkedWeekends.{worked_weekend_cost_of}
 use Rattle.rota_rules.proofs.LogicWords.{sum_below-same}
-use Rattle.rota_certificate.specs.Plans.{History, after, history_after}
+use Rattle.rota_certificate.specs.Plans.{Pasts, after, history_after}
 
 -- the histories have the same pasts of the week's nurses
-abbrev pub Agree : Problem → History → History → Type 0
+abbrev pub Agree : Problem → Pasts → Pasts → Type 0
 Agree week one other = (n : ℕ) → n < week.nurses → one n ≡ other n
 
-pub agree-back : (week : Problem) (one other : History) → Agree week one other → Agree week other one
+pub agree-back : (week : Problem) (one other : Pasts) → Agree week one other → Agree week other one
 agree-back week one other same n n_in = sym (same n n_in)
 
-module _ (week : Problem) (roster : Roster) (one other : History) where
+module _ (week : Problem) (roster : Roster) (one other : Pasts) where
   has : (set : Roster) (cell : _) → Has (after week one) set cell → Has (after week other) set cell
   has set cell is = record {
     in_week = record {
@@ -35,7 +35,7 @@ module _ (week : Problem) (roster : Roster) (one other : History) where
     in_roster = is.in_roster;
   }
 
-module _ (week : Problem) (roster : Roster) (one other : History) (same : Agree week one other) where
+module _ (week : Problem) (roster : Roster) (one other : Pasts) (same : Agree week one other) where
   one_cell : KeepsOneCell (after week one) roster → KeepsOneCell (after week other) roster
   one_cell keeps a b has_a has_b = keeps a b (has week roster other one roster a has_a) (has week roster other one roster b has_b)
 
@@ -64,7 +64,7 @@ module _ (week : Problem) (roster : Roster) (one other : History) (same : Agree 
   pub keeps-alike : KeepsHardRules (after week one) roster → KeepsHardRules (after week other) roster
   keeps-alike keeps = record { of_competition = competition keeps.of_competition; held = held keeps.held }
 
-module _ (week : Problem) (roster : Roster) (one other : History) (same : Agree week one other) where
+module _ (week : Problem) (roster : Roster) (one other : Pasts) (same : Agree week one other) where
   -- the first rule that it breaks is the same
   pub broken-alike : (rule : Rule) → FirstBroken (after week one) roster rule → FirstBroken (after week other) roster rule
   broken-alike H1 first = λ keeps. first (one_cell week roster other one (agree-back week one other same) keeps)

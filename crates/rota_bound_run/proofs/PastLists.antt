@@ -8,14 +8,14 @@ use Rattle.std.proofs.lemmas.Grind.{get_or-set_at}
 use Rattle.std.proofs.lemmas.List.{get_or-set_other, length-set}
 use Rattle.rota_core.specs.Defaults.{no_past}
 use Rattle.rota_core.specs.declared.values.Past.{Past}
-use Rattle.rota_certificate.specs.Plans.{History}
+use Rattle.rota_certificate.specs.Plans.{Pasts}
 use Rattle.rota_bound_run.specs.JudgedWeeks.{ArePastsIn}
 
-pub no-pasts : (history : History) (pasts : List Past) → pasts ≡ [] → ArePastsIn 0 history pasts
+pub no-pasts : (history : Pasts) (pasts : List Past) → pasts ≡ [] → ArePastsIn 0 history pasts
 no-pasts history pasts none = record { count = ap length none; each = λ n n_in. absurd (omega (arith, n_in)) }
 
 -- the past of one more nurse
-pub one-past-more : (history : History) (pasts more : List Past) (n : ℕ) (past : Past) → ArePastsIn n history pasts → more ≡ pasts ++
+pub one-past-more : (history : Pasts) (pasts more : List Past) (n : ℕ) (past : Past) → ArePastsIn n history pasts → more ≡ pasts ++
     past ∷ [] →
     past ≡ history n → ArePastsIn (n + 1) history more
 one-past-more history pasts more n past are is past_is = record {
@@ -32,13 +32,13 @@ one-past-more history pasts more n past are is past_is = record {
 }
 
 -- of this list, the pasts of the first nurses are those after a week, and the others are those before it
-pub record IsPartlyAfter (history : History) (before now : List Past) (i : ℕ) : Type 0 where
+pub record IsPartlyAfter (history : Pasts) (before now : List Past) (i : ℕ) : Type 0 where
   pub count : length now ≡ length before
   pub first : (n : ℕ) → n < i → slice_index_or now n no_past ≡ history n
   pub others : (n : ℕ) → i ≤ n → slice_index_or now n no_past ≡ slice_index_or before n no_past
 
 -- the past of one more nurse is the one after the week
-pub one-more-after : (history : History) (before now : List Past) (i : ℕ) (past : Past) → IsPartlyAfter history before now i →
+pub one-more-after : (history : Pasts) (before now : List Past) (i : ℕ) (past : Past) → IsPartlyAfter history before now i →
     i < length before → past ≡ history i → IsPartlyAfter history before (set now i past) (i + 1)
 one-more-after history before now i past are inside is = record {
   count = length-set now i past ∙ are.count;

@@ -8,7 +8,7 @@ use Rattle.rota_core.specs.InstanceTables.{InstanceTables, problem_of}
 use Rattle.rota_core.specs.RosterTables.{RosterTables, set_of}
 use Rattle.rota_core.specs.ScenarioTables.{ScenarioTables}
 use Rattle.byte_ports.specs.declared.ports.Source.{Ghosts}
-use Rattle.rota_certificate.specs.Plans.{History}
+use Rattle.rota_certificate.specs.Plans.{Pasts}
 use Rattle.rota_certificate_read.specs.FactsLayout.{GivenTables}
 use Rattle.rota_pb.specs.PeriodFaults.{fault_in_week}
 use Rattle.rota_pb.specs.RunPorts.{Reader, reader_of}
@@ -94,7 +94,7 @@ module _ {S : Type 0} (port : Ghosts S) (weeks : List InstanceTables) (given : G
 -- ---- a loop over the files of the rosters
 
 -- the history before the next week
-abbrev pub next_history : List InstanceTables → List RosterTables → History
+abbrev pub next_history : List InstanceTables → List RosterTables → Pasts
 next_history weeks rosters = history_before (map problem_of weeks) (map set_of rosters)
 
 module _ {S : Type 0} (port : Ghosts S) (weeks : List InstanceTables) (rosters : List RosterTables) (i : ℕ) (number : length rosters ≡ i)

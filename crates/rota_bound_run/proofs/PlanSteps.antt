@@ -6,19 +6,19 @@ use Rattle.rota_core.specs.Problem.{Problem}
 use Rattle.rota_core.specs.Roster.{Roster}
 use Rattle.rota_core.specs.RosterTables.{HasShapeOf, RosterTables, set_of}
 use Rattle.rota_certificate.specs.CountedCharges.{HaveShapes}
-use Rattle.rota_certificate.specs.Plans.{History, Plan, PlannedWeek, after, history_after, plan_after, plan_from, plan_of}
+use Rattle.rota_certificate.specs.Plans.{Pasts, Plan, PlannedWeek, after, history_after, plan_after, plan_from, plan_of}
 use Rattle.rota_bound_run.specs.Judging.{history_before, history_left}
 
 -- a week with its roster after this history
-abbrev pub planned : Problem → History → Roster → PlannedWeek
+abbrev pub planned : Problem → Pasts → Roster → PlannedWeek
 planned week history roster = record { week = after week history; roster = roster }
 
-no-rosters : (history : History) (weeks : List Problem) → plan_after history weeks [] ≡ []
+no-rosters : (history : Pasts) (weeks : List Problem) → plan_after history weeks [] ≡ []
 unfolding plan_after
 no-rosters history [] = refl
 no-rosters history (week ∷ weeks) = refl
 
-plan-after-more : (history : History) (weeks : List Problem) (rosters : List Roster) (roster : Roster) (week : Problem) (later : List
+plan-after-more : (history : Pasts) (weeks : List Problem) (rosters : List Roster) (roster : Roster) (week : Problem) (later : List
     Problem) →
     drop (length rosters) weeks ≡ (week ∷ later) →
     plan_after history weeks (rosters ++ roster ∷ []) ≡ plan_after history weeks rosters ++ planned week (history_left history weeks
@@ -34,7 +34,7 @@ plan-after-more history (w ∷ weeks) (r ∷ rosters) roster week later is =
     ap (λ (rest : Plan). planned w history r ∷ rest) (plan-after-more (history_after (after w history) r) weeks rosters roster week later
     is)
 
-history-left-more : (history : History) (weeks : List Problem) (rosters : List Roster) (roster : Roster) (week : Problem) (later : List
+history-left-more : (history : Pasts) (weeks : List Problem) (rosters : List Roster) (roster : Roster) (week : Problem) (later : List
     Problem) →
     drop (length rosters) weeks ≡ (week ∷ later) →
     history_left history weeks (rosters ++ roster ∷ []) ≡ history_after (after week (history_left history weeks rosters)) roster
@@ -51,7 +51,7 @@ history-left-more history (w ∷ weeks) (r ∷ rosters) roster week later is =
     history-left-more (history_after (after w history) r) weeks rosters roster week later is
 
 -- the history before the next week
-abbrev pub before : List InstanceTables → List RosterTables → History
+abbrev pub before : List InstanceTables → List RosterTables → Pasts
 before weeks rosters = history_before (map problem_of weeks) (map set_of rosters)
 
 problems-at : (weeks : List InstanceTables) (rosters : List RosterTables) (week : InstanceTables) (later : List InstanceTables) →

@@ -11,7 +11,7 @@ use Rattle.rota_pb.specs.declared.period_fault.PeriodFault.TheVariants.{Run}
 use Rattle.rota_pb.specs.Steps.{stopped, went_on}
 use Rattle.rota_bound_run.specs.PeriodFiles.{reader_if, week_readers}
 use Rattle.rota_bound_run.specs.PeriodRead.{read_next}
-use Rattle.rota_bound_run.specs.WeeksRead.{IsLike, IsWeekAt, hold_cells, read_week, week_at}
+use Rattle.rota_bound_run.specs.WeeksRead.{IsLike, IsWeekAt, hold_cells, read_period_week, week_at}
 use Rattle.rota_bound_run.specs.declared.files.WeekFiles.{WeekFiles}
 use Rattle.rota_bound_run.specs.declared.ward.Ward.{Ward}
 
@@ -44,24 +44,24 @@ is-week-at early ward later w tables (Ok held) is like = record {
 module _ {S : Type 0} (port : Ghosts S) (early : Bool) (ward : Ward) (count : ℕ) (weeks : List InstanceTables) (i : ℕ)
     (number : length weeks ≡ i) (old new : WeekFiles S) where
   -- one more week is read
-  pub reads-week : (week : InstanceTables) (more : List InstanceTables) → (read_week early ward i (week_readers port old new)).ends (Ok
+  pub reads-week : (week : InstanceTables) (more : List InstanceTables) → (read_period_week early ward i (week_readers port old new)).ends (Ok
       week) →
       more ≡ weeks ++ week ∷ [] → (read_next early ward count weeks (week_readers port old new)).ends (Ok more)
   reads-week week more ends is =
-      went_on week (subst (λ (n : ℕ). (read_week early ward n (week_readers port old new)).ends (Ok week)) (sym number) ends) is
+      went_on week (subst (λ (n : ℕ). (read_period_week early ward n (week_readers port old new)).ends (Ok week)) (sym number) ends) is
 
   -- there is no memory for the week
-  pub lacks-memory : (week : InstanceTables) → (read_week early ward i (week_readers port old new)).ends (Ok week) →
+  pub lacks-memory : (week : InstanceTables) → (read_period_week early ward i (week_readers port old new)).ends (Ok week) →
       (read_next early ward count weeks (week_readers port old new)).ends (Err (Run Memory))
   lacks-memory week ends =
-      went_on week (subst (λ (n : ℕ). (read_week early ward n (week_readers port old new)).ends (Ok week)) (sym number) ends) refl
+      went_on week (subst (λ (n : ℕ). (read_period_week early ward n (week_readers port old new)).ends (Ok week)) (sym number) ends) refl
 
   -- the week is not read
-  pub stops-week : (fault : Fault) → (read_week early ward i (week_readers port old new)).ends (Err fault) →
+  pub stops-week : (fault : Fault) → (read_period_week early ward i (week_readers port old new)).ends (Err fault) →
       (read_next early ward count weeks (week_readers port old new)).ends (Err (fault_in_week count i fault))
   stops-week fault ends =
       stopped (fault_in_week count i fault) refl (
         fault,
         ap (λ (n : ℕ). fault_in_week count n fault) (sym number),
-        subst (λ (n : ℕ). (read_week early ward n (week_readers port old new)).ends (Err fault)) (sym number) ends,
+        subst (λ (n : ℕ). (read_period_week early ward n (week_readers port old new)).ends (Err fault)) (sym number) ends,
       ) (λ week. tt)

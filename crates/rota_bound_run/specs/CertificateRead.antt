@@ -1,14 +1,15 @@
 -- The certificate, read from its file and checked.
-use Rattle.std.specs.Prelude.{◌≡◌, ◌⊎◌, ℕ, List, [], ◌∷◌, length, map}
+use Rattle.std.specs.Prelude.{◌≡◌, ◌⊎◌, ℕ, List, [], length}
 use Rattle.std.specs.List.{AllByRecursion}
 use Rattle.rota_core.specs.PriceTables.{PriceTables, prices_of}
 use Rattle.rota_core.specs.ScenarioTables.{ScenarioTables}
+use Rattle.rota_core.specs.Trees.{leaf_tree}
 use Rattle.rota_core.specs.declared.certificate.Certificate.{Certificate}
 use Rattle.rota_core.specs.declared.fault.FileFault.TheVariants as refusals
 use Rattle.rota_core.specs.declared.fault.FileName.TheVariants as names
 use Rattle.rota_core.specs.declared.fault.Kind.TheVariants.{Repeated}
 use Rattle.rota_certificate.specs.CasePaths.{RepeatsFact}
-use Rattle.rota_certificate_read.specs.CertificateLayout.{IsCertificateOf, SpellsCertificate, certificate, leaf_with, node_of}
+use Rattle.rota_certificate_read.specs.CertificateLayout.{IsCertificateOf, SpellsCertificate, certificate}
 use Rattle.rota_pb.specs.RunPorts.{IsRead}
 use Rattle.rota_pb.specs.Steps.{Step, ◌>>=◌, call, check}
 use Rattle.rota_pb.specs.WeekFiles.{FailsCheck}
@@ -32,7 +33,7 @@ pub record IsFreeCertificate (s : ScenarioTables) (weeks : ℕ) (found : Certifi
   pub fits : IsCertificateOf s weeks found
   pub lists : length found.prices.items ≡ 1
   pub free : AllByRecursion (λ list. AreFreeTables s weeks list.items) found.prices.items
-  pub leaf : map node_of found.nodes.items ≡ leaf_with 0 [] ∷ []
+  pub leaf : found.tree ≡ leaf_tree (record { prices = 0; surcharges = [] })
 
 -- a fact is on a path of the certificate more than once: the fault is of the whole file
 pub record HasRepeatedFact (found : Certificate) (fault : Fault) : Type 0 where

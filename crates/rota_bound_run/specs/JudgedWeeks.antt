@@ -8,11 +8,11 @@ use Rattle.rota_core.specs.RosterTables.{RosterTables, set_of}
 use Rattle.rota_core.specs.declared.values.Past.{Past}
 use Rattle.rota_rules.specs.CostBounds.{penalty_limit}
 use Rattle.rota_rules.specs.Penalty.{penalty}
-use Rattle.rota_certificate.specs.Plans.{History, history_after}
+use Rattle.rota_certificate.specs.Plans.{Pasts, history_after}
 use Rattle.rota_bound_run.specs.declared.judged_week.JudgedWeek.{JudgedWeek}
 
 -- these are the pasts of the nurses in the history
-pub record ArePastsIn (nurses : ℕ) (history : History) (pasts : List Past) : Type 0 where
+pub record ArePastsIn (nurses : ℕ) (history : Pasts) (pasts : List Past) : Type 0 where
   pub count : length pasts ≡ nurses
   pub each : (n : ℕ) → n < nurses → slice_index_or pasts n no_past ≡ history n
 

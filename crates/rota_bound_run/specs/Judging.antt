@@ -10,7 +10,7 @@ use Rattle.rota_core.specs.WeekTables.{IsPast}
 use Rattle.rota_core.specs.declared.fault.FileFault.TheVariants as refusals
 use Rattle.rota_core.specs.declared.fault.FileName.TheVariants as names
 use Rattle.rota_core.specs.declared.fault.Kind.TheVariants.{Limit}
-use Rattle.rota_certificate.specs.Plans.{History, after, history_after}
+use Rattle.rota_certificate.specs.Plans.{Pasts, after, history_after}
 use Rattle.rota_pb.specs.Extending.{BreaksRule}
 use Rattle.rota_pb.specs.RunPorts.{Reader}
 use Rattle.rota_pb.specs.Steps.{Step, ◌>>=◌, check}
@@ -22,13 +22,13 @@ use Rattle.rota_pb.specs.declared.fault.Fault.TheVariants.{File}
 -- ---- the history before a later week
 
 -- the history after the first weeks, those that have a roster, if this one is before them
-unfoldable pub history_left : History → List Problem → List Roster → History
+unfoldable pub history_left : Pasts → List Problem → List Roster → Pasts
 history_left history [] rosters = history
 history_left history (week ∷ weeks) [] = history
 history_left history (week ∷ weeks) (roster ∷ rosters) = history_left (history_after (after week history) roster) weeks rosters
 
 -- the history after the weeks that have a roster; `past` of each week is the history before the first week
-abbrev pub history_before : List Problem → List Roster → History
+abbrev pub history_before : List Problem → List Roster → Pasts
 history_before [] rosters = λ n. no_past
 history_before (first ∷ later) rosters = history_left first.past (first ∷ later) rosters
 
@@ -49,7 +49,7 @@ judge_roster week roster =
     check (λ judged. (judged ≡ roster) × KeepsHardRules week (set_of roster)) (BreaksRule week (set_of roster))
 
 -- the roster of the week is read, and judged after this history
-abbrev pub judge_week : InstanceTables → History → Reader → Step RosterTables
+abbrev pub judge_week : InstanceTables → Pasts → Reader → Step RosterTables
 judge_week tables history reader = do
   check (λ _. ArePastsOf (after (problem_of tables) history)) (IsBeyond (after (problem_of tables) history))
   roster ← read_roster names.Solution tables reader

@@ -54,8 +54,8 @@ abbrev pub week_readers : {S : Type 0} → SourceGhosts S → WeekFiles S → We
 week_readers port old new = record { week = reader_of port old.week new.week; fix = reader_if port old.fix new.fix }
 
 -- the readers of the files of a period that are these before the run and those after it
-abbrev pub readers_of : {S : Type 0} → SourceGhosts S → PeriodFiles S → PeriodFiles S → FilesOfPeriod
-readers_of port old new = record {
+abbrev pub period_readers : {S : Type 0} → SourceGhosts S → PeriodFiles S → PeriodFiles S → FilesOfPeriod
+period_readers port old new = record {
   scenario = reader_of port old.scenario new.scenario;
   history = reader_of port old.history new.history;
   weeks = each_of (week_readers port) old.weeks.items new.weeks.items;

@@ -8,13 +8,13 @@ use Rattle.rota_pb.specs.Steps.{Step, ◌>>=◌, find}
 use Rattle.rota_pb.specs.WeekFiles.{read_file}
 use Rattle.rota_bound_run.specs.PeriodFiles.{FilesOfWeek, OptionalReader, absent, named}
 use Rattle.rota_bound_run.specs.PeriodSteps.{PeriodStep, for_week, in_turn, make}
-use Rattle.rota_bound_run.specs.WeeksRead.{read_week}
+use Rattle.rota_bound_run.specs.WeeksRead.{read_period_week}
 use Rattle.rota_bound_run.specs.declared.ward.Ward.{Ward}
 
 -- one more week is read, of this number of weeks
 abbrev pub read_next : Bool → Ward → (count : ℕ) → List InstanceTables → FilesOfWeek → PeriodStep (List InstanceTables)
 read_next early ward count weeks files = do
-  week ← for_week count (length weeks) (read_week early ward (length weeks) files)
+  week ← for_week count (length weeks) (read_period_week early ward (length weeks) files)
   make (λ more. more ≡ weeks ++ week ∷ [])
 
 -- the weeks are read in order

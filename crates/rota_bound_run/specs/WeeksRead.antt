@@ -24,8 +24,8 @@ abbrev pub week_at : Bool → Ward → ℕ → WeekTables → InstanceTables
 week_at early ward later w = record { scenario = ward.scenario; history = history_at ward later; week = w; is_early = early; held = None }
 
 -- the week is joined with the ward, if it is one of the scenario's, unless memory runs out
-abbrev pub join : Bool → Ward → ℕ → WeekTables → Step InstanceTables
-join early ward later w =
+abbrev pub join_week : Bool → Ward → ℕ → WeekTables → Step InstanceTables
+join_week early ward later w =
     check (λ tables. (tables ≡ week_at early ward later w) × IsInstance tables) (λ fault. (fault ≡ Memory) ⊎ IsLate ward later fault)
 
 -- the cells of the file, if there is one, are held
@@ -36,10 +36,10 @@ hold_cells tables (named reader) = do
   find (λ held. held ≡ holding tables roster)
 
 -- the files of a week that comes this many weeks after the first are read
-abbrev pub read_week : Bool → Ward → ℕ → FilesOfWeek → Step InstanceTables
-read_week early ward later files = do
+abbrev pub read_period_week : Bool → Ward → ℕ → FilesOfWeek → Step InstanceTables
+read_period_week early ward later files = do
   w ← read_file names.Week (week_layout ward.scenario) files.week
-  tables ← join early ward later w
+  tables ← join_week early ward later w
   hold_cells tables files.fix
 
 -- the tables have the same scenario, history and flag, within their limits

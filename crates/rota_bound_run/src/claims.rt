@@ -1,6 +1,5 @@
 //! The claim that a certificate proves about all plans of some weeks.
 ghost use Rattle.std.specs.Prelude.{◌≡◌, IfOk, if◌then◌else◌, map};
-ghost use Rattle.rota_core.specs.Certificates.{IsTreeOf};
 ghost use Rattle.rota_core.specs.InstanceTables.{problem_of};
 ghost use Rattle.rota_certificate.specs.PeriodBounds.{AreEvidence, AreOptimalAt};
 ghost use Rattle.rota_bound_run.specs.Claims.{Holds};
@@ -41,8 +40,7 @@ pub(crate) fn claim_of(
     minimums: bool,
 ) -> Result<Claim, AllocError>
     requires { AreEvidence weeks.now given.now certificate.now }
-    ensures claim { (tree : _) → IsTreeOf certificate.now tree →
-        IfOk result (λ claim. claim ≡ claim_of minimums (map problem_of weeks.now) given.now certificate.now tree) }
+    ensures claim { IfOk result (λ claim. claim ≡ claim_of minimums (map problem_of weeks.now) given.now certificate.now) }
     ensures holds { IfOk result (Holds (map problem_of weeks.now) given.now) }
     ensures optimal { (points : _) → IfOk result (λ claim. claim ≡ AtLeast points → AreOptimalAt (map problem_of weeks.now) given.now points) }
 {

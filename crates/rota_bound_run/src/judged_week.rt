@@ -4,7 +4,7 @@ ghost use Rattle.rota_core.specs.InstanceTables.{problem_of};
 ghost use Rattle.rota_core.specs.RosterTables.{HasShapeOf, set_of};
 ghost use Rattle.rota_pb.specs.Extending.{BreaksRule};
 ghost use Rattle.rota_pb.specs.RunPorts.{reader_of};
-ghost use Rattle.rota_certificate.specs.Plans.{History, after};
+ghost use Rattle.rota_certificate.specs.Plans.{Pasts, after};
 ghost use Rattle.rota_bound_run.specs.JudgedWeeks.{ArePastsIn, IsJudgedWeek, IsPenalty};
 ghost use Rattle.rota_bound_run.specs.Judging.{judge_week};
 ghost use Rattle.rota_bound_run.specs.PeriodSteps.{EndsAs};
@@ -50,9 +50,9 @@ pub(crate) fn judge_week<S: Source>(
     file: &mut S,
 ) -> Result<JudgedWeek, Fault>
     requires { length pasts.items ≡ (problem_of week.old).nurses }
-    ensures reads { (history : History) → ArePastsIn (problem_of week.old).nurses history pasts.items →
+    ensures reads { (history : Pasts) → ArePastsIn (problem_of week.old).nurses history pasts.items →
         EndsAs (λ judged. judged.roster) (judge_week week.old history (reader_of S.Source file.old file.new)).ends result }
-    ensures judged { (history : History) → ArePastsIn (problem_of week.old).nurses history pasts.items →
+    ensures judged { (history : Pasts) → ArePastsIn (problem_of week.old).nurses history pasts.items →
         IfOk result (λ judged. IsJudgedWeek (after (problem_of week.old) history) judged.roster judged) }
     ensures shape { IfOk result (λ judged. HasShapeOf (problem_of week.old) judged.roster) }
     ensures same { week.new ≡ week.old }

@@ -1,6 +1,5 @@
 //! The certificate, from its file.
 ghost use Rattle.std.specs.Prelude.{◌≡◌, ◌<◌, ◌≤◌, IfOk, MatchResult};
-ghost use Rattle.rota_core.specs.Certificates.{IsTreeOf};
 ghost use Rattle.rota_core.specs.declared.fault.FileName.TheVariants as names;
 ghost use Rattle.rota_certificate_read.specs.CertificateLayout.{IsCertificateOf, SpellsCertificate, certificate};
 ghost use Rattle.rota_pb.specs.RunPorts.{IsRead, reader_of};
@@ -11,7 +10,7 @@ ghost use Rattle.rota_bound_run.specs.CertificateRead.{AreFreeTables, IsFreeCert
 use byte_ports::Source;
 use rota_certificate::repeats_fact;
 use rota_certificate_read::read_certificate;
-use rota_core::{Certificate, FileFault, FileName, Kind, Leaf, Node, Prices, Scenario};
+use rota_core::{CaseTree, Certificate, FileFault, FileName, Kind, Leaf, Node, Prices, Scenario};
 use rota_pb::{Fault, read_file};
 use std::alloc::{AllocError, Global};
 
@@ -56,12 +55,12 @@ fn free_certificate(
         prices: 0,
         surcharges: Vec::new(alloc),
     }))?;
-    Ok(Certificate { prices, nodes })
+    let tree = CaseTree { nodes };
+    Ok(Certificate { prices, tree })
 }
 
 // The certificate, if no fact occurs more than once on a path of its tree.
 fn check_paths(alloc: Global, certificate: Certificate) -> Result<Certificate, Fault>
-    requires { (tree : _) × IsTreeOf certificate tree }
     ensures { (check_paths certificate).ends result }
 {
     if repeats_fact(alloc, &certificate)? {

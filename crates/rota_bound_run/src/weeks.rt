@@ -6,7 +6,7 @@ ghost use Rattle.rota_bound_run.specs.PeriodFiles.{each_of, reader_if, week_read
 ghost use Rattle.rota_bound_run.specs.PeriodRead.{read_weeks};
 ghost use Rattle.rota_bound_run.specs.PeriodSteps.{EndsAs};
 ghost use Rattle.rota_bound_run.specs.Wards.{IsWard};
-ghost use Rattle.rota_bound_run.specs.WeeksRead.{AreWeeksFrom, IsLike, IsWeekAt, hold_cells, join, read_week};
+ghost use Rattle.rota_bound_run.specs.WeeksRead.{AreWeeksFrom, IsLike, IsWeekAt, hold_cells, join_week, read_period_week};
 
 use crate::files::WeekFiles;
 use crate::ward::Ward;
@@ -16,7 +16,7 @@ use rota_pb::{Fault, PeriodFault, read_held, read_week_from};
 use std::alloc::Global;
 
 // The week joined with the ward, if it is one of the scenario's.
-fn join(
+fn join_week(
     alloc: Global,
     early: bool,
     ward: &Ward,
@@ -25,7 +25,7 @@ fn join(
 ) -> Result<Instance, Fault>
     requires ward { IsWard ward.now }
     requires fits { week.numbers ≡ numbers_of ward.now.scenario }
-    ensures { (join early ward.now later week).ends result }
+    ensures { (join_week early ward.now later week).ends result }
 {
     let history = ward.history_at(alloc, later)?;
     let scenario = ward.scenario.copy(alloc)?;
@@ -52,7 +52,7 @@ fn hold_cells<S: Source>(
 }
 
 // The week that comes this many weeks after the first.
-fn read_week<S: Source>(
+fn read_period_week<S: Source>(
     alloc: Global,
     early: bool,
     ward: &Ward,
@@ -60,11 +60,11 @@ fn read_week<S: Source>(
     files: &mut WeekFiles<S>,
 ) -> Result<Instance, Fault>
     requires { IsWard ward.now }
-    ensures reads { (read_week early ward.now later (week_readers S.Source files.old files.new)).ends result }
+    ensures reads { (read_period_week early ward.now later (week_readers S.Source files.old files.new)).ends result }
     ensures week { IfOk result (IsWeekAt early ward.now later) }
 {
     let week = read_week_from(alloc, &ward.scenario, &mut files.week)?;
-    let instance = join(alloc, early, ward, later, week)?;
+    let instance = join_week(alloc, early, ward, later, week)?;
     hold_cells(alloc, instance, &mut files.fix)
 }
 
@@ -84,7 +84,7 @@ pub(crate) fn read_weeks<S: Source>(
     let mut weeks = Vec::new(alloc);
     let count = files.len();
     for index in 0..count {
-        match read_week(alloc, early, ward, index, &mut files[index]) {
+        match read_period_week(alloc, early, ward, index, &mut files[index]) {
             Ok(week) => weeks.push(week)?,
             Err(fault) => return Err(PeriodFault::in_week(count, index, fault)),
         }

@@ -10,7 +10,7 @@ use Rattle.rota_core.specs.Problem.{Problem}
 use Rattle.rota_core.specs.SumsBelow.{any_below}
 use Rattle.rota_core.specs.declared.values.Cell.{Cell}
 use Rattle.rota_core.specs.declared.values.Past.{Past}
-use Rattle.rota_certificate.specs.DayCharges.{day_cost, past_after}
+use Rattle.rota_certificate.specs.DayCharges.{choice_cost, past_after}
 use Rattle.rota_certificate.specs.Facts.{has_choice}
 use Rattle.rota_certificate.specs.Minimums.{not_allowed}
 use Rattle.rota_certificate.specs.NurseBounds.{LeafWeek, Terms, allowed_rebate, choice_value, day_rebate, is_barred, least_choice, may_be_off, may_have, rebate}
@@ -117,7 +117,7 @@ module _ (terms : Terms) (one : LeafWeek) (roster : Roster) (n : ℕ) (within : 
   -- the cost of the choice, its rebate, and the value of the rest
   abbrev pub chosen_value : (day : ℕ) → Past → (rest : Past → ℕ) → Option ℕ → ℕ
   chosen_value d past rest choice =
-      day_cost terms.unit terms.tariff terms.charged problem n d past choice + day_rebate problem prices n d choice +
+      choice_cost terms.unit terms.tariff terms.charged problem n d past choice + day_rebate problem prices n d choice +
       rest (past_after d past choice)
 
   -- the roster has the choice
@@ -144,7 +144,7 @@ module _ (terms : Terms) (one : LeafWeek) (roster : Roster) (n : ℕ) (within : 
         arith,
         least,
         cond-false (is_barred problem past (Some s)) not_allowed
-            (day_cost terms.unit terms.tariff terms.charged problem n d past (Some s) + allowed_rebate one n d (Some s) +
+            (choice_cost terms.unit terms.tariff terms.charged problem n d past (Some s) + allowed_rebate one n d (Some s) +
             rest (past_after d past (Some s))) may,
         rebate-is d (Some s) d_in chooses,
       )

@@ -14,7 +14,7 @@ use Rattle.rota_core.specs.Sizes.{Numbers}
 use Rattle.rota_core.specs.declared.certificate.ChargeKind.{ChargeKind}
 use Rattle.rota_core.specs.declared.values.Past.{Past}
 use Rattle.rota_certificate.specs.CountedCharges.{HaveShapes, numbers_in}
-use Rattle.rota_certificate.specs.Plans.{History, KeepRules, Plan, PlannedWeek, after, history_after, plan_after, plan_from, plan_of}
+use Rattle.rota_certificate.specs.Plans.{Pasts, KeepRules, Plan, PlannedWeek, after, history_after, plan_after, plan_from, plan_of}
 use Rattle.rota_certificate.specs.Periods.{ArePeriod, Continue}
 use Rattle.rota_certificate.specs.Facts.{charges_in_week, charges_of_all, charges_of_nurse, has_choice, nurses_of, week_passes}
 use Rattle.rota_certificate.specs.Nearness.{IsNear}
@@ -29,7 +29,7 @@ charges_of kind n one = charges_in_week kind one.week one.roster n
 
 -- the sum counts the charges of the weeks before week i, and the past is the nurse's before week i
 pub record CountsFrom (kind : ChargeKind) (weeks : List Problem) (rosters : List Roster) (n i sum : ℕ) (past : Past) : Type 0 where
-  pub history : History
+  pub history : Pasts
   pub here : history n ≡ past
   pub keep : AllByRecursion (λ one. KeepsHardRules one.week one.roster) (plan_after history (drop i weeks) (drop i rosters))
   pub sum_is : sum + sum_by (charges_of kind n) (plan_after history (drop i weeks) (drop i rosters)) ≡ charges_of_nurse kind (plan_of weeks rosters) n
@@ -41,7 +41,7 @@ counts-start kind first later rosters n keep = record { history = first.past; he
 module _ (kind : ChargeKind) (weeks : List Problem) (rosters : List Roster) (n i sum : ℕ) (past : Past) (from : CountsFrom kind weeks rosters n i sum past) where
   pub counts-next : (week : Problem) (roster : Roster) (charges : ℕ) (left : Past) → drop i weeks ≡ (week ∷ drop (i + 1) weeks) →
       drop i rosters ≡ (roster ∷ drop (i + 1) rosters) →
-      ((history : History) → history n ≡ past → KeepsHardRules (after week history) roster →
+      ((history : Pasts) → history n ≡ past → KeepsHardRules (after week history) roster →
       (charges ≡ charges_in_week kind (after week history) roster n) × (left ≡ history_after (after week history) roster n)) →
       CountsFrom kind weeks rosters n (i + 1) (sum + charges) left
   unfolding plan_after
@@ -166,10 +166,10 @@ none-of-all kind (week ∷ weeks) rosters none = absurd (omega (arith, none))
 
 -- the planned week with this number has the numbers of the week, and its roster
 pub record IsPlannedAt (plan : Plan) (w : ℕ) (week : Problem) (roster : Roster) : Type 0 where
-  pub history : History
+  pub history : Pasts
   pub is : slice_get plan w ≡ Some (record { week = after week history; roster = roster })
 
-pub planned-after : (history : History) (weeks : List InstanceTables) (rosters : List RosterTables) (w : ℕ) (week : InstanceTables)
+pub planned-after : (history : Pasts) (weeks : List InstanceTables) (rosters : List RosterTables) (w : ℕ) (week : InstanceTables)
     (roster : RosterTables) → HaveShapes weeks rosters → w < length weeks → week ≡ slice_index_or weeks w week →
     roster ≡ slice_index_or rosters w roster →
     IsPlannedAt (plan_after history (map problem_of weeks) (map set_of rosters)) w (problem_of week) (set_of roster)

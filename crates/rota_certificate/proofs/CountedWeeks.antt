@@ -17,7 +17,7 @@ use Rattle.rota_certificate.specs.CountedCharges.{choice_on, run_charges, total_
 use Rattle.rota_certificate.specs.DayCharges.{past_after}
 use Rattle.rota_certificate.specs.Facts.{charges_in_week}
 use Rattle.rota_certificate.specs.NurseBounds.{LeafWeek, Terms}
-use Rattle.rota_certificate.specs.Plans.{History, after, history_after}
+use Rattle.rota_certificate.specs.Plans.{Pasts, after, history_after}
 use Rattle.rota_certificate.proofs.Choices.{goes}
 use Rattle.rota_certificate.proofs.DaySteps.{Chooses, Follows, chosen-first, over-same, over_on, shifts-same, shifts_on}
 use Rattle.rota_certificate.proofs.Sums.{sum-same, sum-zero}
@@ -113,7 +113,7 @@ module _ (week : Problem) (roster : Roster) (n : ℕ) (keeps : KeepsHardRules we
   week-counted Weekends = omega (arith, weekends-counted, sum-zero DAYS (λ d. run_charges Weekends week n (past_at d) (choice_on week roster n d)) (λ d d_in. refl))
 
 -- the same, given only this nurse's part of the history
-pub after-counted : (week : Problem) (roster : Roster) (n : ℕ) (past : Past) (history : History) → history n ≡ past →
+pub after-counted : (week : Problem) (roster : Roster) (n : ℕ) (past : Past) (history : Pasts) → history n ≡ past →
     KeepsHardRules (after week history) roster → n < week.nurses → (kind : ChargeKind) →
     runs_on kind week roster n past DAYS + total_charges kind week n past (past_on week roster n past DAYS) ≡
     charges_in_week kind (after week history) roster n
@@ -130,7 +130,7 @@ after-counted week roster n past history here keeps n_in Weekends =
     ap (λ (p : Past). runs_on Weekends week roster n p DAYS + total_charges Weekends week n p (past_on week roster n p DAYS)) (sym here) ∙
     week-counted (after week history) roster n keeps n_in Weekends
 
-pub after-end : (week : Problem) (roster : Roster) (n : ℕ) (past : Past) (history : History) → history n ≡ past →
+pub after-end : (week : Problem) (roster : Roster) (n : ℕ) (past : Past) (history : Pasts) → history n ≡ past →
     KeepsHardRules (after week history) roster → n < week.nurses → past_on week roster n past DAYS ≡ history_after (after week history) roster n
 after-end week roster n past history here keeps n_in =
     ap (λ (p : Past). past_on week roster n p DAYS) (sym here) ∙ past-end (after week history) roster n keeps n_in

@@ -12,7 +12,7 @@ use Rattle.rota_core.specs.declared.values.Span.{Span}
 use Rattle.rota_core.specs.Successions.{is_forbidden_after}
 use Rattle.rota_rules.specs.TotalAssignments.{assignment_weight}
 use Rattle.rota_certificate.specs.EquivalentPasts.{AreEquivalent, AreEquivalentNumbers, HaveSameLimits, IsSameForEquivalent}
-use Rattle.rota_certificate.specs.DayCharges.{assignment_above, day_cost, fixed_charge, is_shift, missing_total, over_charge, past_after, run_charge, run_on}
+use Rattle.rota_certificate.specs.DayCharges.{assignment_above, choice_cost, fixed_charge, is_shift, missing_total, over_charge, past_after, run_charge, run_on}
 use Rattle.rota_certificate.specs.DayCharges.{shift_charges, totals_cost, under_charge, weekend_above, weekend_charge, weekend_on, weighted}
 use Rattle.rota_certificate.specs.Minimums.{least_below, not_allowed}
 use Rattle.rota_certificate.specs.NurseBounds.{LeafWeek, Terms, allowed_rebate, choice_value, least_choice, least_days, rest_after}
@@ -89,9 +89,9 @@ module _ (problem : Problem) (n : ℕ) (past other : Past) (equivalent : AreEqui
   cost_of terms shifts over fixed totals =
       weighted terms.tariff.shift_runs shifts + weighted terms.tariff.work_days over + terms.unit * fixed + cond terms.charged totals 0
 
-  day_cost-equivalent : (terms : Terms) (d : ℕ) (choice : Option ℕ) →
-      day_cost terms.unit terms.tariff terms.charged problem n d past choice ≡ day_cost terms.unit terms.tariff terms.charged problem n d other choice
-  day_cost-equivalent terms d choice =
+  choice_cost-equivalent : (terms : Terms) (d : ℕ) (choice : Option ℕ) →
+      choice_cost terms.unit terms.tariff terms.charged problem n d past choice ≡ choice_cost terms.unit terms.tariff terms.charged problem n d other choice
+  choice_cost-equivalent terms d choice =
       let shifts = shift_charges-equivalent choice in
       let over = over_charge-equivalent (problem.contract n).work past.work_run other.work_run (is_some choice) equivalent.work_run in
       let fixed = fixed_charge-equivalent d choice in
@@ -157,11 +157,11 @@ module _ (terms : Terms) (one : LeafWeek) (n : ℕ) (past other : Past) (equival
 
     choice_value-equivalent : (choice : Option ℕ) → choice_value terms one n d past rest choice ≡ choice_value terms one n d other rest choice
     choice_value-equivalent None =
-        value-same None {barred = false} {also = false} refl (day_cost-equivalent one.week n past other equivalent terms d None)
+        value-same None {barred = false} {also = false} refl (choice_cost-equivalent one.week n past other equivalent terms d None)
         (same _ _ (past_after-equivalent one.week n past other equivalent d None))
     choice_value-equivalent (Some s) =
         value-same (Some s) (ap (λ (last : Option ℕ). is_forbidden_after one.week last s) equivalent.last)
-        (day_cost-equivalent one.week n past other equivalent terms d (Some s))
+        (choice_cost-equivalent one.week n past other equivalent terms d (Some s))
         (same _ _ (past_after-equivalent one.week n past other equivalent d (Some s)))
 
     pub least_choice-equivalent : least_choice terms one n d past rest ≡ least_choice terms one n d other rest

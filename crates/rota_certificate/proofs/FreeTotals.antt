@@ -6,7 +6,7 @@ use Rattle.rota_core.specs.Sizes.{DAYS}
 use Rattle.rota_core.specs.Problem.{Problem}
 use Rattle.rota_core.specs.declared.values.Past.{Past}
 use Rattle.rota_rules.specs.TotalAssignments.{assignment_weight}
-use Rattle.rota_certificate.specs.DayCharges.{day_cost, missing_total, past_after}
+use Rattle.rota_certificate.specs.DayCharges.{choice_cost, missing_total, past_after}
 use Rattle.rota_certificate.specs.Minimums.{least_below, not_allowed}
 use Rattle.rota_certificate.specs.NurseBounds.{LeafWeek, Terms, allowed_rebate, choice_value, is_barred, least_days, rest_after}
 use Rattle.rota_certificate.specs.Stages.{IsFreeOfTotals, IsStage, StageTables, later_of, least_in, week_of}
@@ -30,10 +30,10 @@ module _ (unit : ℕ) (tariff : Tariff) where
     value-same : (d : ℕ) (past : Past) (a w : ℕ) (more : Past → ℕ) → IsFree more → (choice : Option ℕ) →
         choice_value (free_terms false) one n d (with_totals past a w) more choice ≡ choice_value (free_terms false) one n d past more choice
     value-same d past a w more same None =
-        ap (λ (r : ℕ). day_cost unit tariff false one.week n d past None + allowed_rebate one n d None + r) (same (past_after d past None) a _)
+        ap (λ (r : ℕ). choice_cost unit tariff false one.week n d past None + allowed_rebate one n d None + r) (same (past_after d past None) a _)
     value-same d past a w more same (Some s) =
         ap (λ (r : ℕ). cond (is_barred one.week past (Some s)) not_allowed
-        (day_cost unit tariff false one.week n d past (Some s) + allowed_rebate one n d (Some s) + r))
+        (choice_cost unit tariff false one.week n d past (Some s) + allowed_rebate one n d (Some s) + r))
         (same (past_after d past (Some s)) (a + 1) _)
 
     pub days-free : (days_left : ℕ) → IsFree (least_days (free_terms false) one n rest days_left)

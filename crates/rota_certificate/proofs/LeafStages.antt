@@ -6,7 +6,7 @@ use Rattle.rota_core.specs.Problem.{Problem}
 use Rattle.rota_core.specs.Sizes.{Numbers}
 use Rattle.rota_certificate.specs.Facts.{Case}
 use Rattle.rota_certificate.specs.LeafBounds.{leaf_weeks, may_choose, nurse_count}
-use Rattle.rota_certificate.specs.LentLeaves.{AreFit, Fits, IsLeaf, LeafTables, prices_lent, week_lent, weeks_of}
+use Rattle.rota_certificate.specs.LentLeaves.{AreFit, Fits, IsLeaf, LentTables, prices_lent, week_lent, weeks_of}
 use Rattle.rota_certificate.specs.NurseBounds.{LeafWeek, charge_totals}
 use Rattle.rota_certificate.specs.Stages.{IsFreeOfTotals, IsStage, StageTables, later_of, week_of}
 use Rattle.rota_certificate.specs.declared.stages.LentWeek.{LentWeek}
@@ -52,7 +52,7 @@ drop-from case w (one ∷ weeks) (suc i) d inside =
     rw (weeks-cons case w one weeks)
     (rest ∙ ap (λ (k : ℕ). week_at case k (slice_index_or weeks i d) ∷ drop (suc i) (weeks_from case (w + 1) weeks)) e)
 
-pub drop-lent : (leaf : LeafTables) (i : ℕ) (d : LentWeek) → i < length leaf.weeks →
+pub drop-lent : (leaf : LentTables) (i : ℕ) (d : LentWeek) → i < length leaf.weeks →
     drop i (weeks_of leaf) ≡ (week_at leaf.case i (slice_index_or leaf.weeks i d) ∷ drop (i + 1) (weeks_of leaf))
 drop-lent leaf i d inside =
     let start : 0 + i ≡ i = omega arith in
@@ -62,7 +62,7 @@ drop-lent leaf i d inside =
     ap (λ (k : ℕ). week_at leaf.case i (slice_index_or leaf.weeks i d) ∷ drop k (weeks_of leaf)) e
 
 -- the weeks from the index of this one on
-pub drop-at : (leaf : LeafTables) (i : ℕ) (one : LentWeek) → i < length leaf.weeks → one ≡ slice_index_or leaf.weeks i one →
+pub drop-at : (leaf : LentTables) (i : ℕ) (one : LentWeek) → i < length leaf.weeks → one ≡ slice_index_or leaf.weeks i one →
     drop i (weeks_of leaf) ≡ (week_at leaf.case i one ∷ drop (i + 1) (weeks_of leaf))
 drop-at leaf i one inside is =
     drop-lent leaf i one inside ∙ ap (λ (week : LentWeek). week_at leaf.case i week ∷ drop (i + 1) (weeks_of leaf)) (sym is)
@@ -73,11 +73,11 @@ drop-from_end case w [] (suc i) past = rw (weeks-none case w) refl
 drop-from_end case w (one ∷ weeks) zero past = absurd (omega arith)
 drop-from_end case w (one ∷ weeks) (suc i) past = rw (weeks-cons case w one weeks) (drop-from_end case (w + 1) weeks i (omega arith))
 
-pub drop-end : (leaf : LeafTables) (i : ℕ) → length leaf.weeks ≤ i → drop i (weeks_of leaf) ≡ []
+pub drop-end : (leaf : LentTables) (i : ℕ) → length leaf.weeks ≤ i → drop i (weeks_of leaf) ≡ []
 drop-end leaf i past = drop-from_end leaf.case 0 leaf.weeks i past
 
 -- a week of a list that is the leaf's is the leaf's week with that index
-pub lent-at : (leaf : LeafTables) (weeks : List LentWeek) (i : ℕ) (d : LentWeek) → weeks ≡ leaf.weeks → d ≡ slice_index_or weeks i d →
+pub lent-at : (leaf : LentTables) (weeks : List LentWeek) (i : ℕ) (d : LentWeek) → weeks ≡ leaf.weeks → d ≡ slice_index_or weeks i d →
     slice_index_or weeks i d ≡ slice_index_or leaf.weeks i (slice_index_or weeks i d)
 lent-at leaf weeks i d same is =
     subst (λ (all : List LentWeek). slice_index_or weeks i d ≡ slice_index_or all i (slice_index_or weeks i d)) same
@@ -135,7 +135,7 @@ first-fit [] one some is fit = absurd (omega arith)
 first-fit (first ∷ later) one some is fit = subst (λ (week : LentWeek). AllByRecursion (Fits (week_lent week)) (first ∷ later)) (sym is) fit
 
 -- the number of nurses of the leaf, from its first week
-pub count-first : (leaf : LeafTables) (d : LentWeek) → 0 < length leaf.weeks →
+pub count-first : (leaf : LentTables) (d : LentWeek) → 0 < length leaf.weeks →
     nurse_count (weeks_of leaf) ≡ (week_lent (slice_index_or leaf.weeks 0 d)).nurses
 count-first leaf d some = ap nurse_count (drop-lent leaf 0 d some)
 
@@ -163,14 +163,14 @@ first-is stage one is leaf nurse charged =
 -- ---- loops over the weeks
 
 -- a test of the weeks from the index of this one on, if it fails or passes there
-pub any-passes : (test : LeafWeek → Bool) (leaf : LeafTables) (i : ℕ) (one : LentWeek) → i < length leaf.weeks →
+pub any-passes : (test : LeafWeek → Bool) (leaf : LentTables) (i : ℕ) (one : LentWeek) → i < length leaf.weeks →
     one ≡ slice_index_or leaf.weeks i one → test (week_at leaf.case i one) ≡ true → list_any test (drop i (weeks_of leaf)) ≡ true
 any-passes test leaf i one inside is passes = ap (list_any test) (drop-at leaf i one inside is) ∙ grind (arith, passes)
 
-pub any-fails : (test : LeafWeek → Bool) (leaf : LeafTables) (i : ℕ) (one : LentWeek) → i < length leaf.weeks →
+pub any-fails : (test : LeafWeek → Bool) (leaf : LentTables) (i : ℕ) (one : LentWeek) → i < length leaf.weeks →
     one ≡ slice_index_or leaf.weeks i one → test (week_at leaf.case i one) ≡ false →
     list_any test (drop i (weeks_of leaf)) ≡ list_any test (drop (i + 1) (weeks_of leaf))
 any-fails test leaf i one inside is fails = ap (list_any test) (drop-at leaf i one inside is) ∙ rw fails refl
 
-pub any-end : (test : LeafWeek → Bool) (leaf : LeafTables) (i : ℕ) → length leaf.weeks ≤ i → list_any test (drop i (weeks_of leaf)) ≡ false
+pub any-end : (test : LeafWeek → Bool) (leaf : LentTables) (i : ℕ) → length leaf.weeks ≤ i → list_any test (drop i (weeks_of leaf)) ≡ false
 any-end test leaf i past = ap (list_any test) (drop-end leaf i past)

@@ -7,7 +7,7 @@ use Rattle.rota_core.specs.Prices.{Prices}
 use Rattle.rota_core.specs.Problem.{Problem}
 use Rattle.rota_certificate.specs.Facts.{Case}
 use Rattle.rota_certificate.specs.LeafBounds.{leaf_weeks}
-use Rattle.rota_certificate.specs.LentLeaves.{LeafTables, prices_lent, week_lent, weeks_of}
+use Rattle.rota_certificate.specs.LentLeaves.{LentTables, prices_lent, week_lent, weeks_of}
 
 weeks-length : (case : Case) (w : ℕ) (problems : List Problem) (prices : List Prices) → length (leaf_weeks case w problems prices) ≡ length problems
 unfolding leaf_weeks
@@ -16,7 +16,7 @@ weeks-length case w (problem ∷ problems) [] = omega (arith, weeks-length case 
 weeks-length case w (problem ∷ problems) (first ∷ prices) = omega (arith, weeks-length case (w + 1) problems prices)
 
 -- the leaf has its weeks
-pub leaf-length : (leaf : LeafTables) → length (weeks_of leaf) ≡ length leaf.weeks
+pub leaf-length : (leaf : LentTables) → length (weeks_of leaf) ≡ length leaf.weeks
 leaf-length leaf =
     weeks-length leaf.case 0 (map week_lent leaf.weeks) (map prices_lent leaf.weeks) ∙ length-map leaf.weeks week_lent
 

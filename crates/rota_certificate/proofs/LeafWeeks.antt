@@ -16,7 +16,7 @@ use Rattle.rota_certificate.specs.LeafBounds.{leaf_place_bounds, leaf_weeks, may
 use Rattle.rota_certificate.specs.NurseBounds.{LeafWeek}
 use Rattle.rota_certificate.specs.NurseCosts.{AllowsPlan, paid, paid_in_plan}
 use Rattle.rota_certificate.specs.PlaceCases.{case_place_bounds}
-use Rattle.rota_certificate.specs.Plans.{History, KeepRules, Plan, PlannedWeek, after, history_after, plan_after, plan_of}
+use Rattle.rota_certificate.specs.Plans.{Pasts, KeepRules, Plan, PlannedWeek, after, history_after, plan_after, plan_of}
 use Rattle.rota_certificate.specs.Periods.{ArePeriod, Continue}
 use Rattle.rota_certificate.proofs.CaseChoices.{BeginsAt, KeepEach, all-allowed}
 use Rattle.rota_certificate.proofs.PlacePart.{case_place_bounds-within}
@@ -50,7 +50,7 @@ same-numbers problem (next ∷ later) numbers is period =
     let next_is = sym period.1.numbers ∙ is in
     (next_is, same-numbers next later numbers next_is period.2)
 
-keep-each : (numbers : Numbers) (history : History) (problems : List Problem) (rosters : List Roster) →
+keep-each : (numbers : Numbers) (history : Pasts) (problems : List Problem) (rosters : List Roster) →
     AllByRecursion (λ (one : Problem). one.numbers ≡ numbers) problems →
     AllByRecursion (λ (one : PlannedWeek). KeepsHardRules one.week one.roster) (plan_after history problems rosters) →
     KeepEach numbers (plan_after history problems rosters)
@@ -105,7 +105,7 @@ module _ (plan : Plan) (numbers : Numbers) (weeks : ℕ) (case : Case) (are_for 
       let count = ap (λ (one : Numbers). sum_below one.nurses (paid planned.week prices planned.roster)) keep.1 in
       omega (arith, case_place_bounds-within plan w planned here prices unit case is_in keep.0.of_competition.minimum, count)
 
-  pub places-within : (unit w : ℕ) (history : History) (problems : List Problem) (prices : List Prices) (rosters : List Roster) →
+  pub places-within : (unit w : ℕ) (history : Pasts) (problems : List Problem) (prices : List Prices) (rosters : List Roster) →
       length rosters ≡ length problems → BeginsAt plan w (plan_after history problems rosters) →
       KeepEach numbers (plan_after history problems rosters) →
       leaf_place_bounds unit case w (leaf_weeks case w problems prices) ≤

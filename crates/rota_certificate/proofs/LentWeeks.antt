@@ -12,7 +12,7 @@ use Rattle.rota_core.specs.declared.certificate.Certificate.{Certificate}
 use Rattle.rota_certificate.specs.CaseLimits.{IsLimitedCase}
 use Rattle.rota_certificate.specs.CertificateBounds.{lists_of}
 use Rattle.rota_certificate.specs.Facts.{Case}
-use Rattle.rota_certificate.specs.LentLeaves.{AreFit, Fits, IsLeaf, LeafTables, prices_lent, week_lent}
+use Rattle.rota_certificate.specs.LentLeaves.{AreFit, Fits, IsLeaf, LentTables, prices_lent, week_lent}
 use Rattle.rota_certificate.specs.PeriodBounds.{IsForWeeks, IsPeriod}
 use Rattle.rota_certificate.specs.Periods.{ArePeriod, Continue}
 use Rattle.rota_certificate.specs.Evidence.{AreLent, bound_by}
@@ -92,7 +92,7 @@ pub list-at : {X : Type 0} (f : X → List PriceTables) (xs : List X) (i : ℕ) 
     f x ≡ slice_index_or (map f xs) i []
 list-at f xs i x inside is = ap f is ∙ sym (get_or-map f xs i x [] inside)
 
-module _ (leaf : LeafTables) (weeks : List InstanceTables) (list : List PriceTables) (lent : AreLent leaf.weeks weeks list) where
+module _ (leaf : LentTables) (weeks : List InstanceTables) (list : List PriceTables) (lent : AreLent leaf.weeks weeks list) where
   pub lent-leaf : IsPeriod weeks → AreForWeeks weeks list → IsLimitedCase leaf.case → IsLeaf leaf
   lent-leaf period shapes case =
       let mine : AreForWeeks (instances leaf.weeks) (tables leaf.weeks) =

@@ -19,7 +19,7 @@ use Rattle.rota_certificate.specs.Facts.{charges_in_week}
 use Rattle.rota_certificate.specs.LeafBounds.{nurse_count}
 use Rattle.rota_certificate.specs.NurseBounds.{LeafWeek, Terms, charge_totals, least_days, nurse_bound, pay_for_history, rest_after}
 use Rattle.rota_certificate.specs.NurseCosts.{AllowsChoices, AllowsPlan, fixed_cost, nurse_cost, paid, paid_in_plan, tariff_cost}
-use Rattle.rota_certificate.specs.Plans.{History, KeepRules, PlannedWeek, after, history_after, plan_after, plan_of}
+use Rattle.rota_certificate.specs.Plans.{Pasts, KeepRules, PlannedWeek, after, history_after, plan_after, plan_of}
 use Rattle.rota_certificate.specs.Periods.{ArePeriod, Continue}
 use Rattle.rota_certificate.specs.declared.tariffs.Tariff.{Tariff}
 use Rattle.rota_certificate.proofs.OtherHistories.{history-free, week_after}
@@ -169,7 +169,7 @@ module _ (unit : ℕ) (tariff : Tariff) (n : ℕ) (is_early is_last : Bool) (con
       ap (λ (of_nurse : Contract). excess_cost is_early last_of_scenario tariff of_nurse (week.past n) (assignments_of week roster n) (worked_weekend week roster n)) is.contract_is
 
   -- a week, and the time after it
-  week-bounded : (one : LeafWeek) (history : History) (roster : Roster) (last_of_scenario : Bool) (rest : Past → ℕ) → ArePrices one.prices →
+  week-bounded : (one : LeafWeek) (history : Pasts) (roster : Roster) (last_of_scenario : Bool) (rest : Past → ℕ) → ArePrices one.prices →
       KeepsHardRules (after one.week history) roster → n < one.week.nurses →
       AllowsChoices one (record { week = after one.week history; roster = roster }) n →
       IsCharged is_early last_of_scenario contract n one.week →
@@ -188,7 +188,7 @@ module _ (unit : ℕ) (tariff : Tariff) (n : ℕ) (is_early is_last : Bool) (con
       let excess = excess-is last_of_scenario now roster (record { early = is.early; last = is.last; contract_is = is.contract_is }) in
       omega (arith, free, bounded, before, left, excess)
 
-  weeks-bounded : (first : LeafWeek) (later : List LeafWeek) (rosters : List Roster) (history : History) → HavePrices (first ∷ later) →
+  weeks-bounded : (first : LeafWeek) (later : List LeafWeek) (rosters : List Roster) (history : Pasts) → HavePrices (first ∷ later) →
       Continue first.week (weeks_of later) → length rosters ≡ length (weeks_of (first ∷ later)) →
       AllByRecursion (λ one. KeepsHardRules one.week one.roster) (plan_after history (weeks_of (first ∷ later)) rosters) →
       n < first.week.nurses → AllowsPlan (first ∷ later) (plan_after history (weeks_of (first ∷ later)) rosters) n →

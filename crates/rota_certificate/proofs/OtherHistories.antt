@@ -3,14 +3,14 @@ use Rattle.std.proofs.Common.{◌≡◌, ℕ, zero, suc, ◌+◌, ◌-◌, cond,
 use Rattle.std.specs.Prelude.{Option, Some, None}
 use Rattle.rota_core.specs.Sizes.{DAYS}
 use Rattle.rota_core.specs.declared.values.Past.{Past}
-use Rattle.rota_certificate.specs.DayCharges.{day_cost, past_after}
+use Rattle.rota_certificate.specs.DayCharges.{choice_cost, past_after}
 use Rattle.rota_certificate.specs.Minimums.{least_below, not_allowed}
 use Rattle.rota_certificate.specs.NurseBounds.{LeafWeek, Terms, allowed_rebate, choice_value, is_barred, least_choice, least_days}
-use Rattle.rota_certificate.specs.Plans.{History, after}
+use Rattle.rota_certificate.specs.Plans.{Pasts, after}
 use Rattle.rota_certificate.proofs.Sums.{least-same}
 
 -- the week of a leaf, with this history before it
-abbrev pub week_after : LeafWeek → History → LeafWeek
+abbrev pub week_after : LeafWeek → Pasts → LeafWeek
 week_after one history = record one { week = after one.week history }
 
 module _ (terms : Terms) (leaf : LeafWeek) (n : ℕ) where
@@ -18,10 +18,10 @@ module _ (terms : Terms) (leaf : LeafWeek) (n : ℕ) where
   value-alike : (d : ℕ) (past : Past) (one other : Past → ℕ) → ((p : Past) → one p ≡ other p) → (choice : Option ℕ) →
       choice_value terms leaf n d past one choice ≡ choice_value terms leaf n d past other choice
   value-alike d past one other same None =
-      ap (λ (r : ℕ). day_cost terms.unit terms.tariff terms.charged leaf.week n d past None + allowed_rebate leaf n d None + r) (same (past_after d past None))
+      ap (λ (r : ℕ). choice_cost terms.unit terms.tariff terms.charged leaf.week n d past None + allowed_rebate leaf n d None + r) (same (past_after d past None))
   value-alike d past one other same (Some s) =
       ap (λ (r : ℕ). cond (is_barred leaf.week past (Some s)) not_allowed
-      (day_cost terms.unit terms.tariff terms.charged leaf.week n d past (Some s) + allowed_rebate leaf n d (Some s) + r)) (same (past_after d past (Some s)))
+      (choice_cost terms.unit terms.tariff terms.charged leaf.week n d past (Some s) + allowed_rebate leaf n d (Some s) + r)) (same (past_after d past (Some s)))
 
   pub least_choice-alike : (d : ℕ) (past : Past) (one other : Past → ℕ) → ((p : Past) → one p ≡ other p) →
       least_choice terms leaf n d past one ≡ least_choice terms leaf n d past other
@@ -32,7 +32,7 @@ module _ (terms : Terms) (leaf : LeafWeek) (n : ℕ) where
       (value-alike d past one other same None) ∙
       ap (λ (v : ℕ). min (choice_value terms leaf n d past other None) v) on
 
-  pub history-free : (history : History) (rest : Past → ℕ) (days_left : ℕ) (past : Past) →
+  pub history-free : (history : Pasts) (rest : Past → ℕ) (days_left : ℕ) (past : Past) →
       least_days terms (week_after leaf history) n rest days_left past ≡ least_days terms leaf n rest days_left past
   unfolding least_days
   history-free history rest zero past = refl

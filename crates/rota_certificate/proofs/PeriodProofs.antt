@@ -1,18 +1,18 @@
 -- The claims that the certificate of a period proves.
-use Rattle.std.proofs.Common.{◌≡◌, ℕ, ◌<◌, ◌≤◌, sym, subst, List, [], ◌∷◌, length, map, slice_index_or}
+use Rattle.std.proofs.Common.{◌≡◌, ℕ, ◌*◌, ◌<◌, ◌≤◌, ap, sym, subst, arith, List, [], ◌∷◌, length, map, slice_index_or}
 use Rattle.std.specs.List.{AllByRecursion}
 use Rattle.std.proofs.lemmas.List.{length-map}
-use Rattle.rota_core.specs.Certificates.{AreConditionsFor, IsCertificateFor, IsFactFor, IsLeafFor, IsNodeFor, IsTreeOf, Tree}
+use Rattle.rota_core.specs.Certificates.{AreConditionsFor, IsCertificateFor, IsFactFor, IsLeafFor, IsTreeFor}
 use Rattle.rota_core.specs.InstanceTables.{InstanceTables, problem_of}
+use Rattle.rota_core.specs.Limits.{max_number}
 use Rattle.rota_core.specs.Problem.{Problem}
 use Rattle.rota_core.specs.Sizes.{Numbers}
+use Rattle.rota_core.specs.TreeNodes.{NodeTables, leaf_with, nodes_of, split_by}
+use Rattle.rota_core.specs.Trees.{Tree, leaf_tree, split_tree}
 use Rattle.rota_core.specs.declared.certificate.Certificate.{Certificate}
 use Rattle.rota_core.specs.declared.certificate.Condition.{Condition}
 use Rattle.rota_core.specs.declared.certificate.Fact.{Fact}
 use Rattle.rota_core.specs.declared.certificate.Fact.TheVariants.{Charges, Choice, EvenShiftRuns, Nurses}
-use Rattle.rota_core.specs.declared.certificate.Leaf.{Leaf}
-use Rattle.rota_core.specs.declared.certificate.Node.{Node}
-use Rattle.rota_core.specs.declared.certificate.Node.TheVariants as nodes
 use Rattle.rota_certificate.specs.CaseLimits.{IsLimited}
 use Rattle.rota_certificate.specs.CertificateBounds.{HaveTables, lower_bound, minimums_bound}
 use Rattle.rota_certificate.specs.Facts.{Case}
@@ -20,8 +20,8 @@ use Rattle.rota_certificate.specs.PeriodBounds.{AreEvidence, AreEvidenceFor, Are
 use Rattle.rota_certificate.specs.Plans.{plan_cost, plan_of}
 use Rattle.rota_certificate.proofs.CertificateSoundness.{lower_bound-sound, minimums-prove}
 use Rattle.rota_certificate.proofs.LeafStages.{all-map}
-use Rattle.rota_certificate.proofs.ListSteps.{each-at}
-use Rattle.rota_certificate.proofs.TreeSoundness.{PassesNode}
+use Rattle.rota_certificate.proofs.ListSteps.{all-append, each-at}
+use Rattle.rota_certificate.proofs.TreePaths.{nodes-count}
 
 -- ---- limits
 
@@ -37,21 +37,35 @@ given-limited numbers weeks given are_for =
     all-map (λ (one : Condition). IsFactFor numbers weeks one.fact) (λ (one : Condition). IsLimited one.fact) given
     (λ one is. fact-limited numbers weeks one.fact is) are_for
 
-node-limited : (numbers : Numbers) (weeks prices : ℕ) (node : Node) → IsNodeFor numbers weeks prices node →
-    PassesNode IsLimited (IsLeafFor prices) node
-node-limited numbers weeks prices (nodes.Split fact) is = fact-limited numbers weeks fact is
-node-limited numbers weeks prices (nodes.Leaf leaf) is = is
-
 -- the fact of a split is limited, and a leaf has prices and limited surcharges
-pub node-at : (weeks : List InstanceTables) (certificate : Certificate) (i : ℕ) (node : Node) → IsForWeeks weeks certificate →
-    i < length certificate.nodes.items → node ≡ slice_index_or certificate.nodes.items i node →
-    PassesNode IsLimited (IsLeafFor (length certificate.prices.items)) node
-node-at [] certificate i node is_for inside is = absurd is_for
-node-at (first ∷ later) certificate i node is_for inside is =
-    let numbers = (problem_of first).numbers in
-    let prices = length certificate.prices.items in
-    node-limited numbers (length (first ∷ later)) prices node
-    (each-at (IsNodeFor numbers (length (first ∷ later)) prices) certificate.nodes.items i node is_for.nodes inside is)
+abbrev pub IsLimitedNode : (prices : ℕ) → NodeTables → Type 0
+IsLimitedNode prices (split_by fact) = IsLimited fact
+IsLimitedNode prices (leaf_with leaf) = IsLeafFor prices leaf
+
+nodes-limited : (numbers : Numbers) (weeks prices : ℕ) (tree : Tree) → IsTreeFor numbers weeks prices tree →
+    AllByRecursion (IsLimitedNode prices) (nodes_of tree)
+unfolding IsTreeFor nodes_of
+nodes-limited numbers weeks prices (leaf_tree one) is = (is, tt)
+nodes-limited numbers weeks prices (split_tree fact first second) is = (
+  fact-limited numbers weeks fact is.0,
+  all-append (IsLimitedNode prices) (nodes_of first) (nodes_of second) (nodes-limited numbers weeks prices first is.1)
+      (nodes-limited numbers weeks prices second is.2),
+)
+
+module _ (certificate : Certificate) (list : List NodeTables) (is_tree : list ≡ nodes_of certificate.tree) where
+  pub node-at : (weeks : List InstanceTables) (i : ℕ) (node : NodeTables) → IsForWeeks weeks certificate → i < length list →
+      node ≡ slice_index_or list i node → IsLimitedNode (length certificate.prices.items) node
+  node-at [] i node is_for inside is = absurd is_for
+  node-at (first ∷ later) i node is_for inside is =
+      let prices = length certificate.prices.items in
+      each-at (IsLimitedNode prices) list i node
+      (subst (AllByRecursion (IsLimitedNode prices)) (sym is_tree)
+      (nodes-limited (problem_of first).numbers (length (first ∷ later)) prices certificate.tree is_for.tree)) inside is
+
+  -- there are at most as many nodes as a file may have
+  pub few-nodes : (weeks : List InstanceTables) → IsForWeeks weeks certificate → length list ≤ 2 * max_number
+  few-nodes [] is_for = absurd is_for
+  few-nodes (first ∷ later) is_for = omega (arith, ap length is_tree, nodes-count certificate.tree, is_for.count)
 
 -- ---- soundness
 
@@ -67,19 +81,14 @@ module _ (given : Case) (certificate : Certificate) (tables : HaveTables certifi
         tables = tables;
       }
 
-  -- evidence is of a certificate that has a tree
-  pub has-tree : (weeks : List InstanceTables) → AreEvidence weeks given certificate → (tree : Tree Leaf) × IsTreeOf certificate tree
-  has-tree [] evidence = absurd evidence.is_for
-  has-tree (first ∷ later) evidence = evidence.is_for.tree
-
-  pub none-cost_less : (weeks : List InstanceTables) → AreEvidence weeks given certificate → (tree : Tree Leaf) → IsTreeOf certificate tree →
-      NoneCostLess (map problem_of weeks) given (lower_bound (map problem_of weeks) given certificate tree)
+  pub none-cost_less : (weeks : List InstanceTables) → AreEvidence weeks given certificate →
+      NoneCostLess (map problem_of weeks) given (lower_bound (map problem_of weeks) given certificate)
   none-cost_less [] evidence = absurd evidence.is_for
   none-cost_less (first ∷ later) evidence =
       lower_bound-sound (problem_of first) (map problem_of later) given certificate (for-problems first later evidence)
 
-  pub have-no-plan : (weeks : List InstanceTables) → AreEvidence weeks given certificate → (tree : Tree Leaf) → IsTreeOf certificate tree →
-      0 < minimums_bound (map problem_of weeks) given certificate tree → HaveNoPlan (map problem_of weeks) given
+  pub have-no-plan : (weeks : List InstanceTables) → AreEvidence weeks given certificate →
+      0 < minimums_bound (map problem_of weeks) given certificate → HaveNoPlan (map problem_of weeks) given
   have-no-plan [] evidence = absurd evidence.is_for
   have-no-plan (first ∷ later) evidence =
       minimums-prove (problem_of first) (map problem_of later) given certificate (for-problems first later evidence)

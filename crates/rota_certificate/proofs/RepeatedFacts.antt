@@ -3,12 +3,10 @@ use Rattle.std.proofs.Common.{◌≡◌, ◌↔◌, ◌⊎◌, inl, inr, ℕ, �
 use Rattle.std.specs.Prelude.{IsSomeAnd, Some, None}
 use Rattle.std.specs.List.{Any}
 use Rattle.std.proofs.lemmas.List.{append-nil, append_assoc, drop_all, get_or-reverse, length-reverse, reverse-reverse}
-use Rattle.rota_core.specs.Certificates.{Tree, leaf_tree, nodes_of, split_tree}
+use Rattle.rota_core.specs.TreeNodes.{NodeTables, leaf_with, nodes_of, split_by}
+use Rattle.rota_core.specs.Trees.{LeafTables, Tree, leaf_tree, split_tree}
 use Rattle.rota_core.specs.declared.certificate.Condition.{Condition}
 use Rattle.rota_core.specs.declared.certificate.Fact.{Fact}
-use Rattle.rota_core.specs.declared.certificate.Leaf.{Leaf}
-use Rattle.rota_core.specs.declared.certificate.Node.{Node}
-use Rattle.rota_core.specs.declared.certificate.Node.TheVariants as nodes
 use Rattle.rota_certificate.specs.CasePaths.{CasePath, IsOnPath, Repeats, with, without}
 use Rattle.rota_certificate.specs.NextPaths.{next_path}
 use Rattle.rota_certificate.proofs.ListSteps.{list-more}
@@ -37,16 +35,16 @@ on-forward fact items is = subst (IsOnPath fact) (reverse-reverse items) (any-re
 -- ---- the nodes of a tree in preorder
 
 -- from this node on, a split has a fact that is on its path; the path leads to this node
-unfoldable pub RepeatsFrom : CasePath → List Node → Type 0
+unfoldable pub RepeatsFrom : CasePath → List NodeTables → Type 0
 RepeatsFrom path [] = ⊥
-RepeatsFrom path (nodes.Split fact ∷ later) = IsOnPath fact path ⊎ RepeatsFrom (with fact ∷ path) later
-RepeatsFrom path (nodes.Leaf leaf ∷ later) = IsSomeAnd (next_path path) (λ next. RepeatsFrom next later)
+RepeatsFrom path (split_by fact ∷ later) = IsOnPath fact path ⊎ RepeatsFrom (with fact ∷ path) later
+RepeatsFrom path (leaf_with leaf ∷ later) = IsSomeAnd (next_path path) (λ next. RepeatsFrom next later)
 
 -- the tree at the end of the path has such a split, or the nodes after it
-abbrev IsThereOrLater : CasePath → Tree Leaf → List Node → Type 0
+abbrev IsThereOrLater : CasePath → Tree → List NodeTables → Type 0
 IsThereOrLater path tree later = Repeats path tree ⊎ IsSomeAnd (next_path path) (λ next. RepeatsFrom next later)
 
-from-nodes : (path : CasePath) (tree : Tree Leaf) (later : List Node) → RepeatsFrom path (nodes_of tree ++ later) → IsThereOrLater path tree later
+from-nodes : (path : CasePath) (tree : Tree) (later : List NodeTables) → RepeatsFrom path (nodes_of tree ++ later) → IsThereOrLater path tree later
 unfolding RepeatsFrom Repeats nodes_of next_path
 from-nodes path (leaf_tree one) later repeats = inr repeats
 from-nodes path (split_tree fact first second) later (inl on) = inl (inl on)
@@ -61,7 +59,7 @@ from-nodes path (split_tree fact first second) later (inr more) =
           ]
     ]
 
-to-nodes : (path : CasePath) (tree : Tree Leaf) (later : List Node) → IsThereOrLater path tree later → RepeatsFrom path (nodes_of tree ++ later)
+to-nodes : (path : CasePath) (tree : Tree) (later : List NodeTables) → IsThereOrLater path tree later → RepeatsFrom path (nodes_of tree ++ later)
 unfolding RepeatsFrom Repeats nodes_of next_path
 to-nodes path (leaf_tree one) later (inl here) = absurd here
 to-nodes path (leaf_tree one) later (inr next) = next
@@ -83,7 +81,7 @@ to-nodes path (split_tree fact first second) later there =
     ]
 
 -- all nodes of a tree
-module _ (list : List Node) (tree : Tree Leaf) (is : list ≡ nodes_of tree) where
+module _ (list : List NodeTables) (tree : Tree) (is : list ≡ nodes_of tree) where
   whole : list ≡ nodes_of tree ++ []
   whole = is ∙ sym (append-nil (nodes_of tree))
 
@@ -101,14 +99,14 @@ module _ (list : List Node) (tree : Tree Leaf) (is : list ≡ nodes_of tree) whe
 -- ---- the nodes from an index on
 
 -- from the node with this index on, a fact is repeated if and only if one is in the whole tree
-abbrev pub IsLeft : (tree : List Node) (i : ℕ) (items : List Condition) → Type 0
+abbrev pub IsLeft : (tree : List NodeTables) (i : ℕ) (items : List Condition) → Type 0
 IsLeft tree i items = RepeatsFrom [] tree ↔ RepeatsFrom (reverse items) (drop i tree)
 
-module _ (tree : List Node) (i : ℕ) (items : List Condition) (node : Node) (inside : i < length tree)
+module _ (tree : List NodeTables) (i : ℕ) (items : List Condition) (node : NodeTables) (inside : i < length tree)
     (is : node ≡ slice_index_or tree i node) (left : IsLeft tree i items) where
-  module _ (fact : Fact) (split : node ≡ nodes.Split fact) where
-    split-is : drop i tree ≡ (nodes.Split fact ∷ drop (i + 1) tree)
-    split-is = list-more tree i node inside is ∙ ap (λ (one : Node). one ∷ drop (i + 1) tree) split
+  module _ (fact : Fact) (split : node ≡ split_by fact) where
+    split-is : drop i tree ≡ (split_by fact ∷ drop (i + 1) tree)
+    split-is = list-more tree i node inside is ∙ ap (λ (one : NodeTables). one ∷ drop (i + 1) tree) split
 
     at-split : RepeatsFrom [] tree → IsOnPath fact (reverse items) ⊎ RepeatsFrom (with fact ∷ reverse items) (drop (i + 1) tree)
     unfolding RepeatsFrom
@@ -135,9 +133,9 @@ module _ (tree : List Node) (i : ℕ) (items : List Condition) (node : Node) (in
               from-split (inr (subst (λ (one : CasePath). RepeatsFrom one (drop (i + 1) tree)) path later)),
         )
 
-  module _ (leaf : Leaf) (is_leaf : node ≡ nodes.Leaf leaf) where
-    leaf-is : drop i tree ≡ (nodes.Leaf leaf ∷ drop (i + 1) tree)
-    leaf-is = list-more tree i node inside is ∙ ap (λ (one : Node). one ∷ drop (i + 1) tree) is_leaf
+  module _ (leaf : LeafTables) (is_leaf : node ≡ leaf_with leaf) where
+    leaf-is : drop i tree ≡ (leaf_with leaf ∷ drop (i + 1) tree)
+    leaf-is = list-more tree i node inside is ∙ ap (λ (one : NodeTables). one ∷ drop (i + 1) tree) is_leaf
 
     at-leaf : RepeatsFrom [] tree → IsSomeAnd (next_path (reverse items)) (λ next. RepeatsFrom next (drop (i + 1) tree))
     unfolding RepeatsFrom
@@ -156,6 +154,6 @@ module _ (tree : List Node) (i : ℕ) (items : List Condition) (node : Node) (in
     pub none-after_last : next_path (reverse items) ≡ None → RepeatsFrom [] tree → ⊥
     none-after_last none repeats = rw none at (at-leaf repeats)
 
-pub none-at_end : (tree : List Node) (i : ℕ) (items : List Condition) → length tree ≤ i → IsLeft tree i items → RepeatsFrom [] tree → ⊥
+pub none-at_end : (tree : List NodeTables) (i : ℕ) (items : List Condition) → length tree ≤ i → IsLeft tree i items → RepeatsFrom [] tree → ⊥
 unfolding RepeatsFrom
 none-at_end tree i items past left repeats = subst (RepeatsFrom (reverse items)) (drop_all i tree past) (left.0 repeats)

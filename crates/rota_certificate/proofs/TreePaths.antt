@@ -1,16 +1,15 @@
 -- Steps through a tree of cases.
-use Rattle.std.proofs.Common.{◌≡◌, ℕ, ◌+◌, ◌*◌, ◌<◌, ◌≤◌, Bool, true, false, refl, ap, sym, ◌∙◌, subst, cond, min, arith, List, [], ◌∷◌, ◌++◌, length, drop, reverse, slice_index_or}
+use Rattle.std.proofs.Common.{◌≡◌, ℕ, ◌+◌, ◌*◌, ◌<◌, ◌≤◌, Bool, true, false, refl, ap, sym, ◌∙◌, subst, cond, min, arith, List, [], ◌∷◌, ◌++◌, length, drop, map, reverse, slice_index_or}
 use Rattle.std.specs.Prelude.{Option, Some, None}
 use Rattle.std.specs.Option.{option_map_or}
 use Rattle.std.specs.List.{AllByRecursion}
-use Rattle.std.proofs.lemmas.List.{append-nil, append_assoc, drop_all, length-append, length-reverse, reverse-append, reverse-reverse}
-use Rattle.rota_core.specs.Certificates.{Tree, leaf_tree, nodes_of, split_tree}
+use Rattle.std.proofs.lemmas.List.{append-nil, append_assoc, drop_all, get_or-map, length-append, length-map, length-reverse, reverse-append, reverse-reverse}
+use Rattle.rota_core.specs.TreeNodes.{NodeTables, leaf_with, node_of, nodes_of, split_by}
+use Rattle.rota_core.specs.Trees.{LeafTables, Tree, leaf_tree, leaves_in, split_tree}
 use Rattle.rota_core.specs.Limits.{max_number}
 use Rattle.rota_core.specs.declared.certificate.Condition.{Condition}
 use Rattle.rota_core.specs.declared.certificate.Fact.{Fact}
-use Rattle.rota_core.specs.declared.certificate.Leaf.{Leaf}
 use Rattle.rota_core.specs.declared.certificate.Node.{Node}
-use Rattle.rota_core.specs.declared.certificate.Node.TheVariants as nodes
 use Rattle.rota_certificate.specs.CaseLimits.{IsLimited, IsLimitedCase}
 use Rattle.rota_certificate.specs.CasePaths.{CasePath, with, without}
 use Rattle.rota_certificate.specs.NextPaths.{next_path}
@@ -64,10 +63,10 @@ next-short n (last ∷ path) next is few each =
 -- ---- the nodes of a tree in preorder
 
 -- the minimum of the bounds of the leaves from a node on; the path leads to this node
-unfoldable pub least_from : (CasePath → Leaf → ℕ) → CasePath → List Node → ℕ
+unfoldable pub least_from : (CasePath → LeafTables → ℕ) → CasePath → List NodeTables → ℕ
 least_from bound path [] = 0
-least_from bound path (nodes.Split fact ∷ later) = least_from bound (with fact ∷ path) later
-least_from bound path (nodes.Leaf leaf ∷ later) =
+least_from bound path (split_by fact ∷ later) = least_from bound (with fact ∷ path) later
+least_from bound path (leaf_with leaf ∷ later) =
     option_map_or (λ next. min (bound path leaf) (least_from bound next later)) (next_path path) (bound path leaf)
 
 min-later : (a b : ℕ) (f : CasePath → ℕ) (next : Option CasePath) →
@@ -75,8 +74,15 @@ min-later : (a b : ℕ) (f : CasePath → ℕ) (next : Option CasePath) →
 min-later a b f None = refl
 min-later a b f (Some one) = omega arith
 
+-- a tree has one split less than leaves
+pub nodes-count : (tree : Tree) → length (nodes_of tree) + 1 ≡ 2 * leaves_in tree
+unfolding nodes_of leaves_in
+nodes-count (leaf_tree one) = refl
+nodes-count (split_tree fact first second) =
+    omega (arith, length-append (nodes_of first) (nodes_of second), nodes-count first, nodes-count second)
+
 -- the nodes of the tree at the end of the path, and those after it
-least-tree : (bound : CasePath → Leaf → ℕ) (path : CasePath) (tree : Tree Leaf) (later : List Node) →
+least-tree : (bound : CasePath → LeafTables → ℕ) (path : CasePath) (tree : Tree) (later : List NodeTables) →
     least_from bound path (nodes_of tree ++ later) ≡
     option_map_or (λ next. min (least_bound bound path tree) (least_from bound next later)) (next_path path) (least_bound bound path tree)
 unfolding least_from least_bound nodes_of next_path
@@ -89,36 +95,44 @@ least-tree bound path (split_tree fact first second) later =
     (λ next. least_from bound next later) (next_path path)
 
 -- all nodes of a tree
-pub least-whole : (bound : CasePath → Leaf → ℕ) (list : List Node) (tree : Tree Leaf) → list ≡ nodes_of tree →
+pub least-whole : (bound : CasePath → LeafTables → ℕ) (list : List NodeTables) (tree : Tree) → list ≡ nodes_of tree →
     least_from bound [] list ≡ least_bound bound [] tree
 unfolding next_path
 least-whole bound list tree is = ap (least_from bound []) (is ∙ sym (append-nil (nodes_of tree))) ∙ least-tree bound [] tree []
 
 -- ---- the nodes from an index on
 
-module _ (bound : CasePath → Leaf → ℕ) (path : CasePath) (tree : List Node) (i : ℕ) (node : Node) (inside : i < length tree)
+-- the contents of a node, from its index on
+module _ (items : List Node) (i : ℕ) (node : Node) (inside : i < length items) (is : node ≡ slice_index_or items i node) where
+  pub kept-inside : i < length (map node_of items)
+  kept-inside = omega (arith, length-map items node_of, inside)
+
+  pub kept-at : node_of node ≡ slice_index_or (map node_of items) i (node_of node)
+  kept-at = ap node_of is ∙ sym (get_or-map node_of items i node (node_of node) inside)
+
+module _ (bound : CasePath → LeafTables → ℕ) (path : CasePath) (tree : List NodeTables) (i : ℕ) (node : NodeTables) (inside : i < length tree)
     (is : node ≡ slice_index_or tree i node) where
   least-node : least_from bound path (drop i tree) ≡ least_from bound path (node ∷ drop (i + 1) tree)
   least-node = ap (least_from bound path) (list-more tree i node inside is)
 
-  pub least-split : (fact : Fact) → node ≡ nodes.Split fact →
+  pub least-split : (fact : Fact) → node ≡ split_by fact →
       least_from bound path (drop i tree) ≡ least_from bound (with fact ∷ path) (drop (i + 1) tree)
   unfolding least_from
-  least-split fact split = least-node ∙ ap (λ (one : Node). least_from bound path (one ∷ drop (i + 1) tree)) split
+  least-split fact split = least-node ∙ ap (λ (one : NodeTables). least_from bound path (one ∷ drop (i + 1) tree)) split
 
-  least-leaf : (leaf : Leaf) → node ≡ nodes.Leaf leaf → least_from bound path (drop i tree) ≡
+  least-leaf : (leaf : LeafTables) → node ≡ leaf_with leaf → least_from bound path (drop i tree) ≡
       option_map_or (λ next. min (bound path leaf) (least_from bound next (drop (i + 1) tree))) (next_path path) (bound path leaf)
   unfolding least_from
-  least-leaf leaf is_leaf = least-node ∙ ap (λ (one : Node). least_from bound path (one ∷ drop (i + 1) tree)) is_leaf
+  least-leaf leaf is_leaf = least-node ∙ ap (λ (one : NodeTables). least_from bound path (one ∷ drop (i + 1) tree)) is_leaf
 
-  pub least-later : (leaf : Leaf) (next : CasePath) → node ≡ nodes.Leaf leaf → next_path path ≡ Some next →
+  pub least-later : (leaf : LeafTables) (next : CasePath) → node ≡ leaf_with leaf → next_path path ≡ Some next →
       least_from bound path (drop i tree) ≡ min (bound path leaf) (least_from bound next (drop (i + 1) tree))
   least-later leaf next is_leaf later = least-leaf leaf is_leaf ∙ rw later refl
 
-  pub least-last : (leaf : Leaf) → node ≡ nodes.Leaf leaf → next_path path ≡ None → least_from bound path (drop i tree) ≡ bound path leaf
+  pub least-last : (leaf : LeafTables) → node ≡ leaf_with leaf → next_path path ≡ None → least_from bound path (drop i tree) ≡ bound path leaf
   least-last leaf is_leaf none = least-leaf leaf is_leaf ∙ rw none refl
 
-pub least-end : (bound : CasePath → Leaf → ℕ) (path : CasePath) (tree : List Node) (i : ℕ) → length tree ≤ i → least_from bound path (drop i tree) ≡ 0
+pub least-end : (bound : CasePath → LeafTables → ℕ) (path : CasePath) (tree : List NodeTables) (i : ℕ) → length tree ≤ i → least_from bound path (drop i tree) ≡ 0
 unfolding least_from
 least-end bound path tree i past = ap (least_from bound path) (drop_all i tree past)
 
@@ -150,13 +164,13 @@ case-limited items given path few each = record {
 -- ---- the search for the minimum
 
 -- before the node with this index, these are the minimum so far and the conditions of the path
-pub record IsSearched (bound : CasePath → Leaf → ℕ) (tree : List Node) (i least : ℕ) (items : List Condition) : Type 0 where
+pub record IsSearched (bound : CasePath → LeafTables → ℕ) (tree : List NodeTables) (i least : ℕ) (items : List Condition) : Type 0 where
   pub minimum : min least (least_from bound (reverse items) (drop i tree)) ≡ min 18446744073709551615 (least_from bound [] tree)
   pub path : IsShortPath i items
 
-module _ (bound : CasePath → Leaf → ℕ) (tree : List Node) (i least : ℕ) (items : List Condition) (node : Node) (inside : i < length tree)
+module _ (bound : CasePath → LeafTables → ℕ) (tree : List NodeTables) (i least : ℕ) (items : List Condition) (node : NodeTables) (inside : i < length tree)
     (is : node ≡ slice_index_or tree i node) (searched : IsSearched bound tree i least items) where
-  pub after-split : (fact : Fact) (after : List Condition) → node ≡ nodes.Split fact → IsLimited fact → after ≡ items ++ (with fact ∷ []) →
+  pub after-split : (fact : Fact) (after : List Condition) → node ≡ split_by fact → IsLimited fact → after ≡ items ++ (with fact ∷ []) →
       IsSearched bound tree (i + 1) least after
   after-split fact after split limited pushed =
       let same = least-split bound (reverse items) tree i node inside is fact split ∙
@@ -170,7 +184,7 @@ module _ (bound : CasePath → Leaf → ℕ) (tree : List Node) (i least : ℕ) 
         };
       }
 
-  pub after-leaf : (leaf : Leaf) (after : List Condition) (found : ℕ) → node ≡ nodes.Leaf leaf → next_path (reverse items) ≡ Some (reverse after) →
+  pub after-leaf : (leaf : LeafTables) (after : List Condition) (found : ℕ) → node ≡ leaf_with leaf → next_path (reverse items) ≡ Some (reverse after) →
       found ≡ bound (reverse items) leaf → IsSearched bound tree (i + 1) (min least found) after
   after-leaf leaf after found is_leaf next is_bound =
       let same = least-later bound (reverse items) tree i node inside is leaf (reverse after) is_leaf next in
@@ -180,11 +194,11 @@ module _ (bound : CasePath → Leaf → ℕ) (tree : List Node) (i least : ℕ) 
         path = record { few = omega (arith, short.few); each = short.each };
       }
 
-  pub at-last : (leaf : Leaf) (found : ℕ) → node ≡ nodes.Leaf leaf → next_path (reverse items) ≡ None → found ≡ bound (reverse items) leaf →
+  pub at-last : (leaf : LeafTables) (found : ℕ) → node ≡ leaf_with leaf → next_path (reverse items) ≡ None → found ≡ bound (reverse items) leaf →
       found ≤ most_bound → min least found ≡ least_from bound [] tree
   at-last leaf found is_leaf none is_bound small =
       omega (arith, least-last bound (reverse items) tree i node inside is leaf is_leaf none, is_bound, searched.minimum, small)
 
-pub at-end : (bound : CasePath → Leaf → ℕ) (tree : List Node) (i least : ℕ) (items : List Condition) → length tree ≤ i →
+pub at-end : (bound : CasePath → LeafTables → ℕ) (tree : List NodeTables) (i least : ℕ) (items : List Condition) → length tree ≤ i →
     IsSearched bound tree i least items → 0 ≡ least_from bound [] tree
 at-end bound tree i least items past searched = omega (arith, least-end bound (reverse items) tree i past, searched.minimum)

@@ -21,8 +21,7 @@ use Rattle.rota_rules.specs.CompleteWeekends.{complete_weekend_cost_of}
 use Rattle.rota_rules.specs.ConsecutiveAssignments.{history_on, work_run_weight}
 use Rattle.rota_rules.specs.ConsecutiveDaysOff.{consecutive_day_off_cost_of, off_run_weight}
 use Rattle.rota_rules.specs.ShiftOffRequests.{request_weight}
-use Rattle.rota_certificate.specs.DayCharges as charges
-use Rattle.rota_certificate.specs.DayCharges.{assignment_above, is_shift, over_charge, past_after, run_charge, run_on, shift_charges, under_charge}
+use Rattle.rota_certificate.specs.DayCharges.{assignment_above, choice_cost, is_shift, over_charge, past_after, run_charge, run_on, shift_charges, under_charge}
 use Rattle.rota_certificate.specs.DayCharges.{totals_cost, weekend_above, weekend_charge, weekend_on, weighted}
 use Rattle.rota_certificate.specs.Facts.{charges_in_week}
 use Rattle.rota_certificate.specs.NurseBounds.{LeafWeek, Terms, least_days}
@@ -224,7 +223,7 @@ module _ (terms : Terms) (one : LeafWeek) (roster : Roster) (n : ℕ) (within : 
 
   -- the costs of a day after the past
   day-bounded : (d : ℕ) (past : Past) (choice : Option ℕ) → Follows problem prices roster n d past → Chooses problem prices roster n d choice →
-      charges.day_cost terms.unit terms.tariff terms.charged problem n d past choice + grown_to past ≤
+      choice_cost terms.unit terms.tariff terms.charged problem n d past choice + grown_to past ≤
       cost_on d + grown_to (past_after d past choice)
   day-bounded d past choice follows chooses =
       let shifts = weighted-most terms.tariff.shift_runs (shift_charges problem past choice) (shifts_on problem prices roster n d)

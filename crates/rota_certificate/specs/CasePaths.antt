@@ -1,11 +1,10 @@
 -- The paths of a tree of cases, and facts that are on a path more than once.
 use Rattle.std.specs.Prelude.{◌≡◌, ◌⊎◌, true, false, List, [], ◌∷◌}
 use Rattle.std.specs.List.{Any}
-use Rattle.rota_core.specs.Certificates.{IsTreeOf, Tree, leaf_tree, split_tree}
+use Rattle.rota_core.specs.Trees.{Tree, leaf_tree, split_tree}
 use Rattle.rota_core.specs.declared.certificate.Certificate.{Certificate}
 use Rattle.rota_core.specs.declared.certificate.Condition.{Condition}
 use Rattle.rota_core.specs.declared.certificate.Fact.{Fact}
-use Rattle.rota_core.specs.declared.certificate.Leaf.{Leaf}
 
 -- the conditions from a node to the root
 abbrev pub CasePath : Type 0
@@ -24,12 +23,10 @@ abbrev pub IsOnPath : Fact → CasePath → Type 0
 IsOnPath fact path = Any (λ one. one.fact ≡ fact) path
 
 -- in the tree at the end of this path, a split has a fact that is on its path
-unfoldable pub Repeats : CasePath → Tree Leaf → Type 0
+unfoldable pub Repeats : CasePath → Tree → Type 0
 Repeats path (leaf_tree one) = ⊥
 Repeats path (split_tree fact first second) = IsOnPath fact path ⊎ Repeats (with fact ∷ path) first ⊎ Repeats (without fact ∷ path) second
 
 -- a split of the certificate's tree has a fact that is on its path
-pub record RepeatsFact (certificate : Certificate) : Type 0 where
-  pub tree : Tree Leaf
-  pub is : IsTreeOf certificate tree
-  pub repeats : Repeats [] tree
+abbrev pub RepeatsFact : Certificate → Type 0
+RepeatsFact certificate = Repeats [] certificate.tree

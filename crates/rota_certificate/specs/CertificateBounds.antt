@@ -2,15 +2,14 @@
 -- root, and the given conditions, which all plans are asked to meet.
 use Rattle.std.specs.Prelude.{ℕ, ◌+◌, ◌-◌, ◌/◌, ◌*◌, ◌++◌, Bool, true, false, min, if◌then◌else◌, List, [], ◌∷◌, map, reverse, slice_index_or}
 use Rattle.std.specs.List.{AllByRecursion, list_any}
-use Rattle.rota_core.specs.Certificates.{Tree, leaf_tree, split_tree}
 use Rattle.rota_core.specs.PriceTables.{PriceTables, prices_of}
 use Rattle.rota_core.specs.Prices.{ArePrices, Prices}
 pub use Rattle.rota_core.specs.Prices.{thousandths}
 use Rattle.rota_core.specs.Problem.{Problem}
+use Rattle.rota_core.specs.Trees.{LeafTables, Tree, leaf_tree, split_tree}
 use Rattle.rota_core.specs.declared.certificate.Certificate.{Certificate}
 use Rattle.rota_core.specs.declared.certificate.Fact.{Fact}
 use Rattle.rota_core.specs.declared.certificate.Fact.TheVariants.{EvenShiftRuns}
-use Rattle.rota_core.specs.declared.certificate.Leaf.{Leaf}
 use Rattle.rota_certificate.specs.CasePaths.{CasePath, with, without}
 use Rattle.rota_certificate.specs.Facts.{Case}
 use Rattle.rota_certificate.specs.LeafBounds.{leaf_bound}
@@ -47,7 +46,7 @@ rounded_up case sum =
 -- ---- the tree
 
 -- the minimum of the bounds of the leaves of the tree at the end of this path
-unfoldable pub least_bound : (CasePath → Leaf → ℕ) → CasePath → Tree Leaf → ℕ
+unfoldable pub least_bound : (CasePath → LeafTables → ℕ) → CasePath → Tree → ℕ
 least_bound bound path (leaf_tree one) = bound path one
 least_bound bound path (split_tree fact first second) =
     min (least_bound bound (with fact ∷ path) first) (least_bound bound (without fact ∷ path) second)
@@ -67,20 +66,20 @@ abbrev pub HaveTables : Certificate → Type 0
 HaveTables certificate = AllByRecursion (AllByRecursion (λ t. ArePrices (prices_of t))) (lists_of certificate)
 
 -- the prices of a leaf
-abbrev pub prices_of_leaf : Certificate → Leaf → List Prices
+abbrev pub prices_of_leaf : Certificate → LeafTables → List Prices
 prices_of_leaf certificate leaf = map prices_of (slice_index_or (lists_of certificate) leaf.prices [])
 
 -- the bound of a leaf of the certificate
-abbrev pub bound_at : ℕ → List Problem → (given : Case) → Certificate → CasePath → Leaf → ℕ
+abbrev pub bound_at : ℕ → List Problem → (given : Case) → Certificate → CasePath → LeafTables → ℕ
 bound_at unit weeks given certificate path leaf =
-    leaf_bound unit weeks (case_of path given) (prices_of_leaf certificate leaf) leaf.surcharges.items
+    leaf_bound unit weeks (case_of path given) (prices_of_leaf certificate leaf) leaf.surcharges
 
--- the lower bound of the cost of all plans of the weeks that meet the given conditions, in points, by the certificate with this tree
-abbrev pub lower_bound : List Problem → (given : Case) → Certificate → Tree Leaf → ℕ
-lower_bound weeks given certificate tree =
-    least_bound (λ path leaf. rounded_up (case_of path given) (bound_at thousandths weeks given certificate path leaf)) [] tree
+-- the lower bound of the cost of all plans of the weeks that meet the given conditions, in points, by the certificate
+abbrev pub lower_bound : List Problem → (given : Case) → Certificate → ℕ
+lower_bound weeks given certificate =
+    least_bound (λ path leaf. rounded_up (case_of path given) (bound_at thousandths weeks given certificate path leaf)) [] certificate.tree
 
 -- the bound with the soft rules and the surcharges left out: no plan meets the given conditions if it is above 0
-abbrev pub minimums_bound : List Problem → (given : Case) → Certificate → Tree Leaf → ℕ
-minimums_bound weeks given certificate tree =
-    least_bound (λ path leaf. leaf_bound 0 weeks (case_of path given) (prices_of_leaf certificate leaf) []) [] tree
+abbrev pub minimums_bound : List Problem → (given : Case) → Certificate → ℕ
+minimums_bound weeks given certificate =
+    least_bound (λ path leaf. leaf_bound 0 weeks (case_of path given) (prices_of_leaf certificate leaf) []) [] certificate.tree

@@ -100,8 +100,8 @@ totals_cost tariff contract d past choice =
     weighted tariff.assignments (assignment_above contract past choice) + weighted tariff.weekends (weekend_above contract d past choice)
 
 -- the cost of the day for a nurse with this past, by S2 to S7. `unit` is the value of a point; the totals count only if they are charged
-abbrev pub day_cost : (unit : ℕ) → Tariff → (charged : Bool) → Problem → (nurse day : ℕ) → Past → Option ℕ → ℕ
-day_cost unit tariff charged problem n d past choice =
+abbrev pub choice_cost : (unit : ℕ) → Tariff → (charged : Bool) → Problem → (nurse day : ℕ) → Past → Option ℕ → ℕ
+choice_cost unit tariff charged problem n d past choice =
     weighted tariff.shift_runs (shift_charges problem past choice) +
     weighted tariff.work_days (over_charge past.work_run (is_some choice) (problem.contract n).work) +
     unit * fixed_charge problem n d past choice +

@@ -5,9 +5,9 @@ use Rattle.rota_core.specs.InstanceTables.{InstanceTables, problem_of}
 use Rattle.rota_core.specs.PriceTables.{PriceTables}
 use Rattle.rota_core.specs.Prices.{Prices}
 use Rattle.rota_core.specs.Problem.{Problem}
+use Rattle.rota_core.specs.Trees.{LeafTables}
 use Rattle.rota_core.specs.declared.certificate.Certificate.{Certificate}
 use Rattle.rota_core.specs.declared.certificate.Condition.{Condition}
-use Rattle.rota_core.specs.declared.certificate.Leaf.{Leaf}
 use Rattle.rota_certificate.specs.CaseLimits.{IsLimited}
 use Rattle.rota_certificate.specs.CasePaths.{CasePath}
 use Rattle.rota_certificate.specs.CertificateBounds.{case_of, prices_of_leaf, rounded_up, thousandths}
@@ -45,7 +45,7 @@ bound_by rules.All weeks case prices surcharges = rounded_up case (leaf_bound th
 bound_by rules.Hard weeks case prices surcharges = leaf_bound 0 weeks case prices []
 
 -- the bound of a leaf of the certificate
-abbrev pub bound_asked : EvidenceTables → CasePath → Leaf → ℕ
+abbrev pub bound_asked : EvidenceTables → CasePath → LeafTables → ℕ
 bound_asked evidence path leaf =
     bound_by evidence.rules (map problem_of evidence.weeks) (case_of path evidence.given)
-    (prices_of_leaf evidence.certificate leaf) leaf.surcharges.items
+    (prices_of_leaf evidence.certificate leaf) leaf.surcharges

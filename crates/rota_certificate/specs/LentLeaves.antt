@@ -20,12 +20,12 @@ abbrev pub prices_lent : LentWeek → Prices
 prices_lent one = prices_of one.prices.now
 
 -- the weeks of a leaf that are lent with their prices, and the conditions of its case
-pub record LeafTables : Type 0 where
+pub record LentTables : Type 0 where
   pub weeks : List LentWeek
   pub case : Case
 
 -- the weeks of the leaf
-abbrev pub weeks_of : LeafTables → List LeafWeek
+abbrev pub weeks_of : LentTables → List LeafWeek
 weeks_of leaf = leaf_weeks leaf.case 0 (map week_lent leaf.weeks) (map prices_lent leaf.weeks)
 
 -- the prices are for the week, and the week has the numbers, limits and contracts of another
@@ -41,7 +41,7 @@ AreFit [] = ⊤
 AreFit (first ∷ later) = AllByRecursion (Fits (week_lent first)) (first ∷ later)
 
 -- the leaf has at least one week and at most `max_weeks`, all fit the first, and the numbers of its case are within their limits
-pub record IsLeaf (leaf : LeafTables) : Type 0 where
+pub record IsLeaf (leaf : LentTables) : Type 0 where
   pub some : 0 < length leaf.weeks
   pub count : length leaf.weeks ≤ max_weeks
   pub fit : AreFit leaf.weeks

@@ -12,7 +12,7 @@ use Rattle.rota_core.specs.declared.values.Past.{Past}
 use Rattle.rota_core.specs.Successions.{is_forbidden_after}
 use Rattle.rota_rules.specs.TotalAssignments.{assignment_weight}
 use Rattle.rota_certificate.specs.Minimums.{least_below, not_allowed}
-use Rattle.rota_certificate.specs.DayCharges.{day_cost, missing_total, past_after, start_cost}
+use Rattle.rota_certificate.specs.DayCharges.{choice_cost, missing_total, past_after, start_cost}
 use Rattle.rota_certificate.specs.declared.tariffs.Tariff.{Tariff}
 
 -- whether the nurse may be off that day: no cell of the day is held
@@ -72,7 +72,7 @@ abbrev pub choice_value : Terms → LeafWeek → (nurse day : ℕ) → Past → 
 choice_value terms one n d past rest choice =
     (if is_barred one.week past choice
     then not_allowed
-    else day_cost terms.unit terms.tariff terms.charged one.week n d past choice + allowed_rebate one n d choice +
+    else choice_cost terms.unit terms.tariff terms.charged one.week n d past choice + allowed_rebate one n d choice +
     rest (past_after d past choice))
 
 -- the minimum of these values over her choices for the day, but not more than `not_allowed`

@@ -17,11 +17,11 @@ use Rattle.rota_rules.specs.WorkedWeekends.{worked_weekend}
 use Rattle.rota_certificate.specs.FirstBelow.{first_below}
 
 -- a history: the past of each nurse
-abbrev pub History : Type 0
-History = (nurse : ℕ) → Past
+abbrev pub Pasts : Type 0
+Pasts = (nurse : ℕ) → Past
 
 -- the week, with this history before it
-abbrev pub after : Problem → History → Problem
+abbrev pub after : Problem → Pasts → Problem
 after week history = record week { past = history }
 
 -- the nurse's shift type on Sunday, if she works then
@@ -29,7 +29,7 @@ abbrev pub sunday_shift : Problem → Roster → ℕ → Option ℕ
 sunday_shift week roster n = first_below week.shifts (λ s. is_on week roster n s 6)
 
 -- the history after the week with this roster: the totals grow, and the runs are those up to Sunday; no number is limited as in a file
-abbrev pub history_after : Problem → Roster → History
+abbrev pub history_after : Problem → Roster → Pasts
 history_after week roster n = record {
   assignments = (week.past n).assignments + assignments_of week roster n;
   weekends = (week.past n).weekends + worked_weekend week roster n;
@@ -49,7 +49,7 @@ abbrev pub Plan : Type 0
 Plan = List PlannedWeek
 
 -- the plan of these rosters for the weeks, after this history
-unfoldable pub plan_after : History → List Problem → List Roster → Plan
+unfoldable pub plan_after : Pasts → List Problem → List Roster → Plan
 plan_after history [] rosters = []
 plan_after history (week ∷ weeks) [] = []
 plan_after history (week ∷ weeks) (roster ∷ rosters) =

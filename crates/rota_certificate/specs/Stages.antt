@@ -6,9 +6,9 @@ use Rattle.rota_core.specs.Limits.{max_weeks}
 use Rattle.rota_core.specs.PriceTables.{IsForWeek, PriceTables, prices_of}
 use Rattle.rota_core.specs.Sizes.{DAYS}
 use Rattle.rota_core.specs.declared.values.Past.{Past}
-use Rattle.rota_certificate.specs.DayCharges.{day_cost}
+use Rattle.rota_certificate.specs.DayCharges.{choice_cost}
 use Rattle.rota_certificate.specs.LeafBounds.{may_choose}
-use Rattle.rota_certificate.specs.LentLeaves.{Fits, LeafTables, weeks_of}
+use Rattle.rota_certificate.specs.LentLeaves.{Fits, LentTables, weeks_of}
 use Rattle.rota_certificate.specs.NurseBounds.{LeafWeek, Terms, least_days, rest_after}
 use Rattle.rota_certificate.specs.declared.tariffs.Tariff.{Tariff}
 
@@ -16,7 +16,7 @@ use Rattle.rota_certificate.specs.declared.tariffs.Tariff.{Tariff}
 pub record StageTables : Type 0 where
   pub instance : InstanceTables
   pub prices : PriceTables
-  pub leaf : LeafTables
+  pub leaf : LentTables
   pub week : ℕ
   pub unit : ℕ
   pub nurse : ℕ
@@ -44,8 +44,8 @@ abbrev pub terms_of : StageTables → Terms
 terms_of stage = record { unit = stage.unit; tariff = stage.tariff; charged = stage.charged }
 
 -- the cost of the day for the nurse
-abbrev pub day_cost_in : StageTables → (day : ℕ) → Past → Option ℕ → ℕ
-day_cost_in stage d past choice = day_cost stage.unit stage.tariff stage.charged (week_of stage).week stage.nurse d past choice
+abbrev pub choice_cost_in : StageTables → (day : ℕ) → Past → Option ℕ → ℕ
+choice_cost_in stage d past choice = choice_cost stage.unit stage.tariff stage.charged (week_of stage).week stage.nurse d past choice
 
 -- the minimum cost after the stage's week
 abbrev pub least_after : StageTables → Past → ℕ

@@ -5,7 +5,7 @@ ghost use Rattle.rota_core.specs.InstanceTables.{problem_of};
 ghost use Rattle.rota_certificate.specs.DayCharges.{start_cost, totals_cost, weighted};
 ghost use Rattle.rota_certificate.specs.Minimums.{not_allowed};
 ghost use Rattle.rota_certificate.specs.NurseBounds.{end_cost};
-ghost use Rattle.rota_certificate.specs.Stages.{day_cost_in, terms_of, week_of};
+ghost use Rattle.rota_certificate.specs.Stages.{choice_cost_in, terms_of, week_of};
 
 use crate::charges::{
     assignment_above, fixed_charge, missing_total, over_charge, shift_charges, weekend_above,
@@ -36,11 +36,11 @@ fn totals_cost(tariff: Tariff, contract: Contract, day: u8, past: Past, choice: 
 }
 
 /// The cost of the day for the nurse with this past.
-pub fn day_cost(stage: &Stage<'_>, day: u8, past: Past, choice: Option<u8>) -> u64
+pub fn choice_cost(stage: &Stage<'_>, day: u8, past: Past, choice: Option<u8>) -> u64
     requires day_in { day < DAYS }
     requires choice_in { IfSome choice (λ s. s < (week_of stage.now).week.shifts) }
     requires last_in { IfSome past.last (λ s. s < (week_of stage.now).week.shifts) }
-    ensures cost { result ≡ day_cost_in stage.now day past choice }
+    ensures cost { result ≡ choice_cost_in stage.now day past choice }
     ensures small { result ≤ 5 * not_allowed }
 {
     let contract = stage.instance.contract(stage.nurse);

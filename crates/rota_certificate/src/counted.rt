@@ -7,7 +7,7 @@ ghost use Rattle.rota_core.specs.RosterTables.{HasShapeOf, set_of};
 ghost use Rattle.rota_core.specs.Sizes.{DAYS};
 ghost use Rattle.rota_rules.specs.CountedTotals.{charged_excess};
 ghost use Rattle.rota_certificate.specs.CountedCharges.{IsCountedWeek, IsPlanned, choice_on, numbers_in, run_charges, total_charges};
-ghost use Rattle.rota_certificate.specs.Plans.{History, after, history_after, plan_from};
+ghost use Rattle.rota_certificate.specs.Plans.{Pasts, after, history_after, plan_from};
 ghost use Rattle.rota_certificate.specs.Facts.{charges_of_all, charges_of_nurse};
 ghost use Rattle.rota_certificate.specs.Nearness.{IsNear, most_days};
 
@@ -136,7 +136,7 @@ fn charges_in_week(
     requires nurse_in { nurse < (problem_of instance.now).nurses }
     requires shape { HasShapeOf (problem_of instance.now) roster.now }
     requires near { IsNear (problem_of instance.now).shifts (most_days - DAYS) past }
-    ensures counted { (history : History) → history nurse ≡ past → let week = after (problem_of instance.now) history in
+    ensures counted { (history : Pasts) → history nurse ≡ past → let week = after (problem_of instance.now) history in
         KeepsHardRules week (set_of roster.now) → IsCountedWeek kind week (set_of roster.now) nurse result }
     ensures near { (days : ℕ) → IsNear (problem_of instance.now).shifts days past →
         IsNear (problem_of instance.now).shifts (days + DAYS) result.past }
@@ -160,7 +160,7 @@ pub fn past_after_week(instance: &Instance, roster: &Roster, nurse: u16, past: P
     requires nurse_in { nurse < (problem_of instance.now).nurses }
     requires shape { HasShapeOf (problem_of instance.now) roster.now }
     requires near { IsNear (problem_of instance.now).shifts (most_days - DAYS) past }
-    ensures past { (history : History) → history nurse ≡ past → let week = after (problem_of instance.now) history in
+    ensures past { (history : Pasts) → history nurse ≡ past → let week = after (problem_of instance.now) history in
         KeepsHardRules week (set_of roster.now) → result ≡ history_after week (set_of roster.now) nurse }
 {
     charges_in_week(instance, roster, ChargeKind::WorkDays, nurse, past).past

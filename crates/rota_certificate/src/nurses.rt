@@ -12,7 +12,7 @@ ghost use Rattle.rota_certificate.specs.Stages.{least_after, least_in, terms_of,
 use crate::allowed::may_choose;
 use crate::charged_pasts::charged_past;
 use crate::charges::past_after;
-use crate::costs::{day_cost, end_cost, start_cost};
+use crate::costs::{choice_cost, end_cost, start_cost};
 use crate::known::{Known, KnownCost, KnownRebate};
 use crate::points::PointValue;
 use crate::rebates::{NOT_ALLOWED, day_rebate};
@@ -91,7 +91,7 @@ pub fn value_in(
     let after = past_after(stage.instance, day, past, choice);
     let rest = least_in(stage, known, days_left, after);
     let rebate = known_rebate(stage, known, day, choice);
-    let cost = day_cost(stage, day, past, choice);
+    let cost = choice_cost(stage, day, past, choice);
     cost + rebate + rest
 }
 

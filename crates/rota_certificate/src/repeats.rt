@@ -1,8 +1,7 @@
 //! Whether a certificate has a fact on a path more than once.
 
-ghost use Rattle.std.specs.Prelude.{◌↔◌, IfOk, IsTrue, []};
-ghost use Rattle.rota_core.specs.Certificates.{IsTreeOf};
-ghost use Rattle.rota_certificate.specs.CasePaths.{Repeats};
+ghost use Rattle.std.specs.Prelude.{◌↔◌, IfOk, IsTrue};
+ghost use Rattle.rota_certificate.specs.CasePaths.{RepeatsFact};
 
 use crate::paths::{go_on, is_on_path, with};
 use rota_core::{Certificate, Node};
@@ -13,10 +12,11 @@ use std::alloc::{AllocError, Global};
 ///
 /// The only error is that memory runs out.
 pub fn repeats_fact(alloc: Global, certificate: &Certificate) -> Result<bool, AllocError>
-    ensures { (tree : _) → IsTreeOf certificate.now tree → IfOk result (λ is. IsTrue is ↔ Repeats [] tree) }
+    ensures { IfOk result (λ is. IsTrue is ↔ RepeatsFact certificate.now) }
 {
+    let tree = &certificate.tree;
     let mut path = Vec::new(alloc);
-    for node in &certificate.nodes {
+    for node in &tree.nodes {
         match node {
             Node::Split(fact) => {
                 if is_on_path(&path, *fact) {

@@ -30,9 +30,9 @@ pub struct LentLeaf<'a> {
 }
 
 impl<'a> Model for LentLeaf<'a> {
-    ghost use Rattle.rota_certificate.specs.LentLeaves.{IsLeaf, LeafTables};
+    ghost use Rattle.rota_certificate.specs.LentLeaves.{IsLeaf, LentTables};
 
-    ghost Value = { LeafTables };
+    ghost Value = { LentTables };
 
     ghost view = { λ l. record { weeks = l.weeks.now; case = l.case.now } };
 

@@ -2,11 +2,12 @@
 
 ghost use Rattle.std.specs.Prelude.{◌≡◌, ◌*◌, ◌≤◌, IfOk, [], length, map, nat_lt, reverse, true};
 ghost use Rattle.std.specs.List.{AllByRecursion, list_any};
-ghost use Rattle.rota_core.specs.Certificates.{IsLeafFor, IsTreeOf};
+ghost use Rattle.rota_core.specs.Certificates.{IsLeafFor};
 ghost use Rattle.rota_core.specs.InstanceTables.{problem_of};
 ghost use Rattle.rota_core.specs.Limits.{max_number, max_price};
 ghost use Rattle.rota_core.specs.PriceTables.{prices_of};
 ghost use Rattle.rota_core.specs.Prices.{ArePrices};
+ghost use Rattle.rota_core.specs.TreeNodes.{leaf_of};
 ghost use Rattle.rota_certificate.specs.CertificateBounds.{HaveTables, least_bound, lower_bound, minimums_bound, rounded_up, says_even, says_odd};
 ghost use Rattle.rota_certificate.specs.LeafBounds.{most_bound};
 ghost use Rattle.rota_certificate.specs.LentLeaves.{prices_lent, week_lent};
@@ -51,9 +52,13 @@ pub struct Evidence<'a> {
 }
 
 impl<'a> Model for Evidence<'a> {
+    ghost use Rattle.std.specs.Coded.{codes};
+    ghost use Rattle.rota_core.specs.TreeNodes.{tree_code};
     ghost use Rattle.rota_certificate.specs.Evidence.{EvidenceTables, IsEvidence};
 
     ghost Value = { EvidenceTables };
+
+    ghost coded = { Prim.hlevel (codes, tree_code) };
 
     ghost use Rattle.rota_certificate.specs.EvidenceFields.{evidence_of};
 
@@ -174,8 +179,8 @@ fn bound_at(
     known: &mut Known,
 ) -> Result<u64, AllocError>
     requires path { IsShortPath (2 * max_number) path.now }
-    requires leaf { IsLeafFor (length evidence.now.certificate.prices.items) leaf.now }
-    ensures bound { IfOk result (λ bound. bound ≡ bound_asked evidence.now (reverse path.now) leaf.now) }
+    requires leaf { IsLeafFor (length evidence.now.certificate.prices.items) (leaf_of leaf.now) }
+    ensures bound { IfOk result (λ bound. bound ≡ bound_asked evidence.now (reverse path.now) (leaf_of leaf.now)) }
     ensures small { IfOk result (λ bound. bound ≤ most_bound) }
 {
     let case = case_at(alloc, path, evidence.given)?;
@@ -190,12 +195,13 @@ fn bound_at(
 
 // The minimum of the bounds of all leaves.
 fn least_bound(alloc: Global, evidence: &Evidence<'_>) -> Result<u64, AllocError>
-    ensures { (tree : _) → IsTreeOf evidence.now.certificate tree → IfOk result (λ least. least ≡ least_bound (bound_asked evidence.now) [] tree) }
+    ensures { IfOk result (λ least. least ≡ least_bound (bound_asked evidence.now) [] evidence.now.certificate.tree) }
 {
     let mut known = Known::for_weeks(alloc, evidence.weeks.len())?;
+    let tree = &evidence.certificate.tree;
     let mut path = Vec::new(alloc);
     let mut least = u64::MAX;
-    for node in &evidence.certificate.nodes {
+    for node in &tree.nodes {
         match node {
             Node::Split(fact) => path.push(with(*fact))?,
             Node::Leaf(leaf) => {
@@ -222,8 +228,7 @@ pub fn lower_bound(
     certificate: &Certificate,
 ) -> Result<u64, AllocError>
     requires { AreEvidence weeks.now given.now certificate.now }
-    ensures bound { (tree : _) → IsTreeOf certificate.now tree →
-        IfOk result (λ points. points ≡ lower_bound (map problem_of weeks.now) given.now certificate.now tree) }
+    ensures bound { IfOk result (λ points. points ≡ lower_bound (map problem_of weeks.now) given.now certificate.now) }
     ensures sound { IfOk result (NoneCostLess (map problem_of weeks.now) given.now) }
     ensures optimal { IfOk result (AreOptimalAt (map problem_of weeks.now) given.now) }
 {
@@ -248,8 +253,7 @@ pub fn no_plan_exists(
     certificate: &Certificate,
 ) -> Result<bool, AllocError>
     requires { AreEvidence weeks.now given.now certificate.now }
-    ensures answer { (tree : _) → IsTreeOf certificate.now tree →
-        IfOk result (λ is. is ≡ nat_lt 0 (minimums_bound (map problem_of weeks.now) given.now certificate.now tree)) }
+    ensures answer { IfOk result (λ is. is ≡ nat_lt 0 (minimums_bound (map problem_of weeks.now) given.now certificate.now)) }
     ensures sound { IfOk result (λ is. is ≡ true → HaveNoPlan (map problem_of weeks.now) given.now) }
 {
     check_lists(certificate);

@@ -1,19 +1,22 @@
 //! Reads a certificate's file.
 
-ghost use Rattle.std.specs.Prelude.{◌≡◌, ◌==◌, ◌+◌, ◌*◌, ◌-◌, ◌<◌, ◌≤◌, ◌&&◌, ◌||◌, ◌^◌, [], codes, true, nat_lt, IfOk, IfErr};
+ghost use Rattle.std.specs.Prelude.{◌≡◌, ◌+◌, ◌*◌, ◌-◌, ◌<◌, ◌≤◌, ◌^◌, [], codes, true, IfOk, IfErr, map};
 ghost use Rattle.rota_core.specs.Limits.{max_price};
+ghost use Rattle.rota_core.specs.TreeNodes.{leaf_of, node_of};
 ghost use Rattle.rota_core.specs.declared.fault.FileName.TheVariants as files;
 ghost use Rattle.rota_certificate_read.specs.FactsLayout.{keyword};
 ghost use Rattle.rota_layout.specs.FileAnswers.{IsFaultOf};
 ghost use Rattle.rota_layout.specs.Layout.{number, repeat};
-ghost use Rattle.rota_certificate_read.specs.CertificateLayout.{certificate, certificate_of, IsCertificateOf, leaf, list_row, no_nodes, node_of, node_row, node_word, SpellsCertificate, surcharge_row, table_row};
-ghost use Rattle.rota_certificate_read.specs.CertificateRows.{lists_of, tree_of};
+ghost use Rattle.rota_certificate_read.specs.CertificateLayout.{certificate, certificate_of, IsCertificateOf, leaf, list_row, node_word, SpellsCertificate, surcharge_row, table_row, tree};
+ghost use Rattle.rota_certificate_read.specs.CertificateRows.{lists_of};
+ghost use Rattle.rota_certificate_read.specs.TreeRows.{may_end, may_split, no_nodes, node_row, part_of, tree_nodes};
 ghost use Rattle.rota_layout.specs.Reading.{read_layout, read_text, Reads, ReadsFile};
 
 use crate::facts::fact;
 use crate::prices::price_table;
 use rota_core::{
-    Certificate, FileFault, FileName, Kind, Leaf, MAX_NUMBER, MAX_PRICE, Node, Prices, Scenario,
+    CaseTree, Certificate, FileFault, FileName, Kind, Leaf, MAX_NUMBER, MAX_PRICE, Node, Prices,
+    Scenario,
 };
 use rota_layout::{Cursor, Stop};
 use std::alloc::Global;
@@ -36,14 +39,14 @@ pub struct TreeRows {
 impl TreeRows {
     // Whether a split may follow, in a tree with this number of leaves.
     fn may_split(&self, all: u16) -> bool
-        ensures { result ≡ nat_lt (self.now.splits + 1) all }
+        ensures { result ≡ may_split all (part_of self.now) }
     {
         u32::from(self.splits) + 1 < u32::from(all)
     }
 
     // Whether a leaf may follow.
     fn may_end(&self, all: u16) -> bool
-        ensures may { result ≡ (nat_lt self.now.leaves self.now.splits || self.now.leaves + 1 == all) }
+        ensures may { result ≡ may_end all (part_of self.now) }
         ensures room { result ≡ true → self.now.leaves + 1 < 2 ^ 16 }
     {
         self.leaves < self.splits || u32::from(self.leaves) + 1 == u32::from(all)
@@ -51,7 +54,7 @@ impl TreeRows {
 
     // The node that begins with the word, if it may follow.
     fn node_word(&self, all: u16, word: &[u8]) -> Option<NodeWord>
-        ensures word { result ≡ node_word all self.now.splits self.now.leaves word.now }
+        ensures word { result ≡ node_word (may_split all (part_of self.now)) (may_end all (part_of self.now)) word.now }
         ensures split { result ≡ Some NodeWord.Split → self.now.splits + 1 < 2 ^ 16 }
         ensures leaf { result ≡ Some NodeWord.Leaf → self.now.leaves + 1 < 2 ^ 16 }
     {
@@ -154,7 +157,7 @@ fn surcharge_rows(cursor: &mut Cursor<'_>, alloc: Global, count: u16) -> Result<
 #[tactic(auto, unfolding(crate::specs::CertificateLayout::leaf, rota_layout::specs::Reading::read_layout))]
 fn leaf(cursor: &mut Cursor<'_>, alloc: Global, prices: u16) -> Result<Leaf, Stop>
     requires { 1 ≤ prices }
-    ensures { Reads (λ one. node_of (Node.Leaf one)) result cursor.new (read_layout (leaf prices) cursor.old) }
+    ensures { Reads leaf_of result cursor.new (read_layout (leaf prices) cursor.old) }
 {
     let number = cursor.number(0, prices - 1)?;
     let count = cursor.setting(b"SURCHARGES", 0, MAX_NUMBER)?;
@@ -168,7 +171,7 @@ fn leaf(cursor: &mut Cursor<'_>, alloc: Global, prices: u16) -> Result<Leaf, Sto
 // The word of the next node of the tree.
 #[tactic(auto, unfolding(crate::specs::FactsLayout::keyword, rota_layout::specs::Reading::read_layout))]
 fn node_word(cursor: &mut Cursor<'_>, tree: &TreeRows, all: u16) -> Result<NodeWord, Stop>
-    ensures read { Reads (λ word. word) result cursor.new (read_layout (keyword (node_word all tree.now.splits tree.now.leaves)) cursor.old) }
+    ensures read { Reads (λ word. word) result cursor.new (read_layout (keyword (node_word (may_split all (part_of tree.now)) (may_end all (part_of tree.now)))) cursor.old) }
     ensures split { IfOk result (λ word. word ≡ NodeWord.Split → tree.now.splits + 1 < 2 ^ 16) }
     ensures leaf { IfOk result (λ word. word ≡ NodeWord.Leaf → tree.now.leaves + 1 < 2 ^ 16) }
 {
@@ -180,7 +183,7 @@ fn node_word(cursor: &mut Cursor<'_>, tree: &TreeRows, all: u16) -> Result<NodeW
 }
 
 // Reads one more node of a tree with this number of leaves in all.
-#[tactic(auto, unfolding(crate::specs::CertificateLayout::node_row, crate::specs::CertificateLayout::node_after, rota_layout::specs::Reading::read_layout))]
+#[tactic(auto, unfolding(crate::specs::TreeRows::node_row, crate::specs::TreeRows::node_after, rota_layout::specs::Reading::read_layout))]
 fn node_row(
     cursor: &mut Cursor<'_>,
     alloc: Global,
@@ -191,7 +194,7 @@ fn node_row(
     tree: &mut TreeRows,
 ) -> Result<(), Stop>
     requires { 1 ≤ prices }
-    ensures { Reads (λ _. tree_of tree.new) result cursor.new (read_layout (node_row scenario.now weeks prices all (tree_of tree.old)) cursor.old) }
+    ensures { Reads (λ _. part_of tree.new) result cursor.new (read_layout (node_row scenario.now weeks prices all (part_of tree.old)) cursor.old) }
 {
     match node_word(cursor, tree, all)? {
         NodeWord::Split => {
@@ -208,7 +211,7 @@ fn node_row(
     Ok(())
 }
 
-// Reads the nodes of a tree with this number of leaves.
+// Reads the rows of the nodes of a tree with this number of leaves.
 #[tactic(auto, using(rota_layout::proofs::ReadingLaws::row_steps))]
 fn node_rows(
     cursor: &mut Cursor<'_>,
@@ -220,19 +223,54 @@ fn node_rows(
 ) -> Result<TreeRows, Stop>
     requires prices { 1 ≤ prices }
     requires all { 1 ≤ all }
-    requires few { all ≤ MAX_NUMBER }
-    ensures { Reads tree_of result cursor.new (read_layout (repeat (2 * all - 1) (node_row scenario.now weeks prices all) no_nodes) cursor.old) }
+    ensures { Reads part_of result cursor.new (read_layout (repeat (2 * all - 1) (node_row scenario.now weeks prices all) no_nodes) cursor.old) }
 {
     let mut tree = TreeRows {
         nodes: Vec::new(alloc),
         splits: 0,
         leaves: 0,
     };
-    let count = 2 * all - 1;
+    let count = 2 * u32::from(all) - 1;
     for _ in 0..count {
         node_row(cursor, alloc, scenario, weeks, prices, all, &mut tree)?;
     }
     Ok(tree)
+}
+
+// Reads the nodes of a tree with this number of leaves.
+#[tactic(auto, using(crate::proofs::TreeWalk::tree_walks))]
+fn tree_nodes(
+    cursor: &mut Cursor<'_>,
+    alloc: Global,
+    scenario: &Scenario,
+    weeks: u8,
+    prices: u16,
+    leaves: u16,
+) -> Result<Vec<Node>, Stop>
+    requires prices { 1 ≤ prices }
+    requires some { 1 ≤ leaves }
+    ensures { Reads (λ nodes. map node_of nodes.items) result cursor.new (read_layout (tree_nodes scenario.now weeks prices leaves) cursor.old) }
+{
+    let rows = node_rows(cursor, alloc, scenario, weeks, prices, leaves)?;
+    Ok(rows.nodes)
+}
+
+// Reads a tree with this number of leaves.
+#[tactic(auto, using(crate::proofs::TreeWalk::tree_made))]
+fn tree(
+    cursor: &mut Cursor<'_>,
+    alloc: Global,
+    scenario: &Scenario,
+    weeks: u8,
+    prices: u16,
+    leaves: u16,
+) -> Result<CaseTree, Stop>
+    requires prices { 1 ≤ prices }
+    requires some { 1 ≤ leaves }
+    ensures { Reads (λ tree. tree) result cursor.new (read_layout (tree scenario.now weeks prices leaves) cursor.old) }
+{
+    let nodes = tree_nodes(cursor, alloc, scenario, weeks, prices, leaves)?;
+    Ok(CaseTree { nodes })
 }
 
 // The certificate of the whole text.
@@ -252,12 +290,9 @@ fn whole_certificate(
     let count = cursor.setting(b"PRICES", 1, MAX_NUMBER)?;
     let prices = list_rows(&mut cursor, alloc, scenario, weeks, count)?;
     let leaves = cursor.setting(b"LEAVES", 1, MAX_NUMBER)?;
-    let tree = node_rows(&mut cursor, alloc, scenario, weeks, count, leaves)?;
+    let tree = tree(&mut cursor, alloc, scenario, weeks, count, leaves)?;
     cursor.finish()?;
-    Ok(Certificate {
-        prices,
-        nodes: tree.nodes,
-    })
+    Ok(Certificate { prices, tree })
 }
 
 /// Returns the certificate that the text spells, for a scenario and plans of this number of weeks.

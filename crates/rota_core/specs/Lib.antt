@@ -28,5 +28,8 @@ pub mod ScenarioTables
 pub mod Sizes
 pub mod Successions
 pub mod SumsBelow
+pub mod TreeFields
+pub mod TreeNodes
+pub mod Trees
 pub mod WeekTables
 pub mod Words

@@ -1,6 +1,7 @@
 //! Certificates: cases of the plans of some weeks as a tree, and prices for each case.
 
 use crate::prices::Prices;
+use std::marker::Model;
 
 /// A kind of charges.
 #[derive(Clone, Copy, Debug, PartialEq, Eq)]
@@ -92,11 +93,33 @@ pub enum Node {
     Leaf(Leaf),
 }
 
+/// A tree of cases.
+#[derive(Drop)]
+pub struct CaseTree {
+    /// The nodes of the tree in preorder: a split comes before its trees. They are those of one tree.
+    pub nodes: Vec<Node>,
+}
+
+impl Model for CaseTree {
+    ghost use Rattle.rota_core.specs.Trees.{Tree};
+    ghost use Rattle.rota_core.specs.TreeNodes.{tree_code};
+
+    ghost Value = { Tree };
+
+    ghost coded = { tree_code };
+
+    ghost use Rattle.rota_core.specs.TreeFields.{IsTreeKept, tree_kept};
+
+    ghost view = { tree_kept };
+
+    ghost invariant = { IsTreeKept };
+}
+
 /// A tree of cases, and lists of prices for its leaves.
 #[derive(Drop)]
 pub struct Certificate {
     /// Lists of prices: in each list a table for each week.
     pub prices: Vec<Vec<Prices>>,
-    /// The nodes of the tree in preorder.
-    pub nodes: Vec<Node>,
+    /// The tree.
+    pub tree: CaseTree,
 }

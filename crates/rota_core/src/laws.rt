@@ -1,5 +1,5 @@
-//! The laws of numerals, of the list of a roster's cells and of the list of rules. Each law holds for all numbers or rosters, and
-//! does nothing when it runs.
+//! The laws of numerals, of the list of a roster's cells, of the list of rules and of trees of cases. Each law holds for all numbers, rosters
+//! or trees, and does nothing when it runs.
 ghost use Rattle.std.specs.Prelude.{◌≡◌, ℕ};
 ghost use Rattle.rota_core.specs.CellLists.{ListsCells, TablesListCells};
 ghost use Rattle.rota_core.specs.NumeralLaws.{ReadsBack};
@@ -7,6 +7,8 @@ ghost use Rattle.rota_core.specs.Roster.{Roster};
 ghost use Rattle.rota_core.specs.RosterTables.{HasShapeOf, RosterTables};
 ghost use Rattle.rota_core.specs.Problem.{Problem};
 ghost use Rattle.rota_core.specs.Rules.{hard_rules, soft_rules};
+ghost use Rattle.rota_core.specs.TreeNodes.{nodes_of, tree_of};
+ghost use Rattle.rota_core.specs.Trees.{Tree};
 
 use crate::rule::Rule;
 
@@ -28,4 +30,9 @@ pub fn rosters_list_their_cells()
 pub fn rules_in_order()
     ensures hard { Rule.HARD ≡ hard_rules }
     ensures soft { Rule.SOFT ≡ soft_rules }
+{}
+
+/// The nodes of a tree of cases in preorder make this tree, and no other.
+pub fn nodes_make_their_tree()
+    ensures { (tree : Tree) → tree_of (nodes_of tree) ≡ tree }
 {}

@@ -26,6 +26,7 @@
 mod bits;
 mod cell_indices;
 mod certificate;
+mod decimal;
 mod fault;
 mod history;
 mod instance;
@@ -44,8 +45,10 @@ mod week;
 
 pub use bits::Bits;
 pub use certificate::{
-    Certificate, ChargeKind, ChargeLimit, Condition, DayChoice, Fact, Leaf, Node, NurseLimit,
+    CaseTree, Certificate, ChargeKind, ChargeLimit, Condition, DayChoice, Fact, Leaf, Node,
+    NurseLimit,
 };
+pub use decimal::decimal_up_to;
 pub use fault::{FileFault, FileName, Kind};
 pub use history::{History, HistoryParts};
 pub use instance::Instance;

@@ -1,30 +1,13 @@
 //! Reads the slots of a file.
 
-ghost use Rattle.std.specs.Prelude.{◌≡◌, ◌+◌, IfOk, ◌≤◌, ◌∷◌, [], min, Some, None, MatchResult, if◌then◌else◌};
+ghost use Rattle.std.specs.Prelude.{◌≡◌, ◌+◌, IfOk, ◌≤◌, ◌∷◌, [], MatchResult};
 ghost use Rattle.rota_core.specs.declared.fault.Kind.TheVariants.{Ended};
-ghost use Rattle.rota_core.specs.Limits.{max_price};
-ghost use Rattle.rota_core.specs.Decimal.{is_decimal, decimal};
 ghost use Rattle.rota_layout.specs.Layout.{exactly, number, any_word, setting};
 ghost use Rattle.rota_layout.specs.Reading.{read_layout, Reads, check_end, ReadsFile};
 
 use crate::cursor::{Cursor, Token, is_sign};
 use crate::fault::{Fault, Stop};
-use rota_core::{Kind, MAX_PRICE};
-
-// The value of decimal digits, or one more than the maximum of a file's numbers if it is larger, or `None` if
-// a byte is no digit.
-fn decimal_of(word: &[u8]) -> Option<u32>
-    ensures { result ≡ (if is_decimal word.now then Some (min (decimal word.now) (max_price + 1)) else None) }
-{
-    let mut value: u64 = 0;
-    for b in word {
-        if !b.is_ascii_digit() {
-            return None;
-        }
-        value = (10 * value + u64::from(*b - b'0')).min(u64::from(MAX_PRICE) + 1);
-    }
-    Some(value as u32)
-}
+use rota_core::{Kind, MAX_PRICE, decimal_up_to};
 
 impl Token<'_> {
     /// A fault of this kind on the token's line.
@@ -106,7 +89,7 @@ impl<'a> Cursor<'a> {
         ensures within { IfOk result (λ n. n ≤ high) }
     {
         let token = self.token()?;
-        let Some(value) = decimal_of(token.word) else {
+        let Some(value) = decimal_up_to(token.word, MAX_PRICE + 1) else {
             return Err(token.fault(Kind::NoNumber));
         };
         if value < low || high < value {

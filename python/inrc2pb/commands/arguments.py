@@ -14,7 +14,7 @@ from ..week.slots import did_you_mean
 
 
 class _Once(argparse.Action):
-    """Stores the value of an option, or of a word without one. An option that is given twice is a fault."""
+    """Stores the value of an option, or of a word without one. Raises ArgumentError if the option is given twice."""
 
     def __call__(self, parser: argparse.ArgumentParser, namespace: argparse.Namespace, values: Any, option: Optional[str] = None) -> None:
         given = vars(namespace).setdefault("given", set())

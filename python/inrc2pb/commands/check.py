@@ -5,23 +5,23 @@ import os
 from pathlib import Path
 from typing import Callable, Iterator, List, Optional, Tuple, TypeVar
 
-from ..judging.absences import absences_of, readable, working_while_away
-from .arguments import Parser
-from .command import add_given_option, add_rosters_option, add_weeks_options, fix_files, parser, the_week
+from ..judging.absences import absences_of, working_while_away
+from ..judging.breaches import explained, other_week, read_held, read_roster
 from ..judging.demand import demand_warnings
-from ..judging.given import read_given, with_given
-from ..judging.limits import exceeded, limits_in_words
-from ..week.faults import FileFault, Misuse, ProgramFault, fault_line, printable
-from ..week.records import DAYS, Cell, History, Scenario, Week, WeekData
-from ..week.files import check_week_number, read_history, read_scenario, read_solution, read_week
-from ..judging.misfits import explained, other_week, read_held, read_roster
-from ..judging.odd_values import IMPOSSIBLE, history_warnings, scenario_warnings, week_warnings
-from ..programs.program import BROKEN_RULE, FAULT, NO_PROGRAM, answer_with, encode
+from ..judging.limits import exceeded, limits_in_words, read_given, with_given
+from ..judging.odd_values import Reach, Warned, history_warnings, scenario_warnings, week_warnings
 from ..judging.rules import first_broken
-from ..week.targets import check_no_pipes
+from ..programs.program import BROKEN_RULE, FAULT, NO_PROGRAM, answer_with, encode
+from ..search.why_none import shortage_lines, why_none
 from ..shown.ward_sentences import history_sentences, limit_sentences, scenario_sentences, supply_text, ward_sentence
 from ..shown.week_sentences import DescribedWeek, held_sentences, weeks_sentences
-from ..search.why_none import shortage_lines, why_none
+from ..week.faults import FileFault, Misuse, ProgramFault, fault_line, printable
+from ..week.files import check_week_number, read_history, read_scenario, read_solution, read_week
+from ..week.records import DAYS, Cell, History, Scenario, Week, WeekData
+from ..week.words import readable
+from ..week.writing import check_no_pipes
+from .arguments import Parser
+from .command import add_given_option, add_rosters_option, add_weeks_options, fix_files, parser, the_week
 
 Contents = TypeVar("Contents")
 
@@ -53,7 +53,7 @@ class Check:
         """Prints the warnings about a file without a mistake."""
         for warning in warnings:
             print(f"{path}: warning: {warning}")
-            self.impossible = self.impossible or IMPOSSIBLE in warning
+            self.impossible = self.impossible or isinstance(warning, Warned) and warning.reach is Reach.NONE
 
     def name(self, name: str, scenario: Scenario) -> Iterator[str]:
         """A warning if the file is of another ward."""

@@ -1,19 +1,21 @@
-"""The common part of the commands: the options of weeks' files, and the end of a command after a fault."""
+"""The common part of the commands: the options of weeks' files, the end of a command after a fault, and the entry points."""
 
 import argparse
 import contextlib
+import errno
+import importlib
 import io
 import os
 import re
 import signal
 import sys
 from pathlib import Path
-from typing import Callable, Dict, Optional, Sequence, TextIO
+from typing import Callable, Dict, Iterator, Optional, Sequence, TextIO, cast
 
-from .arguments import parser
-from ..week.faults import FileFault, FileFaults, Misuse, ProgramFault, fault_line
 from ..programs.own_folder import own_folder
 from ..programs.program import FAULT, OUT_OF_MEMORY, READ_OR_WRITE, WeekFiles
+from ..week.faults import FileFault, FileFaults, Misuse, ProgramFault, fault_line, not_obeyed
+from .arguments import parser
 
 __all__ = [
     "add_given_option",
@@ -24,6 +26,7 @@ __all__ = [
     "fix_files",
     "number_of_seconds",
     "parser",
+    "print_painted",
     "run",
     "the_week",
 ]
@@ -33,6 +36,7 @@ __all__ = [
 BROKEN_PIPE, INTERRUPTED, SIGNAL_BASE = 141, 130, 128
 # The most seconds of a search, and the most faults of a file that are reported together.
 MAX_SECONDS, MAX_FAULTS = 10_000_000, 20
+MODULES = {"inrc2pb-plan": "plan", "inrc2pb-roster": "roster", "inrc2pb-solve": "solve"}
 
 
 def number_of_seconds(text: str) -> float:
@@ -83,7 +87,8 @@ def add_weeks_options(options: argparse.ArgumentParser, required: bool = True) -
         metavar="[N=]FILE",
         action="append",
         default=[],
-        help="assignments to keep, as a solution file; of week N of several as N=FILE, where N is 1 for the first week that is given",
+        help="assignments to keep, as a solution file: the rows of a roster that are fixed, with their number after ASSIGNMENTS; of week N "
+        "of several as N=FILE, where N is 1 for the first week that is given",
     )
     options.add_argument("--early", action="store_true", help="charge excess assignments and weekends as soon as they occur")
 
@@ -120,10 +125,32 @@ def the_week(given: argparse.Namespace) -> WeekFiles:
     """The files of the only week that the options of `add_weeks_options` name. Raises Misuse if they name several weeks."""
     if len(given.week) != 1:
         raise Misuse(f"--week has {len(given.week)} files: give one")
-    return WeekFiles(given.sce, given.his, given.week[0], fix_files(given.fix, 1).get(0), given.early, given.facts)
+    return WeekFiles(
+        given.sce, given.his, given.week[0], fix=fix_files(given.fix, 1).get(0), early=given.early, given=vars(given).get("facts")
+    )
 
 
-class _Remarks(io.TextIOWrapper):
+class _Output(io.TextIOWrapper):
+    """Standard output. On a terminal it shows the codes of signs that a terminal would obey, such as one that changes its colors."""
+
+    def write(self, text: str) -> int:
+        """Writes the text."""
+        return self.write_painted(not_obeyed(text) if self.isatty() else text)
+
+    def write_painted(self, text: str) -> int:
+        """Writes a text with colors of our own, in which names have been made harmless."""
+        return super().write(text)
+
+
+def print_painted(text: str) -> None:
+    """Prints a text with colors of our own, in which names have been made harmless."""
+    if isinstance(sys.stdout, _Output):
+        sys.stdout.write_painted(text)
+    else:
+        sys.stdout.write(text)
+
+
+class _Remarks(_Output):
     """Standard error in UTF-8. A remark that cannot be written, as to a full disk, is lost, and the command goes on."""
 
     def write(self, text: str) -> int:
@@ -138,12 +165,39 @@ class _Remarks(io.TextIOWrapper):
             super().flush()
 
 
+class _Closed(io.TextIOBase):
+    """A standard output that was closed, as by `>&-`: each write is a fault, and so is the next flush, if nobody has heard of the write."""
+
+    def __init__(self) -> None:
+        super().__init__()
+        self._is_lost = False
+
+    def write(self, text: str) -> int:
+        """Raises the fault."""
+        self._is_lost = True
+        raise OSError(errno.EBADF, "it is closed", "standard output")
+
+    def flush(self) -> None:
+        """Raises the fault of a write."""
+        is_lost, self._is_lost = self._is_lost, False
+        if is_lost:
+            raise OSError(errno.EBADF, "it is closed", "standard output")
+
+
 def _standard_output(stream: Optional[TextIO]) -> TextIO:
-    """The stream, which writes UTF-8 from now on. Python has no stream for a descriptor that was closed, as by `>&-`."""
-    stream = stream or open(os.devnull, "w")
-    if isinstance(stream, io.TextIOWrapper):
-        stream.reconfigure(encoding="utf-8", errors="surrogateescape")
-    return stream
+    """The stream, which writes UTF-8 from now on."""
+    if stream is None:
+        # No other file gets the descriptor.
+        while os.open(os.devnull, os.O_RDONLY) < 1:
+            pass
+        return cast(TextIO, _Closed())
+    try:
+        descriptor = stream.fileno()
+    except OSError:
+        if isinstance(stream, io.TextIOWrapper):
+            stream.reconfigure(encoding="utf-8", errors="surrogateescape")
+        return stream
+    return _Output(open(descriptor, "wb", closefd=False), encoding="utf-8", errors="surrogateescape", line_buffering=stream.isatty())
 
 
 def _standard_error(stream: Optional[TextIO]) -> TextIO:
@@ -164,7 +218,7 @@ def run(main: Callable[[], Optional[int]]) -> None:
     try:
         _catch_signals()
         with own_folder():
-            status = main() or 0
+            status = _status_of(main)
         sys.stdout.flush()
         _ignore_signals()
     except BrokenPipeError:
@@ -189,6 +243,16 @@ def run(main: Callable[[], Optional[int]]) -> None:
         print(f"{name}: out of memory", file=sys.stderr)
         status = OUT_OF_MEMORY
     sys.exit(status)
+
+
+def _status_of(main: Callable[[], Optional[int]]) -> int:
+    """Runs a command; its exit status. After `--help` its parser exits: what it has printed is not written yet."""
+    try:
+        return main() or 0
+    except SystemExit as end:
+        if end.code:
+            raise
+        return 0
 
 
 def _catch_signals() -> None:
@@ -218,3 +282,52 @@ def _drop_output() -> None:
         sys.stdout.flush()
     except OSError:
         os.dup2(os.open(os.devnull, os.O_WRONLY), 1)
+
+
+# ---- the entry points: a copy of the launcher finds its command by its own name
+
+
+def plan() -> None:
+    """The command `inrc2pb-plan`."""
+    run(lambda: _main("plan"))
+
+
+def roster() -> None:
+    """The command `inrc2pb-roster`."""
+    run(lambda: _main("roster"))
+
+
+def solve() -> None:
+    """The command `inrc2pb-solve`."""
+    run(lambda: _main("solve"))
+
+
+def launch() -> None:
+    """Runs the command as which this process was started, and exits."""
+    run(_run_by_name)
+
+
+def _run_by_name() -> int:
+    """Runs the command as which this process was started, and returns its status."""
+    module = next((MODULES[name] for name in _names(sys.argv[0]) if name in MODULES), None)
+    if not module:
+        raise Misuse(f"no command has this name: give it one of {', '.join(MODULES)}")
+    return _main(module)
+
+
+def _names(path: str) -> Iterator[str]:
+    """The name of a file, and those of the files that it leads to as a link."""
+    yield os.path.basename(path)
+    while os.path.islink(path):
+        path = os.path.join(os.path.dirname(path), os.readlink(path))
+        yield os.path.basename(path)
+
+
+def _main(module: str) -> int:
+    try:
+        command = importlib.import_module(f"{__package__}.{module}")
+    except ImportError as fault:
+        if (fault.name or "").partition(".")[0] != "numpy":
+            raise
+        raise Misuse("this command needs NumPy: install it (Debian: apt-get install python3-numpy)") from None
+    return command.main() or 0

@@ -2,24 +2,28 @@
 
 import argparse
 import os
+import sys
 import time
+from dataclasses import replace
 from pathlib import Path
 from typing import Optional, Sequence, Tuple
 
 from ..programs.clock import Clock
-from .arguments import Parser
-from .command import add_solver_option, check_seconds, number_of_seconds, parser
-from ..week.faults import Misuse, ProgramFault
-from ..week.files import write_solution
-from ..week.records import Cell, Solution
-from ..week.writing import write_text
-from ..search.improving import search
+from ..programs.inputs import Inputs
 from ..programs.interrupts import interrupts
+from ..programs.locks import locked
+from ..programs.program import NO_ROSTER, Report, extend
+from ..programs.progress import Progress
+from ..search.improving import search
+from ..search.kept_file import KeptFile
 from ..search.period_search import PeriodSearch
 from ..search.planned_weeks import PeriodFiles, PlannedWeeks
-from ..programs.program import NO_ROSTER, Report, WeekFiles, extend
-from ..programs.progress import Progress
-from ..week.targets import check_inputs_stay, check_no_pipes, check_target
+from ..week.faults import Misuse, ProgramFault
+from ..week.files import solution_text
+from ..week.records import WEEK_DAYS, Cell, Solution
+from ..week.writing import check_inputs_stay, check_no_pipes, check_target, write_text
+from .arguments import Parser
+from .command import add_solver_option, check_seconds, number_of_seconds, parser
 
 # The minimum of seconds, and of the share of the time, for the last check, the file and the end of Python.
 END_SECONDS, END_SHARE = 0.5, 0.05
@@ -44,10 +48,12 @@ def search_seconds(timeout: float, used: float) -> float:
 def plan_ahead(weeks: PlannedWeeks, solution: Path, seconds: float) -> Tuple[Report, Optional[BaseException]]:
     """Plans the week, which is the first of all weeks that are left, and writes its roster. Also returns the fault that ended the search
     after the roster was found."""
-    week = weeks.history.week
+    week, file, text = weeks.history.week, KeptFile(solution), ""
 
     def keep(cells: Sequence[Cell]) -> None:
-        write_solution(solution, Solution(week, weeks.scenario.name, tuple(cell for cell in cells if cell.day < 7)))
+        nonlocal text
+        text = solution_text(Solution(week, weeks.scenario.name, tuple(cell for cell in cells if cell.day < WEEK_DAYS)))
+        file.write(text)
 
     running = PeriodSearch(weeks, keep, Clock(seconds), Progress(None))
     fault: Optional[BaseException] = None
@@ -58,17 +64,17 @@ def plan_ahead(weeks: PlannedWeeks, solution: Path, seconds: float) -> Tuple[Rep
             if running.penalty is None:
                 raise
             fault = found
+    if not file.has(text):
+        file.write(text)
     return extend(weeks.week_files(week), solution)[1], fault
 
 
 def _planned(given: argparse.Namespace, weeks: PlannedWeeks, seconds: float) -> Tuple[Report, Optional[BaseException]]:
     """The report of the week's roster, and the fault that ended its search after the roster was found."""
     if weeks.later() and not given.solver:
-        check_target(given.sol.absolute())
-        check_inputs_stay(weeks.files.all(), given.sol, "the roster")
         return plan_ahead(weeks, given.sol, seconds)
-    files = WeekFiles(given.sce, given.his, given.week, early=bool(given.solver))
-    outcome = search(files, given.sol, None, seconds, given.solver, None, Progress(None))
+    files = replace(weeks.week_files(weeks.history.week), early=bool(given.solver))
+    outcome = search(files, given.sol, None, seconds=seconds, solver=given.solver, proof=None, progress=Progress(None))
     return outcome.report, outcome.fault
 
 
@@ -99,14 +105,19 @@ def main(given: argparse.Namespace) -> int:
     check_seconds(given.timeout, "--timeout")
     files = PeriodFiles(given.sce, given.his, [given.week], ahead=True)
     check_no_pipes(files.all())
-    weeks = PlannedWeeks(files)
+    inputs = Inputs()
+    with inputs.naming():
+        weeks = PlannedWeeks(files.copied(inputs.copy))
+    check_target(given.sol.absolute())
+    check_inputs_stay(files.all(), given.sol, "the roster")
     if given.cusOut:
         check_target(given.cusOut.absolute())
         check_inputs_stay(files.all(), given.cusOut, "the number of the next week")
         if os.path.realpath(given.sol) == os.path.realpath(given.cusOut) != os.devnull:
             raise Misuse(f"{given.sol} gets the roster, so the number of the next week cannot be written to it: choose another file")
     seconds = search_seconds(given.timeout, seconds_since_start())
-    with interrupts():
+    progress = Progress(sys.stderr, inputs.named)
+    with interrupts(), locked([given.sol], False, progress.warn), inputs.naming():
         try:
             report, fault = _planned(given, weeks, seconds)
         except ProgramFault as none:
@@ -116,6 +127,8 @@ def main(given: argparse.Namespace) -> int:
         if given.cusOut:
             write_text(given.cusOut, f"{weeks.history.week + 1}\n")
         print(report.text, end="", flush=True)
+        for line in inputs.changes():
+            progress.warn(line)
         if fault:
             raise fault
     return 0

@@ -4,23 +4,26 @@ import errno
 import os
 import sys
 from pathlib import Path
-from typing import Dict, Iterable, List, Optional, Sequence
+from typing import ContextManager, Dict, Iterable, List, Optional, Sequence
 
+from ..judging.next_history import next_history
 from ..programs.clock import Clock
-from ..rows.plan import WEEK_DAYS
-from .arguments import as_typed
+from ..programs.inputs import Inputs
+from ..programs.interrupts import Interrupts, interrupts
+from ..programs.locks import locked
+from ..programs.program import Report, extend, find_program
+from ..programs.progress import Progress
+from ..search.improving import SearchResult, search
+from ..search.period_search import PeriodSearch
+from ..search.plan_folder import PlanFolder
+from ..search.planned_weeks import PeriodFiles, PlannedWeeks, WrittenWeek, history_name, roster_name
 from ..week.faults import FileFault, Misuse, ProgramFault, fault_line
 from ..week.files import read_solution, write_history
-from ..week.hints import plural
-from ..week.records import Cell, Scenario, Solution
-from ..search.improving import search
-from ..programs.interrupts import Interrupts, interrupts
-from ..judging.next_history import next_history
-from ..search.period_search import PeriodSearch
-from ..search.planned_weeks import PeriodFiles, PlannedWeeks, WrittenWeek, history_name, roster_name
-from ..programs.program import SOFT_RULES, Report, extend, find_program
-from ..programs.progress import Progress
-from ..week.targets import check_inputs_stay, check_no_pipe_is_written, check_no_pipes, check_target
+from ..week.records import Cell, Scenario, Solution, in_plan, week_name
+from ..week.soft_rules import SOFT_RULES
+from ..week.words import plural
+from ..week.writing import check_inputs_stay, check_no_pipe_is_written, check_no_pipes, check_target
+from .arguments import as_typed
 
 
 class Period:
@@ -31,20 +34,22 @@ class Period:
     """
 
     def __init__(self, files: PeriodFiles, folder: Path, proof: Optional[Path] = None, seed: int = 1, starts: Sequence[Path] = ()) -> None:
-        self.folder, self._proof, self.progress, self._seed = folder, proof, Progress(sys.stderr), seed
         check_no_pipes((*files.all(), *starts))
-        self.weeks = PlannedWeeks(files)
-        self.numbers = self.weeks.numbers
-        self._starts = [_read_start(path, number, self.weeks.scenario) for number, path in zip(self.numbers, starts)]
+        self.folder, self._proof, self._seed, self._files, self._inputs = folder, proof, seed, files, Inputs()
+        self.progress = Progress(sys.stderr, self._inputs.named)
+        with self._inputs.naming():
+            self.weeks = PlannedWeeks(files.copied(self._inputs.copy))
+            self.numbers = self.weeks.numbers
+            self._starts = [_read_start(self._inputs.copy(path), number, self.weeks.scenario) for number, path in zip(self.numbers, starts)]
+        self._plan_folder = PlanFolder(self.weeks, folder, self.progress.warn)
         if starts and len(starts) != len(self.numbers):
             weeks = plural(len(self.numbers), "week")
             raise Misuse(f"--roster has {plural(len(starts), 'file')} for {weeks}: give one for each, in their order")
         self.reports: Dict[int, Report] = {}
         self.bound_lines: List[str] = []
-        self._written: List[WrittenWeek] = []
         for number in self.numbers:
             # Files of an earlier run may be replaced.
-            check_inputs_stay(files.all(), folder / roster_name(number), f"the roster of week {number + 1}", "folder")
+            check_inputs_stay(files.all(), folder / roster_name(number), f"the roster of {week_name(number)}", "folder")
             check_inputs_stay(files.all(), folder / history_name(number + 1), f"the history of week {number + 2}", "folder")
         find_program()
         if proof:
@@ -52,6 +57,10 @@ class Period:
             check_target(proof)
             check_inputs_stay(files.all(), proof, "the certificate")
         _make_folder(folder)
+
+    def locked(self, wait: bool) -> ContextManager[None]:
+        """Within the block no other search writes the rosters. If one does, this is a ProgramFault, or waits until it has ended."""
+        return locked(self._plan_folder.rosters, wait, self.progress.warn)
 
     def name_replaced(self) -> None:
         """Says which files of an earlier run get new contents."""
@@ -67,74 +76,85 @@ class Period:
         _say(f"week {first}, at most {seconds:g} s" if first == last else f"weeks {first} to {last} together, at most {seconds:g} s")
         for hint in self.weeks.hints:
             self.progress.warn(hint)
-        running = PeriodSearch(self.weeks, self._keep, Clock(seconds), self.progress, self._proof, self._earlier(), self._seed)
-        with interrupts() as signals:
+        folder, earlier = self._plan_folder, self._earlier()
+        others = folder.others if not self.weeks.later() else lambda: None
+        running = PeriodSearch(
+            self.weeks,
+            folder.keep,
+            Clock(seconds),
+            progress=self.progress,
+            proof=self._proof,
+            start=earlier,
+            seed=self._seed,
+            others=others,
+        )
+        with interrupts() as signals, self._inputs.naming():
             try:
                 with signals.calling(running.interrupt):
                     running.run()
                 for warning in running.not_kept():
                     self.progress.warn(warning)
             finally:
-                for number, week in zip(self.numbers, self._written):
-                    self._report(number, week)
+                for number, week in zip(self.numbers, folder.written()):
+                    self._report(number, week.roster, extend(*week)[1])
                 self.bound_lines = [running.line()]
             self._end(signals)
 
     def _earlier(self) -> Optional[List[Cell]]:
         """The plan to begin with, with days from the first week on: the one that was given, or that the folder has; None if it has none of
         these weeks, or others come after them."""
-        found: List[Solution] = list(self._starts)
-        for number in () if found or self.weeks.later() else self.numbers:
-            try:
-                found.append(read_solution(self.folder / roster_name(number), self.weeks.scenario))
-            except (FileFault, OSError):
-                return None
-        if any((roster.week, roster.scenario) != (number, self.weeks.scenario.name) for number, roster in zip(self.numbers, found)):
-            return None
-        cells = [cell._replace(day=cell.day + WEEK_DAYS * index) for index, roster in enumerate(found) for cell in roster.cells]
-        return cells or None
-
-    def _keep(self, cells: Sequence[Cell]) -> None:
-        """Writes a better plan to the folder."""
-        self._written = self.weeks.write(cells, self.folder)
+        if not self._starts:
+            return None if self.weeks.later() else self._plan_folder.others()
+        return list(in_plan(roster.cells for roster in self._starts)) or None
 
     def plan_one_by_one(self, seconds: float, solver: Optional[str]) -> None:
         """Plans each week before the next one, by the search over one week or a user's own solver. After a fault, or if the user stops
         it, the weeks that have a roster have their files and reports."""
-        history, path = self.weeks.history, self.weeks.files.history
-        with interrupts() as signals:
+        with interrupts() as signals, self._inputs.naming():
+            history, path = self.weeks.history, self.weeks.files.history
             for number in self.numbers:
                 week = WrittenWeek(self.weeks.week_files(number, path), self.folder / roster_name(number))
-                _say(f"week {number + 1}, {week.files.week}")
-                try:
-                    outcome = search(week.files, week.roster, None, seconds, solver, self._proof, Progress(sys.stderr), self._seed)
-                except (FileFault, Misuse, ProgramFault) as fault:
-                    raise Misuse(f"week {number + 1}: {fault_line(fault)}") from fault
-                self._report(number, week)
-                self.bound_lines = outcome.lines() if len(self.numbers) == 1 else []
+                _say(f"{week_name(number)}, {self._inputs.named(str(week.files.week))}")
+                outcome = self._plan_one(number, week, seconds, solver)
                 if number + 1 < self.weeks.scenario.weeks:
                     history = next_history(self.weeks.scenario, history, read_solution(week.roster, self.weeks.scenario).cells)
                     path = self.folder / history_name(number + 1)
                     write_history(path, history)
                 if isinstance(outcome.fault, (FileFault, Misuse, ProgramFault)):
-                    raise Misuse(f"week {number + 1}: {fault_line(outcome.fault)}")
+                    raise Misuse(f"{week_name(number)}: {fault_line(outcome.fault)}")
                 if outcome.fault:
                     raise outcome.fault
                 if number != self.numbers[-1]:
                     self._stop_if(signals)
             self._end(signals)
 
-    def _report(self, number: int, week: WrittenWeek) -> None:
-        _, report = extend(week.files, week.roster)
+    def _plan_one(self, number: int, week: WrittenWeek, seconds: float, solver: Optional[str]) -> SearchResult:
+        """Plans one week, and reports it."""
+        progress = Progress(sys.stderr, self._inputs.named)
+        try:
+            outcome = search(
+                week.files, week.roster, None, seconds=seconds, solver=solver, proof=self._proof, progress=progress, seed=self._seed
+            )
+        except (FileFault, Misuse, ProgramFault) as fault:
+            raise Misuse(f"{week_name(number)}: {fault_line(fault)}") from fault
+        self._report(number, week.roster, outcome.report)
+        self.bound_lines += outcome.lines() if len(self.numbers) == 1 else outcome.changes
+        return outcome
+
+    def _report(self, number: int, roster: Path, report: Report) -> None:
         self.reports[number] = report
-        print(f"week {number + 1}: penalty {report.penalty}, {week.roster}", flush=True)
+        print(f"{week_name(number)}: penalty {report.penalty}, {roster}", flush=True)
+
+    def changes(self) -> List[str]:
+        """A line for each file that was read and has something else now."""
+        return self._inputs.changes()
 
     def _end(self, signals: Interrupts) -> None:
         """After the last week of the period, names the command for the first history of the next one."""
         last = self.numbers[-1]
         if last + 1 == self.weeks.scenario.weeks:
-            history = self.folder / history_name(last) if last != self.numbers[0] else self.weeks.files.history
-            files = ("--sce", self.weeks.files.scenario, "--his", history, "--roster", self.folder / roster_name(last))
+            history = self.folder / history_name(last) if last != self.numbers[0] else self._files.history
+            files = ("--sce", self._files.scenario, "--his", history, "--roster", self.folder / roster_name(last))
             command = as_typed((*files, "--new-period", "--out", self.folder / "history-new.txt"))
             _say(f"to make the first history of the next period, type: inrc2pb-roster next {command}")
         self._stop_if(signals)
@@ -145,7 +165,7 @@ class Period:
 
     def table(self) -> List[str]:
         """The penalty and the costs of each week, and their sums."""
-        weeks = {f"week {number + 1}": [report.penalty, *report.by_rule.values()] for number, report in self.reports.items()}
+        weeks = {week_name(number): [report.penalty, *report.by_rule.values()] for number, report in self.reports.items()}
         sums = [sum(costs[column] for costs in weeks.values()) for column in range(1 + len(SOFT_RULES))]
         lines = [_table_line("", ("penalty", *SOFT_RULES))]
         lines += [_table_line(name, map(str, costs)) for name, costs in weeks.items()]

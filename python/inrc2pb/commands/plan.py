@@ -2,30 +2,34 @@
 
 import argparse
 import functools
+import ipaddress
 import re
 import shlex
+import socket
 import sys
 from pathlib import Path
 from typing import List, Optional, Sequence
+from urllib.parse import urlsplit
 
 from ..plans.local_jobs import Jobs
 from ..plans.local_server import LOCAL, LocalServer
 from ..plans.outcome import Event, Outcome
 from ..plans.render import lines
-from ..plans.state import DayWord, NurseDay, in_plan
+from ..plans.state import DayWord, lost_shifts
 from ..plans.store import Means, WardFolder
 from ..plans.verbs import Verbs
 from ..plans.ward import Ward
 from ..plans.ward_sheet import week_rows, with_written
-from ..plans.words import WEEK_DAYS, PlanDays
 from ..programs.interrupts import interrupts
 from ..programs.program import find_program
 from ..programs.progress import Progress
+from ..programs.secrets_file import kept_secret
 from ..sheets.plan_sheets import AWAY, COUNTED, read_days
 from ..sheets.sheet_files import Book, read_book
 from ..sheets.ward_sheets import shift_times
+from ..week.dates import PlanDays
 from ..week.faults import Misuse
-from ..week.records import WeekData
+from ..week.records import WEEK_DAYS, NurseDay, WeekData, in_plan
 from . import ward
 from .arguments import check_verb, table_of
 from .command import check_seconds, number_of_seconds, parser
@@ -38,6 +42,7 @@ VERBS = {
     "ill NAME DAY [DAY]": "she is ill from the first to the last day: a plan with few changes; also leave, unpaid, training, away",
     "back NAME DAY": "she is back from this day on",
     "swap NAME DAY [NAME [DAY]]": "what a swap costs, which rule it breaks, and who else could swap; --do writes it",
+    "set NAME DAY SHIFT [REASON]": "what it costs that she has this shift (or off), and who else could; --do writes it; set NAME DAY back",
     "over [NAME DAY SHIFT ..]": "the week is over, as planned or with these shifts (or off, ill); after the last one a new period begins",
     "page": "write the pages and calendars; from now on plans change little",
     "undo": "the plan before the last verb holds again",
@@ -45,8 +50,13 @@ VERBS = {
     "files": "write the ward as text files, for inrc2pb, inrc2pb-roster and inrc2pb-solve",
 }
 _NAMES = tuple(dict.fromkeys((*(usage.split(" ")[0] for usage in VERBS), *AWAY)))
-# Hosts by which a server is reached by all names of its machine, of which a browser can write none.
-_ALL_HOSTS = ("", "0.0.0.0", "::")
+# The number of an address of version 6 by which a server is reached by all names of its machine; that of version 4 has several spellings.
+_ALL_HOSTS = "::"
+# What is said each time that a page can be read on its way to a browser.
+_CLEAR_TEXT = (
+    "in clear text: who reads your network reads this address and the roster, and can change it: let a proxy with TLS on this machine "
+    "stand before it, as docs/serving.md shows, or serve only where you trust all"
+)
 _ORIGIN = re.compile(r"https?://[a-z0-9.-]+(:[0-9]{1,5})?")
 
 
@@ -71,7 +81,9 @@ def _options() -> argparse.ArgumentParser:
         type=number_of_seconds,
         help="the most seconds to search (default: 20 for each week, and 30 for a change)",
     )
-    options.add_argument("--do", action="store_true", help="with swap: write it")
+    options.add_argument(
+        "--do", action="store_true", help="with swap or set: write it; with others: also a plan that exceeds a maximum with !"
+    )
     options.add_argument("--port", metavar="N", type=int, default=0, help="with serve: the port (default: a free one)")
     options.add_argument(
         "--host",
@@ -84,6 +96,12 @@ def _options() -> argparse.ArgumentParser:
         metavar="URL",
         default="",
         help="with serve: how the address in browsers begins, as https://ward.example, if a proxy or a tunnel leads to this machine",
+    )
+    options.add_argument(
+        "--secret",
+        metavar="FILE",
+        type=Path,
+        help="with serve: a file that keeps the secret of the address, so that a bookmark lives; it is made if there is none",
     )
     options.add_argument("--out", metavar="FOLDER", type=Path, help="with files: where they go (default: the ward's folder)")
     options.add_argument(
@@ -107,11 +125,12 @@ def _ward_of(sheets: Book, name: str, absences: Sequence[DayWord]) -> Ward:
     """The ward of a spreadsheet that was read."""
     book = with_written(sheets, read_days(sheets), absences)
     days = read_days(book)
-    files = ward.ward_files(book, name, days, COUNTED)
+    files = ward.ward_files(book, name, days, COUNTED, lost=lost_shifts(absences))
     scenario, history, claims, weeks = files.records
     return Ward(
         texts=files.texts,
         warnings=files.warnings,
+        reach=files.reach,
         days=PlanDays(days.monday, days.weeks),
         scenario=scenario,
         past=history,
@@ -123,7 +142,8 @@ def _ward_of(sheets: Book, name: str, absences: Sequence[DayWord]) -> Ward:
             for number, week in enumerate(weeks)
             for (nurse, day), word in week.reasons.items()
         },
-        credit={nurse: shifts for nurse, (_, shifts) in files.credit.items()},
+        promised=frozenset(NurseDay(nurse, WEEK_DAYS * number + day) for number, week in enumerate(weeks) for nurse, day in week.promised),
+        counted=files.counted,
         times=shift_times(book),
         holidays=files.holidays,
         week_rows=week_rows(book),
@@ -141,8 +161,8 @@ def _check(given: argparse.Namespace) -> None:
     if given.verb not in _NAMES and str(given.folder) in _NAMES and not given.folder.exists():
         raise Misuse(f"the folder comes first: type inrc2pb-plan {shlex.quote(given.verb)} {given.folder}")
     check_verb(given.verb, _NAMES)
-    if given.do and given.verb != "swap":
-        raise Misuse("--do is for swap: leave it out")
+    if given.do and given.verb in ("new", "check", "page", "undo", "serve", "files"):
+        raise Misuse(f"--do is for verbs that ask before they write: leave it out with {given.verb}")
     if given.free and given.verb != "plan":
         raise Misuse("--free is for plan: leave it out")
     _check_address(given)
@@ -156,15 +176,32 @@ def _check(given: argparse.Namespace) -> None:
 
 def _check_address(given: argparse.Namespace) -> None:
     """The options of an address fit."""
-    if (given.port or given.host != LOCAL or given.origin) and given.verb != "serve":
-        raise Misuse("--port, --host and --origin are for serve: leave them out")
+    if (given.port or given.host != LOCAL or given.origin or given.secret) and given.verb != "serve":
+        raise Misuse("--port, --host, --origin and --secret are for serve: leave them out")
     if not 0 <= given.port < 65536:
         raise Misuse(f"--port {given.port}: give a number from 1024 to 65535")
     if given.origin and not _ORIGIN.fullmatch(given.origin):
         raise Misuse(f"--origin '{given.origin}': give the beginning of an address, as https://ward.example or http://localhost:9999")
-    if given.host in _ALL_HOSTS and not given.origin:
+    if given.secret and given.secret.resolve().is_relative_to(given.folder.resolve()):
+        raise Misuse(f"--secret {given.secret} is in the ward's folder, which others may read: name a file elsewhere")
+    number = _number_of(given.host)
+    if not given.origin and (given.host == _ALL_HOSTS or (number and number.is_unspecified)):
         cure = "give the name or number of this machine, or with --origin the address that browsers have"
         raise Misuse(f"--host '{given.host}' is no address that a browser can open: {cure}")
+
+
+def _number_of(host: str) -> Optional[ipaddress.IPv4Address]:
+    """The number that a host has, if this machine finds one."""
+    try:
+        return ipaddress.IPv4Address(socket.gethostbyname(host))
+    except (OSError, UnicodeError):
+        return None
+
+
+def _is_local(host: str) -> bool:
+    """Whether only programs of this machine reach a host."""
+    number = _number_of(host)
+    return number is not None and number.is_loopback
 
 
 def _options_first(words: Sequence[str]) -> List[str]:
@@ -172,7 +209,7 @@ def _options_first(words: Sequence[str]) -> List[str]:
     options: List[str] = []
     others: List[str] = []
     for before, word in zip(["", *words], words):
-        is_value = before in ("--time", "--port", "--host", "--origin", "--out", "--credit")
+        is_value = before in ("--time", "--port", "--host", "--origin", "--secret", "--out", "--credit")
         (options if word.startswith("-") or is_value else others).append(word)
     return [*options, *others]
 
@@ -183,15 +220,16 @@ def _say(text: str) -> None:
 
 def _serve(folder: WardFolder, given: argparse.Namespace) -> None:
     """Serves the local page until Ctrl-C."""
+    secret = kept_secret(given.secret) if given.secret else ""
     with interrupts() as signals:
         try:
-            server = LocalServer(Jobs(folder, read_sheet, signals, given.time), given.host, given.port, given.origin)
+            server = LocalServer(Jobs(folder, read_sheet, signals, given.time), given.host, given.port, given.origin, secret)
         except OSError as fault:
             cure = "give the name of this machine, and a free port"
             raise Misuse(f"--host {given.host} --port {given.port}: {fault.strerror}: {cure}") from fault
         print(f"open this address in a browser, and give it to nobody else: {server.address}", flush=True)
-        if given.host not in (LOCAL, "localhost"):
-            _say("who reads your network reads this address and the roster: without a proxy with TLS, serve only where you trust all")
+        if not _is_local(given.host) or (given.origin.startswith("http:") and not _is_local(urlsplit(given.origin).hostname or "")):
+            _say(_CLEAR_TEXT)
         _say("Ctrl-C ends it")
         server.run(signals)
 

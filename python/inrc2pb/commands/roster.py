@@ -1,21 +1,25 @@
 """The command `inrc2pb-roster`: shows, explains and checks rosters, and goes on from them."""
 
 import argparse
+import itertools
 import sys
 from pathlib import Path
-from typing import Callable, List, NamedTuple, Optional, Sequence
+from typing import Callable, Iterator, List, NamedTuple, Optional, Sequence
 
+from ..judging.absences import absences_of
+from ..judging.demand import can_work
 from ..judging.next_history import next_history
 from ..programs.program import BROKEN_RULE, WeekFiles
+from ..search.improving import read_week_given
 from ..shown.changes import swapped
-from ..shown.fits import fits_lines
+from ..shown.results import read_results, table
 from ..shown.roster_files import RosterFiles, read_old, read_view
 from ..shown.roster_view import RosterView
 from ..shown.why import change_lines, why_lines
-from ..search.improving import read_week_given
 from ..week.faults import Misuse
 from ..week.files import history_text, read_history, read_scenario, read_solution
-from . import check, show
+from ..week.records import DAYS, Place, Week
+from . import check, names, referee, show
 from .arguments import Parser, check_verb, table_of
 from .command import add_given_option, add_rosters_option, add_weeks_options, fix_files, parser
 from .show import lines_text, warn, write_result
@@ -72,7 +76,15 @@ def _swap_options() -> Parser:
 
 def _roster_files(given: argparse.Namespace) -> RosterFiles:
     """The files of some weeks and their rosters."""
-    return RosterFiles(given.roster, given.sce, [given.his], given.week, fix_files(given.fix, len(given.roster)), given.early, given.facts)
+    return RosterFiles(
+        given.roster,
+        given.sce,
+        [given.his],
+        weeks=given.week,
+        fixes=fix_files(given.fix, len(given.roster)),
+        early=given.early,
+        given=given.facts,
+    )
 
 
 def _why(given: argparse.Namespace) -> int:
@@ -160,6 +172,27 @@ def _fits(given: argparse.Namespace) -> int:
     return 0
 
 
+# ---- results
+
+
+def _results_options() -> Parser:
+    options = parser(
+        "Prints a table of the reports of many runs of inrc2pb-solve: what each has printed on standard output, in a file of its own.",
+        "docs/solvers.md shows how to run many weeks, on one machine or on several.\n"
+        "Example: inrc2pb-roster results reports/*.txt --joblog jobs.log",
+        "results",
+    )
+    options.add_argument("reports", metavar="FILE", type=Path, nargs="+", help="the reports, right after the verb")
+    seconds = "a file that `parallel --joblog` has written: the seconds of job N are those of the report whose name ends with N"
+    options.add_argument("--joblog", metavar="FILE", type=Path, help=seconds)
+    return options
+
+
+def _results(given: argparse.Namespace) -> int:
+    print("\n".join(table(read_results(given.reports, given.joblog))))
+    return 0
+
+
 # ---- the command
 
 
@@ -170,6 +203,9 @@ VERBS = {
     "check": Verb("the mistakes of files and rosters, and how to correct them", check.options, check.main),
     "next": Verb("the history with which the next week begins", _next_options, _next),
     "fits": Verb("the nurses who could fill each place of a week", _fits_options, _fits),
+    "referee": Verb("whether what solvers claim about a week is true", referee.options, referee.main),
+    "results": Verb("a table of the reports of many runs", _results_options, _results),
+    "names": Verb("the variables and constraints of a model, in words", names.options, names.main),
 }
 
 
@@ -194,3 +230,14 @@ def main(words: Optional[List[str]] = None) -> int:
     check_verb(given[0], list(VERBS))
     verb = VERBS[given[0]]
     return verb.do(verb.options().parse_args(given[1:]))
+
+
+def fits_lines(week: Week) -> Iterator[str]:
+    """A line for each place that asks for nurses, such as `Mon Early Nurse (1,2): Ann Cem`, by day, shift type and skill."""
+    scenario, away = week.scenario, absences_of(week.data)
+    for place in itertools.starmap(Place, itertools.product(range(len(DAYS)), scenario.shift_types, scenario.skills)):
+        needed = week.data.requirements.get(place)
+        if needed and (needed.minimum or needed.optimal):
+            fit = [nurse for nurse in scenario.nurses if can_work(scenario, week.history, away, nurse, place)]
+            named = f"{DAYS[place.day]} {place.shift} {place.skill}"
+            yield f"{named} ({needed.minimum},{needed.optimal}): {' '.join(fit) or 'nobody'}"

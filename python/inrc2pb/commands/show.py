@@ -10,17 +10,16 @@ from typing import Iterable, Optional, Sequence
 
 from ..shown.calendars import issue_now, shift_dates, write_calendars
 from ..shown.changes import changed_lines
-from .arguments import Parser
-from .command import add_given_option, add_rosters_option, fix_files, parser
-from ..week.dates import read_monday, read_times
-from ..week.faults import Misuse
 from ..shown.page import page_text
 from ..shown.page_tables import Content
 from ..shown.roster_files import RosterFiles, read_old, read_view
 from ..shown.roster_text import TextTable, spreadsheet
 from ..shown.roster_view import AWAY, HELD, REFUSED, RosterView
-from ..week.targets import check_inputs_stay
-from ..week.writing import write_text
+from ..week.dates import read_monday, read_times
+from ..week.faults import Misuse, not_obeyed
+from ..week.writing import check_inputs_stay, write_text
+from .arguments import Parser
+from .command import add_given_option, add_rosters_option, fix_files, parser, print_painted
 
 
 def options() -> Parser:
@@ -66,7 +65,9 @@ def main(given: argparse.Namespace) -> int:
     inputs = [*given.roster, given.sce, *given.his, *given.week, given.facts, given.reasons, *given.old, *fixes.values()]
     _check_options(given, inputs)
     monday = read_monday(given.monday, len(given.roster)) if given.monday else None
-    files = RosterFiles(given.roster, given.sce, given.his, given.week, fixes, given.early, given.facts, given.reasons)
+    files = RosterFiles(
+        given.roster, given.sce, given.his, weeks=given.week, fixes=fixes, early=given.early, given=given.facts, reasons=given.reasons
+    )
     view = read_view(files)
     old = read_old(files, given.old) if given.old else None
     content = Content(view, old, monday, read_times(given.times, view.shifts), given.only_table)
@@ -75,7 +76,10 @@ def main(given: argparse.Namespace) -> int:
     if monday and given.ics:
         issue = issue_now(shift_dates(content.old, monday)) if content.old else None
         write_calendars(view, given.ics, monday, content.times, issue)
-    write_result(text, given.out, inputs, "the table")
+    if _has_colors(given):
+        print_painted(text)
+    else:
+        write_result(text, given.out, inputs, "the table")
     return 0
 
 
@@ -118,9 +122,10 @@ def _text(view: RosterView, given: argparse.Namespace, content: Content) -> str:
         return page_text(content)
     if given.csv:
         return _csv_text(view)
-    lines = TextTable(view, not given.out and _wants_color()).lines()
+    lines = TextTable(view, _has_colors(given)).lines()
     if content.old:
-        lines += [f"changed: {line}" for line in changed_lines(content.old, view)]
+        changed = [f"changed: {line}" for line in changed_lines(content.old, view)]
+        lines += map(not_obeyed, changed) if _has_colors(given) else changed
     return lines_text(lines)
 
 
@@ -136,5 +141,7 @@ def _csv_text(view: RosterView) -> str:
     return text.getvalue()
 
 
-def _wants_color() -> bool:
-    return sys.stdout.isatty() and not os.environ.get("NO_COLOR") and os.environ.get("TERM") != "dumb"
+def _has_colors(given: argparse.Namespace) -> bool:
+    """Whether the verb writes the table to a terminal that has colors."""
+    is_table = not (given.out or given.html or given.csv)
+    return is_table and sys.stdout.isatty() and not os.environ.get("NO_COLOR") and os.environ.get("TERM") != "dumb"

@@ -2,33 +2,31 @@
 
 import contextlib
 import re
+from collections import Counter
 from pathlib import Path
-from typing import Dict, FrozenSet, Iterator, List, NamedTuple, Sequence, TextIO, Tuple
+from typing import Dict, FrozenSet, Iterator, List, Mapping, NamedTuple, Sequence, TextIO, Tuple
 
-from ..judging.absences import NO_SKILL, TooMany, joined, readable, with_requests
-from .arguments import as_typed
+from ..judging.absences import NO_SKILL, TooMany, with_requests
 from ..judging.demand import demand_warnings, supply_warnings
-from ..judging.given import with_given
-from ..week.facts import Claim, facts_text
-from ..week.faults import FileFault, Misuse
-from ..week.files import history_text, scenario_text, solution_text, week_text
-from ..week.reasons import reasons_text
-from ..week.records import History, Scenario, Solution, WeekData
-from ..week.writing import replacing
-from ..week.hints import quoted
-from ..judging.odd_values import history_warnings, scenario_warnings, week_warnings
-from ..sheets.plan_sheets import AWAY, Days, WeekSheet, check_held, days_away, plan_warnings, read_days, read_weeks
-from ..sheets.part_contracts import with_part_contracts
-from ..sheets.sheet_facts import absence_reasons, claims_of
-from ..sheets.sheet_looks import look_warnings
+from ..judging.leave import Counted, counted, credit_line, credited
+from ..judging.limits import with_given
+from ..judging.odd_values import Reach, Warned, history_warnings, reach_of, scenario_warnings, week_warnings
+from ..plans.store import has_spreadsheet
+from ..sheets.plan_sheets import AWAY, Days, WeekSheet, check_held, plan_warnings, read_days, read_weeks
+from ..sheets.sheet_facts import absence_reasons, claims_of, look_warnings, with_part_contracts
 from ..sheets.sheet_files import Book, read_book
 from ..sheets.sheet_rows import tidy
-from ..plans.store import has_spreadsheet
-from ..week.slots import MAX_NUMBER
-from ..week.targets import check_target
 from ..sheets.ward_sheets import book_warnings, read_ward, skill_warnings, ward_warnings
 from ..sheets.ward_template import write_template
-from ..judging.leave import credit_line, credited, paid_days, shifts_of_leave
+from ..week.facts import Claim, facts_text, reasons_text
+from ..week.faults import FileFault, Misuse
+from ..week.files import history_text, scenario_text, solution_text, week_text
+from ..week.own_files import is_own_file, own_bytes
+from ..week.records import History, NurseDay, Scenario, Solution, WeekData, week_name
+from ..week.slots import MAX_NUMBER
+from ..week.words import joined, quoted, readable
+from ..week.writing import check_target, replacing_link
+from .arguments import as_typed
 
 
 # The name of the example spreadsheet.
@@ -60,24 +58,28 @@ class WardRecords(NamedTuple):
 
 
 class WardFiles(NamedTuple):
-    """The text of each file by its name, warnings, for each nurse with days away that count as work these days and shifts, the days with
-    numbers of their own, and the same as records."""
+    """The text of each file by its name, warnings, what plans can reach, as what days away count, the days with numbers of their own, and
+    the same as records."""
 
     texts: Dict[str, str]
     warnings: List[str]
-    credit: Dict[str, Tuple[int, int]]
+    reach: Reach
+    counted: Counted
     holidays: FrozenSet[int]
     records: WardRecords
 
 
-def ward_files(book: Book, name: str, days: Days, reasons: Sequence[str], requests: bool = False) -> WardFiles:
-    """The files of a ward with this name, for these days. Absences for these reasons count as work."""
+def ward_files(
+    book: Book, name: str, days: Days, reasons: Sequence[str], requests: bool = False, lost: Mapping[NurseDay, int] = {}
+) -> WardFiles:
+    """The files of a ward with this name, for these days. Absences for these reasons count as work, illnesses as the shifts that they have
+    taken from plans on the wall, as far as `lost` has them."""
     ward = read_ward(book, name, days.weeks)
     sheets = read_weeks(book, ward, days)
     check_held(ward, sheets)
-    credit = dict(days_away(sheets, reasons))
-    shifts = shifts_of_leave(ward.scenario, credit)
-    history = credited(ward.history, shifts)
+    away = {NurseDay(nurse, 7 * number + day): word for number, sheet in enumerate(sheets) for (nurse, day), word in sheet.reasons.items()}
+    as_shifts = counted(ward.scenario, away, reasons, lost)
+    history = credited(ward.history, as_shifts)
     ward = with_part_contracts(ward, sheets)
     claims = claims_of(ward, history, sheets)
     if len(claims) > MAX_NUMBER:
@@ -92,18 +94,25 @@ def ward_files(book: Book, name: str, days: Days, reasons: Sequence[str], reques
     warnings += [*book_warnings(book), *look_warnings(book, days), *ward_warnings(ward)]
     warnings += [f"sheet plan: {line}" for line in plan_warnings(days, ward.scenario)]
     datas = [_week(ward.scenario, sheet, claims, number) for number, sheet in enumerate(sheets)]
-    odd: Dict[str, List[int]] = {}
+    odd: Dict[Warned, List[int]] = {}
     for number, (sheet, data) in enumerate(zip(sheets, datas)):
         found[f"week-{number}.txt"] = week_text(_with_requests(book, ward.scenario, data, number) if requests else data)
         found[f"fix-{number}.txt"] = solution_text(Solution(number, name, tuple(held.row for held in sheet.held)))
-        past, paid = None if number else history, [paid_days(later.reasons, reasons) for later in sheets[number:]]
+        past, paid = None if number else history, [as_shifts.of_week(later) for later in range(number, len(sheets))]
         for line in (*week_warnings(ward.scenario, data), *demand_warnings(ward.scenario, past, data, paid)):
             odd.setdefault(line, []).append(number)
     warnings += [f"sheet needs, week {', '.join(str(number + 1) for number in numbers)}: {line}" for line, numbers in odd.items()]
-    warnings += [f"sheet needs: {line}" for line in supply_warnings(ward.scenario, history, datas)]
+    supply = list(supply_warnings(ward.scenario, history, datas))
+    warnings += [f"sheet needs: {line}" for line in supply]
     holidays = frozenset(7 * number + day for number, sheet in enumerate(sheets) if len(sheet.holidays) < 7 for day in sheet.holidays)
-    counted = {nurse: (days, shifts[nurse]) for nurse, days in credit.items()}
-    return WardFiles(found, warnings, counted, holidays, WardRecords(ward.scenario, ward.history, claims, sheets))
+    return WardFiles(
+        found,
+        warnings,
+        reach_of([*odd, *supply]),
+        counted=as_shifts,
+        holidays=holidays,
+        records=WardRecords(ward.scenario, ward.history, claims, sheets),
+    )
 
 
 def _week(scenario: Scenario, sheet: WeekSheet, claims: Sequence[Claim], number: int) -> WeekData:
@@ -116,17 +125,17 @@ def _with_requests(book: Book, scenario: Scenario, data: WeekData, number: int) 
     try:
         return with_requests(scenario, data, ()).data
     except TooMany as fault:
-        raise FileFault(book.path, 0, f"sheet plan, week {number + 1}: {fault}: {NO_SKILL}") from fault
+        raise FileFault(book.path, 0, f"sheet plan, {week_name(number)}: {fault}: {NO_SKILL}") from fault
 
 
 def _old_histories(folder: Path, first: str, weeks: int) -> Iterator[str]:
     """A warning if the first history gets other numbers, as for leave that counts as work, and the folder has later histories, made of
     the old ones."""
     old, names = folder / "history-0.txt", [f"history-{number}.txt" for number in range(1, weeks)]
-    later = [name for name in names if (folder / name).is_file()]
-    if not later or not old.is_file():
+    later = [name for name in names if is_own_file(folder / name)]
+    if not later or not is_own_file(old):
         return
-    before = _nurse_rows(old.read_text(encoding="utf-8", errors="surrogateescape"))
+    before = _nurse_rows(own_bytes(folder, old.name).decode(errors="surrogateescape"))
     changed = [nurse for nurse, row in _nurse_rows(first).items() if before.get(nurse, row) != row]
     if changed:
         them = "it" if len(later) == 1 else "them"
@@ -142,10 +151,11 @@ def _nurse_rows(history: str) -> Dict[str, List[str]]:
 def _write(folder: Path, found: Dict[str, str]) -> None:
     """Writes all files, or none of them."""
     folder.mkdir(parents=True, exist_ok=True)
-    for name in found:
-        check_target(folder / name)
+    for path in (folder / name for name in found):
+        if not path.is_symlink():
+            check_target(path)
     with contextlib.ExitStack() as stack:
-        targets: List[Tuple[TextIO, str]] = [(stack.enter_context(replacing(folder / name)), text) for name, text in found.items()]
+        targets: List[Tuple[TextIO, str]] = [(stack.enter_context(replacing_link(folder / name)), text) for name, text in found.items()]
         for target, text in targets:
             target.write(text)
             target.flush()
@@ -175,9 +185,10 @@ def files(tables: Path, out: Path, credit: str, requests: bool) -> List[str]:
     found = ward_files(book, ward_name(tables), read_days(book), reasons, requests)
     old = list(_old_histories(out, found.texts["history-0.txt"], sum(name.startswith("week-") for name in found.texts)))
     _write(out, found.texts)
+    days = Counter(nurse for nurse, _ in found.counted.days)
     return [
         *(f"{tables}: warning: {readable(line)}" for line in found.warnings),
         f"{out}: {', '.join(found.texts)}",
-        *(credit_line(nurse, away, shifts, "history-0.txt") for nurse, (away, shifts) in found.credit.items()),
+        *(credit_line(nurse, days[nurse], shifts, "history-0.txt") for nurse, shifts in found.counted.shifts.items()),
         *(f"{out}: warning: {readable(line)}" for line in old),
     ]

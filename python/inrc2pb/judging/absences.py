@@ -8,9 +8,9 @@ import collections
 from dataclasses import replace
 from typing import Collection, Dict, FrozenSet, Iterable, List, NamedTuple, Sequence, Tuple
 
-from ..week.hints import plural
 from ..week.records import DAYS, Absence, Cell, Request, Scenario, WeekData
 from ..week.slots import MAX_NUMBER
+from ..week.words import joined, plural, readable
 
 # Nobody wishes a day off thirty times. A broken absence with the most requests costs more than most rosters. The rows of a file that
 # absences leave are for wishes.
@@ -56,25 +56,13 @@ def in_words(cells: Iterable[Cell], names: Sequence[str] = DAYS) -> str:
 def way_out(scenario: Scenario, held: Iterable[Cell], broken: Collection[Cell]) -> str:
     """What to do if these rows break absences: the held shifts of nurses who could work them instead, or how to find the cause."""
     wanted = {(row.day, row.shift, row.skill) for row in broken}
-    able = [
-        row for row in held if (row.day, row.shift, row.skill) not in wanted
-        and any(row.day == day and skill in scenario.nurses[row.nurse].skills for day, _, skill in wanted)
-    ]  # fmt: skip
+    others = [row for row in held if (row.day, row.shift, row.skill) not in wanted]
+    able = [row for row in others if any(row.day == day and skill in scenario.nurses[row.nurse].skills for day, _, skill in wanted)]
     if not able:
         return "type inrc2pb-roster check with the same files and --why-none: it says which minimum numbers to lower"
     some = ", ".join(f"{readable(row.nurse)} {DAYS[row.day]} {readable(row.shift)}" for row in able[:6])
-    return f"hold fewer shifts with --fix; these nurses have the skill: {some}{', and more' * (len(able) > 6)}"
-
-
-def readable(name: str) -> str:
-    """A name as it was in a spreadsheet, with blanks."""
-    return name.replace("_", " ")
-
-
-def joined(words: Iterable[str]) -> str:
-    """The words of a list in a sentence, as `Fri, Sat and Sun`."""
-    *first, last = words
-    return f"{', '.join(first)} and {last}" if first else last
+    more = ", and more" if len(able) > 6 else ""
+    return f"hold fewer shifts with --fix; these nurses have the skill: {some}{more}"
 
 
 # ---- requests for other solvers

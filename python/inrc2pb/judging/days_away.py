@@ -1,10 +1,8 @@
 """Days away that concern the days beside them: training is work in a row, and before training or leave nobody should have a night shift."""
 
-from typing import Collection, FrozenSet, Iterator, List, Mapping, NamedTuple, Tuple
+from typing import Collection, FrozenSet, Iterator, List, Mapping, NamedTuple
 
-from ..week.records import History, Scenario
-
-NurseDay = Tuple[str, int]
+from ..week.records import History, NurseDay, Scenario
 
 
 class DaysAway(NamedTuple):
@@ -55,7 +53,7 @@ def _in_a_row(days: Collection[int]) -> Iterator[List[int]]:
 
 def nights_before(away: DaysAway, works: Mapping[NurseDay, str]) -> List[NurseDay]:
     """The days of `free` to which nurses come from a night shift, if they have these shift types."""
-    return [(nurse, day) for nurse, day in sorted(away.free) if works.get((nurse, day - 1)) in away.nights]
+    return [NurseDay(nurse, day) for nurse, day in sorted(away.free) if works.get(NurseDay(nurse, day - 1)) in away.nights]
 
 
 def excess(scenario: Scenario, history: History, away: DaysAway, works: Mapping[NurseDay, str]) -> int:

@@ -1,42 +1,18 @@
 """What can be counted before planning: nurses who are needed at once, and shifts that a week asks for and contracts supply."""
 
-import enum
 import math
 from fractions import Fraction
-from typing import Collection, Dict, Iterable, Iterator, List, Mapping, NamedTuple, Optional, Sequence, Tuple
+from typing import Collection, Dict, Iterator, List, Mapping, NamedTuple, Optional, Sequence, Tuple
 
-from .absences import absences_of, joined
-from .leave import share_of_day
-from .odd_values import IMPOSSIBLE
 from ..week.facts import SHIFTS
-from .rules import ASSIGNMENT_TOTAL, MISSING_NURSE
 from ..week.records import DAYS, Absence, Cell, History, Place, Scenario, WeekData
+from ..week.soft_rules import ASSIGNMENT_TOTAL, MISSING_NURSE
+from ..week.words import joined
+from .absences import absences_of
+from .odd_values import IMPOSSIBLE, Reach, Warned
 
-# What warnings say of weeks whose rosters break an absence, or exceed a limit that holds.
-UNKEPT, ABOVE_LIMITS = "no roster that keeps every absence can meet it", "too many to keep the limits that hold"
-
-
-class Reach(enum.Enum):
-    """What plans can reach: all that is asked for, not each absence and limit, or not even the minimum numbers."""
-
-    ALL = enum.auto()
-    NOT_ALL = enum.auto()
-    NONE = enum.auto()
-
-
-def reach_of(warnings: Iterable[str]) -> Reach:
-    """What plans can reach by the warnings of this module, and of the odd values of a week."""
-    found = Reach.ALL
-    for line in warnings:
-        if IMPOSSIBLE in line:
-            return Reach.NONE
-        if UNKEPT in line or ABOVE_LIMITS in line:
-            found = Reach.NOT_ALL
-    return found
-
-
-# For each week, from the week of a history on, the number of each nurse's days away that count as work. The history has their shifts.
-Paid = Sequence[Mapping[str, int]]
+# For each week, from the week of a history on, the shifts as which each nurse's days away count. The history has them.
+Paid = Sequence[Mapping[str, Fraction]]
 
 
 class _Short(NamedTuple):
@@ -46,21 +22,22 @@ class _Short(NamedTuple):
     cure: str
 
 
-def demand_warnings(scenario: Scenario, history: Optional[History], data: WeekData, paid: Paid = ()) -> Iterator[str]:
+def demand_warnings(scenario: Scenario, history: Optional[History], data: WeekData, paid: Paid = ()) -> Iterator[Warned]:
     """Warnings of days for which no choice of nurses fills all minimum numbers, and of more shifts than the contracts supply."""
-    found: Dict[str, List[str]] = {}
+    found: Dict[Warned, List[str]] = {}
     for day, name in enumerate(DAYS):
         always, there = _shortage(scenario, history, data, day, ()), _shortage(scenario, history, data, day, absences_of(data))
         if always:
-            found.setdefault(f"{always.text}: {IMPOSSIBLE}: {always.cure}", []).append(name)
+            found.setdefault(Warned(f"{always.text}: {IMPOSSIBLE}: {always.cure}", Reach.NONE), []).append(name)
         elif there:
-            found.setdefault(f"{there.text}: {UNKEPT}: {there.cure}, or shorten an absence", []).append(name)
-    for text, days in found.items():
-        yield f"{joined(days)}: {text}"
+            unkept = f"{there.text}: no roster that keeps every absence can meet it: {there.cure}, or shorten an absence"
+            found.setdefault(Warned(unkept, Reach.NOT_ALL), []).append(name)
+    for warned, days in found.items():
+        yield Warned(f"{joined(days)}: {warned}", warned.reach)
     asked, supplied = asked_shifts(data), supplied_shifts(scenario, history, paid)
     if asked[0] > supplied[1]:
         supply = f"it asks for at least {asked[0]} shifts, and the contracts supply at most {supplied[1]} a week"
-        yield f"{supply}: if all weeks ask for so many, each shift above costs points"
+        yield Warned(f"{supply}: if all weeks ask for so many, each shift above costs points")
 
 
 def asked_shifts(data: WeekData) -> Tuple[int, int]:
@@ -74,15 +51,15 @@ def supplied_shifts(scenario: Scenario, history: Optional[History], paid: Paid =
     left, zero = scenario.weeks - (history.week if history else 0), Fraction(0)
     minimum = most = zero
     for name in scenario.nurses:
-        share, limits = share_of_day(scenario, name), scenario.contract_of(name).assignments
-        done = history.nurses[name].assignments - share * sum(week.get(name, 0) for week in paid) if history else zero
-        away = share * (paid[0].get(name, 0) if paid else 0)
+        limits = scenario.contract_of(name).assignments
+        done = history.nurses[name].assignments - sum((week.get(name, zero) for week in paid), zero) if history else zero
+        away = paid[0].get(name, zero) if paid else zero
         minimum += max(zero, (limits.minimum - done) / left - away)
         most += max(zero, min(max(zero, limits.maximum - done) / left, Fraction(len(DAYS))) - away)
     return math.floor(minimum), math.ceil(most)
 
 
-def supply_warnings(scenario: Scenario, history: History, weeks: Sequence[WeekData]) -> Iterator[str]:
+def supply_warnings(scenario: Scenario, history: History, weeks: Sequence[WeekData]) -> Iterator[Warned]:
     """A warning if the best numbers of the weeks to the end of the period ask for more shifts than contracts supply beside absences."""
     if history.week + len(weeks) != scenario.weeks:
         return
@@ -95,19 +72,21 @@ def supply_warnings(scenario: Scenario, history: History, weeks: Sequence[WeekDa
     if best > supplied:
         hold = {limit.nurse for data in weeks for limit in data.limits if limit.kind == SHIFTS}
         costs = f"each shift above costs {ASSIGNMENT_TOTAL} points, and a nurse below a best number {MISSING_NURSE}: lower best numbers"
-        if hold.issuperset(scenario.nurses):
+        above = hold.issuperset(scenario.nurses) and least > supplied
+        if above:
+            costs = f"{least - supplied} too many to keep the limits that hold: lower minimum numbers"
+        elif hold.issuperset(scenario.nurses):
             costs = f"{best - supplied} will be missing, for {MISSING_NURSE} points each: lower best numbers"
-            costs = f"{least - supplied} {ABOVE_LIMITS}: lower minimum numbers" if least > supplied else costs
         supply = f"and the contracts supply at most {supplied} beside absences"
-        yield f"the best numbers ask for {best} shifts, the minimum numbers for {least}, {supply}: {costs}"
+        asks = f"the best numbers ask for {best} shifts, the minimum numbers for {least}"
+        yield Warned(f"{asks}, {supply}: {costs}", Reach.NOT_ALL if above else Reach.ALL)
 
 
 def can_work(scenario: Scenario, history: Optional[History], away: Collection[Absence], nurse: str, place: Place) -> bool:
     """Whether the nurse has the skill, is not away, and may have the shift on Monday after her last one."""
     last = history.nurses[nurse].last_shift if history and place.day == 0 else None
     is_free = Absence(nurse, place.day, None) not in away and Absence(nurse, place.day, place.shift) not in away
-    may_follow = last is None or place.shift not in scenario.shift_types[last].forbidden_next
-    return place.skill in scenario.nurses[nurse].skills and is_free and may_follow
+    return place.skill in scenario.nurses[nurse].skills and is_free and not scenario.forbids(last, place.shift)
 
 
 def _shortage(scenario: Scenario, history: Optional[History], data: WeekData, day: int, away: Collection[Absence]) -> Optional[_Short]:
@@ -177,8 +156,8 @@ def hindrance(scenario: Scenario, history: History, away: Collection[Absence], c
         return f"never works {place.shift} then"
     if place.day in shifts:
         return f"works {shifts[place.day]} on this day"
-    if before is not None and place.shift in scenario.shift_types[before].forbidden_next:
+    if scenario.forbids(before, place.shift):
         return f"works {before} on the day before"
-    if after is not None and after in scenario.shift_types[place.shift].forbidden_next:
+    if scenario.forbids(place.shift, after):
         return f"works {after} on the next day"
     return ""

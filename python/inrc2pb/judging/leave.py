@@ -1,31 +1,74 @@
-"""Leave that counts as work: its shifts, in the history before it."""
+"""Days away as a ward counts them: as what they count in the history before them, for judges, searches and sentences alike; and contracts
+that count for some nurses only.
+
+Training counts as a shift a day, and as a weekend with work. An illness counts the shift that it takes from a plan on the wall. Other days,
+such as those of leave, count on Monday to Friday: as a shift for a full contract, and in proportion to the maximum of other ones. On a
+weekend they count only if nothing is on the weekdays beside it.
+"""
 
 import math
+import re
 from dataclasses import replace
 from fractions import Fraction
-from typing import Collection, Dict, Mapping, Tuple
+from typing import Collection, Dict, Iterable, Mapping, NamedTuple, Optional
 
-from .absences import readable
 from ..week.faults import Misuse
-from ..week.records import DAYS, History, Scenario
-from ..week.hints import plural
+from ..week.records import WEEK_DAYS, History, NurseDay, Scenario
 from ..week.slots import MAX_NUMBER
+from ..week.words import plural, readable
+from .rules import SATURDAY
+
+_NAME = re.compile("(.+?)(?:_([0-9]+)_of_([0-9]+)_days)?(_any_days_off)?_*")
+
+ILL, TRAINING = "ill", "training"
 
 
-def share_of_day(scenario: Scenario, nurse: str) -> Fraction:
-    """The part of a shift as which such a day of a nurse counts: her contract's minimum, for this part of the period."""
-    return Fraction(scenario.contract_of(nurse).assignments.minimum, len(DAYS) * scenario.weeks)
+class Counted(NamedTuple):
+    """As what days away count: the shifts of each nurse's day, those of each nurse in all, rounded up, and her weekends with training."""
+
+    days: Mapping[NurseDay, Fraction] = {}
+    shifts: Mapping[str, int] = {}
+    weekends: Mapping[str, int] = {}
+
+    def of_week(self, number: int) -> Dict[str, Fraction]:
+        """The shifts of each nurse's days away in a week, counted from 0."""
+        found: Dict[str, Fraction] = {}
+        for (nurse, day), shifts in self.days.items():
+            if day // WEEK_DAYS == number:
+                found[nurse] = found.get(nurse, Fraction(0)) + shifts
+        return found
 
 
-def shifts_of_leave(scenario: Scenario, days: Dict[str, int]) -> Dict[str, int]:
-    """The shifts as which these days of each nurse count, rounded up."""
-    return {nurse: math.ceil(count * share_of_day(scenario, nurse)) for nurse, count in days.items()}
+def counted(scenario: Scenario, reasons: Mapping[NurseDay, str], words: Collection[str], lost: Mapping[NurseDay, int] = {}) -> Counted:
+    """As what the days away of a period count for these of their reasons. The contracts are those of the whole period, and `lost` has the
+    shifts that illnesses have taken from plans on the wall, as far as that is known."""
+    days = {place: _shifts_of(scenario, reasons, place, lost) for place, word in reasons.items() if word in words}
+    nurses = list(dict.fromkeys(nurse for nurse, _ in days))
+    shifts = {nurse: math.ceil(sum(number for (who, _), number in days.items() if who == nurse)) for nurse in nurses}
+    on_weekends = (NurseDay(nurse, day) for nurse, day in days if day % WEEK_DAYS >= SATURDAY)
+    trained = {(nurse, day // WEEK_DAYS) for nurse, day in on_weekends if reasons[NurseDay(nurse, day)] == TRAINING}
+    weekends = {nurse: sum(who == nurse for who, _ in trained) for nurse in dict.fromkeys(nurse for nurse, _ in sorted(trained))}
+    return Counted(days, shifts, weekends)
 
 
-def paid_days(reasons: Mapping[Tuple[str, int], str], counted: Collection[str]) -> Dict[str, int]:
-    """The number of each nurse's days away for one of the counted reasons, by the reasons of a week."""
-    nurses = [nurse for (nurse, _), reason in reasons.items() if reason in counted]
-    return {nurse: nurses.count(nurse) for nurse in dict.fromkeys(nurses)}
+def _shifts_of(scenario: Scenario, reasons: Mapping[NurseDay, str], one: NurseDay, lost: Mapping[NurseDay, int]) -> Fraction:
+    """The shifts as which a day away counts."""
+    (nurse, day), word = one, reasons[one]
+    if word == TRAINING:
+        return Fraction(1)
+    if word == ILL and one in lost:
+        return Fraction(lost[one])
+    saturday = day - day % WEEK_DAYS + SATURDAY
+    beside = (nurse, saturday - 1) in reasons or (nurse, saturday + 2) in reasons
+    return Fraction(0) if day >= saturday and beside else _shifts_of_weekday(scenario, nurse)
+
+
+def _shifts_of_weekday(scenario: Scenario, nurse: str) -> Fraction:
+    """The shifts of a nurse for each day from Monday to Friday, if she has the most of her contract: one for a full contract. A contract
+    without a maximum has its minimum."""
+    minimum, maximum = scenario.contract_of(nurse).assignments
+    most = minimum if maximum >= WEEK_DAYS * scenario.weeks else maximum
+    return min(Fraction(1), Fraction(most, SATURDAY * scenario.weeks))
 
 
 def credit_line(nurse: str, days: int, shifts: int, file: str) -> str:
@@ -33,12 +76,38 @@ def credit_line(nurse: str, days: int, shifts: int, file: str) -> str:
     return f"{readable(nurse)}: {plural(days, 'day')} away {'counts' if days == 1 else 'count'} as {plural(shifts, 'shift')} in {file}"
 
 
-def credited(history: History, shifts: Dict[str, int]) -> History:
-    """The history with these shifts added."""
+def credited(history: History, found: Counted) -> History:
+    """The history with the shifts and weekends as which days away count."""
     nurses = dict(history.nurses)
-    for nurse, count in shifts.items():
-        total = nurses[nurse].assignments + count
+    for nurse, shifts in found.shifts.items():
+        past = nurses[nurse]
+        total = past.assignments + shifts
         if total > MAX_NUMBER:
             raise Misuse(f"{nurse} would have more than {MAX_NUMBER} assignments: correct her history")
-        nurses[nurse] = replace(nurses[nurse], assignments=total)
+        weekends = min(MAX_NUMBER, past.weekends + found.weekends.get(nurse, 0))
+        nurses[nurse] = replace(past, assignments=total, weekends=weekends)
     return replace(history, nurses=nurses)
+
+
+class PartContract(NamedTuple):
+    """The contract that a nurse's own one is a part of, the days on which it counts, those of the period (0: it counts on all of them), and
+    whether there is no maximum of days off."""
+
+    whole: str
+    days: int = 0
+    total: int = 0
+    any_days_off: bool = False
+
+    @property
+    def name(self) -> str:
+        """The name of the nurse's own contract."""
+        part = f"_{self.days}_of_{self.total}_days" if self.total else ""
+        return f"{self.whole}{part}{'_any_days_off' if self.any_days_off else ''}"
+
+
+def part_contract(name: str, contracts: Iterable[str]) -> Optional[PartContract]:
+    """What the name of a contract says, if it is a part of another one of these."""
+    found = _NAME.fullmatch(name)
+    if not found or found[1] == name or found[1] not in contracts:
+        return None
+    return PartContract(found[1], int(found[2] or 0), int(found[3] or 0), bool(found[4]))

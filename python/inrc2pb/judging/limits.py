@@ -1,11 +1,15 @@
-"""Limits that are never exceeded: who exceeds one in a roster, in words, and who could work instead."""
+"""Limits that are never exceeded: who exceeds one in a roster, in words, and who could work instead; and the facts that plans are asked
+to keep, as the absences and limits of weeks."""
 
-from typing import Collection, Iterable, Iterator, List, Sequence
+from dataclasses import replace
+from typing import Collection, Iterable, Iterator, List, Optional, Sequence, Tuple
 
-from ..week.facts import SHIFTS, WEEKENDS, WORK_DAYS
-from ..week.hints import plural
-from ..week.records import DAYS, Cell, KeptLimit, Week
-from .absences import absences_of, is_broken_by, joined, readable
+from ..week.facts import SHIFTS, WEEKENDS, WORK_DAYS, Charged, Choice, Claim, fact_text, of_weeks, read_facts
+from ..week.faults import FileFault
+from ..week.records import DAYS, Absence, Cell, KeptLimit, Scenario, Week, WeekData
+from ..week.slots import PathLike
+from ..week.words import joined, plural, readable
+from .absences import absences_of, is_broken_by
 from .rules import SATURDAY, Charge, charges
 
 # The kinds of charges, by their rules and their words.
@@ -63,9 +67,41 @@ def _with_shifts_left(week: Week, too_many: Sequence[Cell], cells: Sequence[Cell
     for nurse, owner in week.scenario.nurses.items():
         worked = week.history.nurses[nurse].assignments + sum(cell.nurse == nurse for cell in cells)
         left = week.scenario.contract_of(nurse).assignments.maximum - worked
-        could = [
-            cell for cell in too_many
-            if cell.skill in owner.skills and (nurse, cell.day) not in works and not is_broken_by(away, cell._replace(nurse=nurse))
-        ]  # fmt: skip
-        if nurse not in over and left > 0 and could:
+        free = [cell._replace(nurse=nurse) for cell in too_many if cell.skill in owner.skills and (nurse, cell.day) not in works]
+        if nurse not in over and left > 0 and not all(is_broken_by(away, cell) for cell in free):
             yield f"{readable(nurse)} ({left})"
+
+
+# ---- facts that plans are asked to keep
+
+
+def read_given(path: PathLike, scenario: Scenario, text: Optional[str] = None) -> Tuple[Claim, ...]:
+    """Reads the facts about the weeks of a period that plans are asked to keep. Raises FileFault if the search cannot keep one."""
+    claims = read_facts(path, scenario, scenario.weeks, text)
+    for claim in claims:
+        if not _is_kept(claim):
+            words = f"{'HOLDS' if claim.holds else 'NOT'} {fact_text(claim.fact)}"
+            raise FileFault(path, 0, f"'{words}' is neither an absence nor a limit of a nurse: remove it")
+    return claims
+
+
+def _is_kept(claim: Claim) -> bool:
+    """Whether a claim is an absence, or a limit of a nurse or of each."""
+    fact, holds = claim
+    if isinstance(fact, Choice):
+        return holds == (fact.shift is None)
+    counts = isinstance(fact, Charged) and fact.nurse is not None and fact.kind != WORK_DAYS
+    return holds and isinstance(fact, Charged) and fact.kind in (WORK_DAYS, SHIFTS, WEEKENDS) and (counts or fact.most == 0)
+
+
+def with_given(scenario: Scenario, data: WeekData, claims: Iterable[Claim], number: int) -> WeekData:
+    """The data of the week with this number from 0, with what these facts ask for."""
+    claims = of_weeks(claims, number, 1)
+    absences = {Absence(fact.nurse, fact.day, fact.shift) for fact, _ in claims if isinstance(fact, Choice)}
+    return replace(data, absences=frozenset(absences), limits=frozenset(_limits(scenario, claims)))
+
+
+def _limits(scenario: Scenario, claims: Iterable[Claim]) -> Iterator[KeptLimit]:
+    for fact, _ in claims:
+        if isinstance(fact, Charged):
+            yield from (KeptLimit(nurse, fact.kind, fact.most) for nurse in ([fact.nurse] if fact.nurse else scenario.nurses))

@@ -3,9 +3,9 @@
 from typing import Callable, Dict, Iterable
 
 from ..week.faults import Misuse
-from ..week.records import Cell, History, NurseHistory, Scenario
-from .rules import SATURDAY, SUNDAY
+from ..week.records import Cell, History, NurseHistory, Scenario, week_name
 from ..week.slots import MAX_NUMBER
+from .rules import SATURDAY, SUNDAY
 
 
 def _length_on_sunday(has: Callable[[int], bool], before: int) -> int:
@@ -27,17 +27,17 @@ def next_nurse_history(past: NurseHistory, shifts: Dict[int, str], new_period: b
         past.nurse,
         0 if new_period else past.assignments + len(shifts),
         0 if new_period else past.weekends + (SATURDAY in shifts or SUNDAY in shifts),
-        sunday,
-        _length_on_sunday(lambda day: shifts.get(day) == sunday, before) if sunday is not None else 0,
-        _length_on_sunday(lambda day: day in shifts, past.working_days),
-        _length_on_sunday(lambda day: day not in shifts, past.days_off),
+        last_shift=sunday,
+        consecutive_shifts=_length_on_sunday(lambda day: shifts.get(day) == sunday, before) if sunday is not None else 0,
+        working_days=_length_on_sunday(lambda day: day in shifts, past.working_days),
+        days_off=_length_on_sunday(lambda day: day not in shifts, past.days_off),
     )
 
 
 def next_history(scenario: Scenario, history: History, cells: Iterable[Cell], new_period: bool = False) -> History:
-    """The next week's history. A nurse with two assignments on one day, and a week after the last one, are a Misuse."""
+    """The next week's history. Raises Misuse if a nurse has two assignments on one day, or if the week is the last of its period."""
     if not new_period and history.week + 1 >= scenario.weeks:
-        raise Misuse(f"week {history.week + 1} is the last of {scenario.weeks}: begin a new period with --new-period")
+        raise Misuse(f"{week_name(history.week)} is the last of {scenario.weeks}: begin a new period with --new-period")
     shifts: Dict[str, Dict[int, str]] = {nurse: {} for nurse in history.nurses}
     for cell in cells:
         if cell.day in shifts[cell.nurse]:

@@ -1,10 +1,12 @@
 """Warnings of values that are allowed in the files of a week, but are probably mistakes."""
 
-from typing import Dict, Iterator, List, Optional, Tuple
+import enum
+from typing import Dict, Iterable, Iterator, List, Optional, Tuple
 
+from ..week.faults import obeyed, printable
 from ..week.records import DAYS, Contract, History, Limits, NurseHistory, Requirement, Scenario, WeekData
-from ..week.hints import plural
 from ..week.slots import is_utf8
+from ..week.words import plural
 
 # What helps if two values contradict one another.
 _CORRECT = "correct one of the two"
@@ -12,11 +14,38 @@ _CORRECT = "correct one of the two"
 IMPOSSIBLE = "no roster can meet it"
 
 
+class Reach(enum.IntEnum):
+    """What plans can reach: all that is asked for, not each absence and limit, or not even the minimum numbers."""
+
+    ALL = 0
+    NOT_ALL = 1
+    NONE = 2
+
+
+class Warned(str):
+    """A warning, and what plans can reach if nobody heeds it."""
+
+    reach: Reach
+
+    def __new__(cls, text: str, reach: Reach = Reach.ALL) -> "Warned":
+        """The warning with this text."""
+        found = super().__new__(cls, text)
+        found.reach = reach
+        return found
+
+
+def reach_of(warnings: Iterable[Warned]) -> Reach:
+    """What plans can reach beside all of these."""
+    return max((warned.reach for warned in warnings), default=Reach.ALL)
+
+
 def scenario_warnings(scenario: Scenario) -> Iterator[str]:
     """Warnings of a scenario."""
     names = (*scenario.skills, *scenario.shift_types, *scenario.contracts, *scenario.nurses)
     if not all(map(is_utf8, names)):
         yield "it is not saved as UTF-8, so tables and pages have wrong letters: save each file of the ward as UTF-8"
+    for name in filter(obeyed, filter(is_utf8, names)):
+        yield f"the name {printable(name)} has a sign that no table shows: remove it in each file of the ward"
     for shift in scenario.shift_types.values():
         yield from _reversed_limits(f"shift type {shift.name}", shift.consecutive)
     for contract in scenario.contracts.values():
@@ -85,29 +114,30 @@ def _totals(past: NurseHistory, week: int, leave: int) -> Iterator[str]:
         yield f"{past.nurse} has {plural(past.working_days, 'working day')} in a row, and {plural(past.assignments, 'assignment')}"
 
 
-def week_warnings(scenario: Scenario, data: WeekData) -> Iterator[str]:
+def week_warnings(scenario: Scenario, data: WeekData) -> Iterator[Warned]:
     """Warnings of a week's requirements."""
     have = {skill: sum(skill in nurse.skills for nurse in scenario.nurses.values()) for skill in scenario.skills}
-    found: Dict[Tuple[str, str], List[str]] = {}
+    found: Dict[Tuple[str, Warned], List[str]] = {}
     for place, required in data.requirements.items():
-        warning = _odd_number(required, have[place.skill])
-        if warning:
-            found.setdefault((f"{place.shift} {place.skill}", warning), []).append(DAYS[place.day])
-    for (row, warning), days in found.items():
-        yield f"{row} on {', '.join(days)}: {warning}"
-    yield from _unasked(scenario, data)
+        warned = _odd_number(required, have[place.skill])
+        if warned:
+            found.setdefault((f"{place.shift} {place.skill}", warned), []).append(DAYS[place.day])
+    for (row, warned), days in found.items():
+        yield Warned(f"{row} on {', '.join(days)}: {warned}", warned.reach)
+    yield from map(Warned, _unasked(scenario, data))
 
 
-def _odd_number(required: Requirement, have: int) -> str:
+def _odd_number(required: Requirement, have: int) -> Optional[Warned]:
     """A warning of a place for which this number of nurses has the skill."""
     if required.minimum > have:
         cure = f"lower {required.minimum} to {have}, or give more nurses the skill"
-        return f"at least {required.minimum} are needed, and {plural(have, 'nurse')} {_has(have)} the skill: {IMPOSSIBLE}: {cure}"
+        asks = f"at least {required.minimum} are needed, and {plural(have, 'nurse')} {_has(have)} the skill"
+        return Warned(f"{asks}: {IMPOSSIBLE}: {cure}", Reach.NONE)
     if required.optimal > have:
-        return f"{required.optimal} are best, and {plural(have, 'nurse')} {_has(have)} the skill"
+        return Warned(f"{required.optimal} are best, and {plural(have, 'nurse')} {_has(have)} the skill")
     if 0 < required.optimal < required.minimum:
-        return f"({required.minimum},{required.optimal}) has a minimum above the optimal number"
-    return ""
+        return Warned(f"({required.minimum},{required.optimal}) has a minimum above the optimal number")
+    return None
 
 
 def _has(count: int) -> str:

@@ -8,17 +8,19 @@ import collections
 from typing import Counter, Dict, Iterable, Iterator, List, NamedTuple, Optional, Sequence, Set, Tuple
 
 from ..week.records import Cell, Contract, Limits, NurseHistory, Place, Request, Week
+from ..week.soft_rules import (
+    ASSIGNMENT_TOTAL,
+    DAYS_OFF_RUN,
+    HALF_WEEKEND,
+    MISSING_NURSE,
+    REQUEST,
+    SHIFT_RUN,
+    SOFT_RULES,
+    WEEKEND_TOTAL,
+    WORK_RUN,
+)
 
 SATURDAY, SUNDAY = 5, 6
-SOFT_RULES = ("S1", "S2", "S3", "S4", "S5", "S6", "S7")
-# The weights of S1 to S7.
-MISSING_NURSE = 30
-SHIFT_RUN, WORK_RUN = 15, 30
-DAYS_OFF_RUN = 30
-REQUEST = 10
-HALF_WEEKEND = 30
-ASSIGNMENT_TOTAL = 20
-WEEKEND_TOTAL = 30
 Shifts = Dict[Tuple[str, int], List[str]]
 
 
@@ -64,14 +66,8 @@ def numbers(roster: Iterable[Cell]) -> Counter[Place]:
 
 
 def _has_forbidden_succession(week: Week, shifts: Shifts, nurse: str) -> bool:
-    last = week.history.nurses[nurse].last_shift
-    before = [] if last is None else [last]
-    for day in range(7):
-        now = shifts[nurse, day]
-        if any(later in week.scenario.shift_types[earlier].forbidden_next for earlier in before for later in now):
-            return True
-        before = now
-    return False
+    days: List[Sequence[Optional[str]]] = [[week.history.nurses[nurse].last_shift], *(shifts[nurse, day] for day in range(7))]
+    return any(week.scenario.forbids(earlier, later) for before, now in zip(days, days[1:]) for earlier in before for later in now)
 
 
 def broken(week: Week, roster: Sequence[Cell], held: Iterable[Cell] = ()) -> Iterator[str]:
@@ -125,7 +121,15 @@ def charges(week: Week, roster: Sequence[Cell], early: bool = False) -> Iterator
     for place, required in week.data.requirements.items():
         missing = required.optimal - number[place]
         if missing > 0:
-            charge = Charge("S1", "missing", None, MISSING_NURSE, f"{place.shift} {place.skill}", (place.day, place.day), times=missing)
+            charge = Charge(
+                "S1",
+                "missing",
+                None,
+                weight=MISSING_NURSE,
+                subject=f"{place.shift} {place.skill}",
+                days=(place.day, place.day),
+                times=missing,
+            )
             yield charge._replace(number=number[place], limit=required.optimal)
     requests = requests_by_nurse(week)
     for nurse in week.scenario.nurses:
@@ -155,7 +159,7 @@ def nurse_charges(week: Week, shifts: Shifts, requests: Sequence[Request], nurse
     if contract.complete_weekends and saturday != sunday:
         day = SATURDAY if saturday else SUNDAY
         yield Charge("S5", "half", nurse, HALF_WEEKEND, days=(day, day))
-    yield from _total_charges(week, contract, history, sum(map(len, shift_on)), saturday or sunday, early)
+    yield from _total_charges(week, contract, history, works=sum(map(len, shift_on)), weekend=saturday or sunday, early=early)
 
 
 def _request_charges(nurse: str, shift_on: Sequence[List[str]], requests: Sequence[Request]) -> Iterator[Charge]:
@@ -164,7 +168,7 @@ def _request_charges(nurse: str, shift_on: Sequence[List[str]], requests: Sequen
         for shift in shift_on[request.day]:
             if request.shift in (None, shift):
                 what = "Any" if request.shift is None else "shift"
-                yield Charge("S4", what, nurse, REQUEST, shift, (request.day, request.day), number=count, times=count)
+                yield Charge("S4", what, nurse, weight=REQUEST, subject=shift, days=(request.day, request.day), number=count, times=count)
 
 
 def _total_charges(week: Week, contract: Contract, history: NurseHistory, works: int, weekend: bool, early: bool) -> Iterator[Charge]:

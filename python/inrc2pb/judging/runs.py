@@ -3,10 +3,11 @@
 A choice is 0 for a day off, and one more than the index of its shift type otherwise.
 """
 
-from typing import Dict, FrozenSet, List, NamedTuple, Sequence, Set, Tuple
+from typing import Dict, FrozenSet, List, NamedTuple, Sequence, Tuple
 
-from ..week.records import DAYS, Contract, Limits, NurseHistory, ShiftType
-from .rules import DAYS_OFF_RUN, HALF_WEEKEND, SHIFT_RUN, SUNDAY, WORK_RUN
+from ..week.records import DAYS, Contract, Limits, NurseHistory, ShiftType, successions
+from ..week.soft_rules import DAYS_OFF_RUN, HALF_WEEKEND, SHIFT_RUN, WORK_RUN
+from .rules import SUNDAY
 
 # More than any cost: a choice that a hard rule forbids.
 NEVER = 1 << 50
@@ -83,7 +84,7 @@ class Runs:
         self.shifts = [Limits(0, 0), *(kind.consecutive for kind in types)]
         self.numbers = {kind.name: number for number, kind in enumerate(types, 1)}
         self._nights = {self.numbers[name] for name in beside.nights}
-        self.forbidden: List[Set[int]] = [set(), *({self.numbers[name] for name in kind.forbidden_next} for kind in types)]
+        self.forbidden = successions(types)
 
     def before(self, past: NurseHistory) -> RunState:
         """The state before the first day. The numbers of a history may contradict one another: all of them count."""
@@ -94,11 +95,9 @@ class Runs:
         """The state after a choice and runs of these lengths, if this number of days is left."""
         if not self.charging:
             return RunState(choice, 0, 0, 0)
-        work_limits, off_limits = self.contract.working_days, self.contract.days_off
-        return RunState(
-            choice, shortened(shift, self.shifts[choice], left) if shift else 0,
-            shortened(work, work_limits, left) if work else 0, shortened(off, off_limits, left) if off else 0,
-        )  # fmt: skip
+        shift_run = shortened(shift, self.shifts[choice], left) if shift else 0
+        work_run = shortened(work, self.contract.working_days, left) if work else 0
+        return RunState(choice, shift_run, work_run, shortened(off, self.contract.days_off, left) if off else 0)
 
     def steps(self, day: int, now: RunState) -> List[Step]:
         """For each choice on a day what it costs, in points, and the state at its end; NEVER, if a hard rule forbids it."""

@@ -10,11 +10,11 @@ from dataclasses import replace
 from itertools import permutations
 from typing import Callable, Collection, Counter, Dict, FrozenSet, Iterable, Iterator, List, Mapping, NamedTuple, Optional, Sequence, Tuple
 
-from ..judging.rules import MISSING_NURSE, REQUEST
-from ..week.records import Cell, Place, Request, Scenario, WeekData
-from .state import BACK, SHEET, NurseDay
+from ..week.records import Cell, NurseDay, Place, Request, Scenario, WeekData
+from ..week.soft_rules import MISSING_NURSE, REQUEST
+from .state import BACK, SHEET
 from .swaps import Kind, NurseWeeks, by_nurse
-from .ward import ALWAYS_OFF, WardPlan
+from .ward import DAYS_OFF, WardPlan
 
 # The cost of a new shift of a nurse, in points, in addition to the charges of the rules; and on a day that she has agreed on. It is less
 # than an absence.
@@ -99,7 +99,7 @@ def days_off_beside_absences(plan: WardPlan) -> FrozenSet[NurseDay]:
     """The nurses' days off in the weeks that are not over, at most two days from a day on which they are away. Days on which a nurse is
     back earlier are none."""
     back = {(one.nurse, one.day) for one in plan.state.absences if one.word in (BACK, SHEET)}
-    away = [(nurse, day) for (nurse, day), word in plan.away.items() if word != ALWAYS_OFF]
+    away = [(nurse, day) for (nurse, day), word in plan.away.items() if word not in DAYS_OFF]
     near = {NurseDay(nurse, day + later) for nurse, day in away for later in range(-NEAR, NEAR + 1)}
     return frozenset(one for one in near if one not in plan.works and one not in plan.away and one not in back)
 
@@ -154,7 +154,7 @@ class _Judge:
 
     def __init__(self, old: WardPlan, plan: WardPlan) -> None:
         self._plan, self._alone, self._before = plan, NurseWeeks(plan), by_nurse(plan, old.works)
-        self._beside, self._agreed = days_off_beside_absences(old), frozenset(old.state.agreed)
+        self._beside, self._agreed = days_off_beside_absences(old), frozenset(old.state.kept)
         self._known: Dict[Tuple[str, Tuple[Cell, ...]], _Value] = {}
 
     def value(self, works: Works) -> _Value:

@@ -5,17 +5,18 @@ for cannot be.
 """
 
 from dataclasses import replace
-from typing import Dict, List, NamedTuple, Optional, Sequence, Set, Tuple, Union
+from typing import Dict, Iterable, List, NamedTuple, Optional, Sequence, Set, Tuple, Union
 
-from ..judging.absences import joined, readable
+from ..judging.leave import ILL, TRAINING
 from ..sheets.plan_sheets import AWAY
 from ..week.faults import Misuse
-from ..week.records import Cell, Place
-from .outcome import Away, Event, Offers, Published, Status, Swapped, WeekOver
-from .state import BACK, NurseDay, State, with_days, without_last, words_of
+from ..week.records import WEEK_DAYS, Cell, NurseDay, Place
+from ..week.words import joined, readable
+from .outcome import Away, DaySet, Event, Offers, Published, Status, Swapped, WeekOver
+from .state import BACK, SetDay, State, lost_shifts, with_days, without_last, words_of
 from .swaps import Swap, Swaps, swapped
-from .ward import ALWAYS_OFF, OFF, WardPlan, plan_of
-from .words import WEEK_DAYS, Wording
+from .ward import ALWAYS_OFF, DAYS_OFF, OFF, PROMISED, WardPlan, plan_of
+from .words import Wording
 
 
 def _wording(plan: WardPlan, event: Event, usage: str) -> Wording:
@@ -43,7 +44,21 @@ def absence(old: WardPlan, event: Event) -> Away:
     if last < first:
         raise Misuse(f"{old.days.text(last)} is before {old.days.text(first)}: give the first day first")
     days = tuple(range(first, last + 1))
-    return Away(old, old.with_absences(with_days(old.state.absences, nurse, days, event.verb)), nurse, days, event.verb)
+    lost = lost_by(old, nurse, days) if event.verb == ILL and old.state.published else {}
+    return Away(old, old.with_absences(with_days(old.state.absences, nurse, days, event.verb, lost)), nurse, days, event.verb)
+
+
+def lost_by(old: WardPlan, nurse: str, days: Iterable[int]) -> Dict[int, int]:
+    """The shifts that an illness of a nurse takes from a plan on the wall: her shift of each day, none if she is off, and what was known
+    before if she is ill already. Of days on which she is away for another reason only those of training have one."""
+    known, found = lost_shifts(old.state.absences), {}
+    for one in (NurseDay(nurse, day) for day in days):
+        word = old.away.get(one, "")
+        if word == ILL and one in known:
+            found[one.day] = known[one]
+        elif word in ("", *DAYS_OFF, TRAINING):
+            found[one.day] = int(one in old.works or word == TRAINING)
+    return found
 
 
 def back(old: WardPlan, event: Event) -> Away:
@@ -65,10 +80,11 @@ def back(old: WardPlan, event: Event) -> Away:
 def absence_from(plan: WardPlan, nurse: str, first: int) -> Tuple[str, List[int]]:
     """The reason for which a nurse is away on a day, and the days from it on with the same reason, that a verb has written if it has
     written this one, or that only the spreadsheet says. Raises Misuse if she is not away."""
-    word = plan.away.get(NurseDay(nurse, first), ALWAYS_OFF)
-    if word == ALWAYS_OFF:
-        always = ": she is always off on it" if NurseDay(nurse, first) in plan.away else ""
-        raise Misuse(f"{readable(nurse)} is not away on {plan.days.text(first)}{always}")
+    word = plan.away.get(NurseDay(nurse, first), "")
+    if word in ("", *DAYS_OFF):
+        promised = ": the sheet plan promises her this day off: empty her cell to change that"
+        why = {"": "", ALWAYS_OFF: ": she is always off on it", PROMISED: promised}[word]
+        raise Misuse(f"{readable(nurse)} is not away on {plan.days.text(first)}{why}")
     by_verbs = words_of(plan.state.absences, nurse)
     is_of_verb, days = by_verbs.get(first) == word, [first]
     for day in range(first + 1, plan.days.total):
@@ -126,15 +142,50 @@ def swap(old: WardPlan, asked: Swap, before: Optional[State], has_offers: bool) 
     if faults:
         return Swapped(old, new, asked, faults, offers=offers, status=Status.NOT_KEPT)
     takes_back = before is not None and _shifts(before.cells, asked) == _shifts(new.cells, asked)
-    kept = [one for one in old.state.agreed if one not in asked.places]
+    kept = new.state.keeping(lambda one: one not in asked.places)
     agreed = [one for one in before.agreed if one in asked.places] if before and takes_back else asked.places
-    new = new.with_state(replace(new.state, agreed=(*kept, *agreed)))
+    new = new.with_state(replace(kept, agreed=(*kept.agreed, *agreed)))
     return Swapped(old, new, asked, takes_back=takes_back, offers=offers)
 
 
 def _shifts(cells: Sequence[Cell], swap: Swap) -> Set[Tuple[str, int, str]]:
     """The shifts of the two nurses on the days of a swap."""
     return {(cell.nurse, cell.day, cell.shift) for cell in cells if cell.nurse in (swap.one, swap.other) and cell.day in swap.days}
+
+
+# ---- a day that is set
+
+
+def set_day(old: WardPlan, event: Event) -> DaySet:
+    """A nurse has this shift on a day, or is off, and later plans keep that; or, for the word `back`, they need not keep it any more."""
+    name = readable(next(iter(old.scenario.nurses)))
+    wording = _wording(old, event, f"set {name} Fri {readable(next(iter(old.scenario.shift_types)))}, or set {name} Fri off")
+    place = NurseDay(wording.nurse(), wording.open_day())
+    if wording.one_of((BACK,)):
+        wording.end()
+        return _set_back(old, place)
+    shift, skill = wording.shift([*old.scenario.shift_types, OFF], old.scenario.nurses[place.nurse].skills)
+    now = None if shift == OFF else Cell(*place, shift, skill or _skill(old, place, shift))
+    found = SetDay(*place, wording.rest())
+    if now == old.works.get(place) and found in old.state.set_days:
+        cure = f"set {readable(place.nurse)} {old.days.head(place.day)} {BACK} takes that back"
+        raise Misuse(f"{readable(place.nurse)} has this on {old.days.text(place.day)} already, and later plans keep it: {cure}")
+    swaps = Swaps(old)
+    faults = tuple(swaps.day_faults(place, now))
+    others = old.state.keeping(lambda one: one != place)
+    new = old.with_state(replace(others, set_days=(*others.set_days, found))).with_cells(
+        [*(cell for one, cell in old.works.items() if one != place), *([now] if now else [])]
+    )
+    status = Status.NOT_KEPT if faults else Status.DONE
+    return DaySet(old, new, place, now, found.reason, faults=faults, instead=tuple(swaps.instead(place, now)), status=status)
+
+
+def _set_back(old: WardPlan, place: NurseDay) -> DaySet:
+    """Later plans need not keep a nurse's day any more. Raises Misuse if it was not set."""
+    if place not in [one.place for one in old.state.set_days]:
+        raise Misuse(f"nothing is set for {readable(place.nurse)} on {old.days.text(place.day)}: set it first, or type undo")
+    new = old.with_state(replace(old.state, set_days=tuple(one for one in old.state.set_days if one.place != place)))
+    return DaySet(old, new, place, old.works.get(place), takes_back=True)
 
 
 # ---- the end of a week, and publishing
@@ -159,11 +210,11 @@ def end_of_week(old: WardPlan, event: Event) -> WeekOver:
         _correct(old, wording, found)
     absences = old.state.absences
     for (nurse, day), word in found.away.items():
-        absences = with_days(absences, nurse, [day], word)
+        absences = with_days(absences, nurse, [day], word, lost_by(old, nurse, [day]) if word == ILL else {})
     new = old.with_absences(absences) if found.away else old
     worked = plan_of(new.ward, new.state.with_open(found.cells.values()))
     state = replace(worked.state, open_week=old.state.open_week + 1)
-    ended = worked.with_state(replace(state, agreed=tuple(one for one in state.agreed if one.day >= state.first)))
+    ended = worked.with_state(state.keeping(lambda one: one.day >= state.first))
     return WeekOver(old, worked, ended if ended.weeks else None, found.away)
 
 
@@ -182,7 +233,7 @@ def _correct(old: WardPlan, wording: Wording, found: _Worked) -> None:
     shift, skill = wording.shift([*old.scenario.shift_types, OFF], old.scenario.nurses[nurse].skills)
     if shift != OFF:
         found.cells[place] = Cell(nurse, day, shift, skill or _skill(old, place, shift))
-        if old.away.get(place, ALWAYS_OFF) != ALWAYS_OFF:
+        if old.away.get(place, ALWAYS_OFF) not in DAYS_OFF:
             found.away[place] = BACK
 
 

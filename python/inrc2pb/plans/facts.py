@@ -4,18 +4,17 @@ They are values; `render` has their words. Days are those of the plan, but in ch
 """
 
 from dataclasses import replace
-from typing import Iterator, List, Mapping, NamedTuple, Optional, Tuple
+from typing import Dict, Iterable, Iterator, List, Mapping, NamedTuple, Optional, Sequence, Tuple
 
 from ..judging.absences import absences_of, wishes_of, working_while_away
 from ..judging.breaches import breaches
 from ..judging.days_away import DaysAway, long_rows, nights_before
 from ..judging.limits import exceeded
-from ..judging.rules import Charge
-from ..week.facts import SHIFTS, Charged
-from ..week.records import Cell, Request
-from .state import NurseDay
-from .ward import ALWAYS_OFF, WardPlan
-from .words import WEEK_DAYS
+from ..judging.rules import SATURDAY, Charge
+from ..shown.totals import Sums, sums_of
+from ..week.facts import SHIFTS, WORK_DAYS, Charged
+from ..week.records import WEEK_DAYS, Cell, NurseDay, Request
+from .ward import WardPlan
 
 # The rule on the shifts of a period.
 _TOTAL = "S6"
@@ -60,11 +59,12 @@ class Beside(NamedTuple):
     word: str = ""
 
 
-class DaysOff(NamedTuple):
-    """A charge for too many days off in a row in a week, and the words for the days away among them."""
+class Due(NamedTuple):
+    """A charge of a week in which days away have a part: the points that are due to them, and their words."""
 
     week: int
     charge: Charge
+    points: int
     words: Tuple[str, ...]
 
 
@@ -122,21 +122,47 @@ def too_many_by_days_away(plan: WardPlan) -> List[TooMany]:
     return [one for one in too_many_shifts(plan) if one.shifts <= one.kept]
 
 
+# A maximum that holds and is exceeded: its nurse, its rule, and its week, or for days in a row with training their first day.
+_Exceeded = Tuple[str, str, int]
+
+
+def newly_exceeded(old: Optional[WardPlan], new: WardPlan) -> bool:
+    """Whether a plan exceeds a maximum that holds by more than an older plan does."""
+    before = _exceeded(old) if old else {}
+    return any(above > before.get(one, 0) for one, above in _exceeded(new).items())
+
+
+def _exceeded(plan: WardPlan) -> Dict[_Exceeded, int]:
+    """By how much each maximum that holds is exceeded, with shifts for days away and with days in a row with training."""
+    found: Dict[_Exceeded, int] = {(charge.nurse or "", charge.rule, week): charge.times for week, charge in exceeded_in_weeks(plan)}
+    found.update({(one.nurse, _TOTAL, 0): one.shifts - one.most for one in too_many_shifts(plan)})
+    kept = {fact.nurse for fact, _ in plan.limits if isinstance(fact, Charged) and fact.kind == WORK_DAYS}
+    rows = beside_days_away(plan) if plan.is_planned else []
+    found.update({(row.nurse, WORK_DAYS, row.days[0]): row.number - row.most for row in rows if row.nurse in kept and not row.shift})
+    return found
+
+
 def beside_days_away(plan: WardPlan) -> List[Beside]:
     """What is wrong beside days away in the weeks that are not over."""
     return beside_of(plan, plan.days_away, plan.shifts) if plan.weeks else []
 
 
-def beside_of(plan: WardPlan, away: DaysAway, shifts: Mapping[Tuple[str, int], str]) -> List[Beside]:
+def beside_of(plan: WardPlan, away: DaysAway, shifts: Mapping[NurseDay, str]) -> List[Beside]:
     """The same with these days away and shift types, both by the days from the first one that is not over."""
     first = plan.first
     rows = long_rows(plan.scenario, plan.past, away, shifts)
     found = [Beside(row.nurse, (first + row.days[0], first + row.days[-1]), row.number, row.most) for row in rows]
-    known = {**{(nurse, -1): before.last_shift or "" for nurse, before in plan.past.nurses.items()}, **shifts}
+    known = {**{NurseDay(nurse, -1): before.last_shift or "" for nurse, before in plan.past.nurses.items()}, **shifts}
     for nurse, day in nights_before(away, known):
         word = plan.away[NurseDay(nurse, first + day)]
-        found.append(Beside(nurse, (first + day - 1, first + day), shift=known[nurse, day - 1], word=word))
+        found.append(Beside(nurse, (first + day - 1, first + day), shift=known[NurseDay(nurse, day - 1)], word=word))
     return found
+
+
+def sums(plan: WardPlan) -> Dict[str, Sums]:
+    """What each nurse has in the whole period: in weeks that are over, and in those that are planned."""
+    wishes = [replace(one, day=WEEK_DAYS * number + one.day) for number, week in enumerate(plan.data) for one in wishes_of(week)]
+    return sums_of(plan.scenario.nurses, plan.state.cells, wishes, plan.days_away.nights, plan.ward.times)
 
 
 def refused_wishes(plan: WardPlan) -> List[Request]:
@@ -152,26 +178,46 @@ def lost_wishes(old: Optional[WardPlan], new: WardPlan) -> List[Request]:
     return [wish for wish in refused_wishes(new) if wish not in before]
 
 
-def charged_days_off(plan: WardPlan) -> List[DaysOff]:
-    """The charges for too many days off in a row in which nurses are away: such days count as days off."""
-    found: List[DaysOff] = []
+def due_to_days_away(plan: WardPlan) -> List[Due]:
+    """The charges in which days away have a part: `inrc2pb` knows no days away, so they are days off, a day of a weekend or the end of days
+    of work for it, and their shifts and weekends are in the totals of the period."""
+    found: List[Due] = []
     for week in plan.view().weeks:
         for charge in week.charges or ():
-            words = _words_of(plan, week.number, charge) if (charge.rule, charge.what) == ("S3", "off above") else ()
-            if words:
-                found.append(DaysOff(week.number, charge, words))
+            if charge.nurse is not None:
+                points, words = _due(plan, week.number, charge, charge.nurse)
+                if points and words:
+                    found.append(Due(week.number, charge, points, words))
     return found
 
 
-def _words_of(plan: WardPlan, number: int, charge: Charge) -> Tuple[str, ...]:
-    """Why the nurse is away on the days of a charge and those before Monday that belong to them."""
-    if not charge.days or charge.nurse is None:
-        return ()
+def _due(plan: WardPlan, number: int, charge: Charge, nurse: str) -> Tuple[int, Tuple[str, ...]]:
+    """The points of a nurse's charge that are due to days away, and the words for these."""
+    counted = plan.ward.counted
+    if charge.what == "above" and charge.rule in ("S6", "S7"):
+        total = (counted.shifts if charge.rule == "S6" else counted.weekends).get(nurse, 0)
+        some = [
+            day
+            for (who, day), shifts in counted.days.items()
+            if who == nurse and shifts and (charge.rule == "S6" or day % WEEK_DAYS >= SATURDAY)
+        ]
+        return charge.weight * min(charge.times, total), _away_words(plan, nurse, some)
+    if not charge.days:
+        return 0, ()
     first, last = (WEEK_DAYS * number + day for day in charge.days)
-    reasons = (plan.away.get(NurseDay(charge.nurse, day), ALWAYS_OFF) for day in range(first - charge.before, last + 1))
-    return tuple(word for word in dict.fromkeys(reasons) if word != ALWAYS_OFF)
+    days: Mapping[Tuple[str, str], Sequence[int]] = {
+        ("S3", "off above"): range(first - charge.before, last + 1),
+        ("S5", "half"): (first + (1 if first % WEEK_DAYS == SATURDAY else -1),),
+        ("S2", "work below"): (first - charge.before - 1, last + 1),
+    }
+    return charge.cost, _away_words(plan, nurse, days.get((charge.rule, charge.what), ()))
+
+
+def _away_words(plan: WardPlan, nurse: str, days: Iterable[int]) -> Tuple[str, ...]:
+    """Why the nurse is away on some of these days."""
+    return tuple(dict.fromkeys(plan.ward.reasons[NurseDay(nurse, day)] for day in days if NurseDay(nurse, day) in plan.ward.reasons))
 
 
 def broken_agreements(old: WardPlan, new: WardPlan) -> List[NurseDay]:
-    """The agreed days of a plan on which a new one has other shifts."""
-    return [one for one in old.state.agreed if one not in new.state.agreed]
+    """The days of swaps, and those that were set, on which a new plan has other shifts."""
+    return [one for one in old.state.kept if one not in new.state.kept]

@@ -1,25 +1,25 @@
 """The forms of a local page, and the verbs that their fields are."""
 
-from typing import List, Mapping, NamedTuple, Optional, Sequence, Tuple
+from typing import List, NamedTuple, Optional, Sequence, Tuple
 
-from ..judging.absences import readable
-from ..shown.markup import Markup, element, joined
 from ..sheets.plan_sheets import AWAY
+from ..shown.markup import Markup, element, joined
 from ..week.faults import Misuse
-from ..week.hints import quoted
+from ..week.records import WEEK_DAYS
+from ..week.words import quoted, readable
 from .local_jobs import Fields
 from .outcome import Event
 from .verbs import CHANGE_SECONDS, WEEK_SECONDS
-from .ward import WardPlan
-from .words import WEEK_DAYS
+from .ward import OFF, WardPlan
 
 _MOST_SECONDS = 3600.0
 _NEW_PLAN = "a new plan, and its pages"
 _AWAY_TEXT = "on one day, or to the last day; who leaves the ward is away to the end of the plan; plans from the first day on"
 _BACK_TEXT = "from a day on, with few changes"
-_SWAP_TEXT = "what it costs, and who else could swap"
+_SWAP_TEXT = "what it costs, and who else could swap; writes nothing before a button of the answer"
+_SET_TEXT = "or a promised day off; the question says what it costs; later plans keep it"
 _OVER_TEXT = "as it was planned, or with corrections such as Chen Fri ill, Finn Sat off"
-_AWAY_FIELDS, _SWAP_FIELDS = ("nurse", "first", "last", "reason", "seconds"), ("nurse", "first", "other", "other day", "write it")
+_AWAY_FIELDS, _SWAP_FIELDS = ("nurse", "first", "last", "reason", "seconds"), ("nurse", "first", "other", "other day")
 _PAGES = "the page for the wall and the calendars"
 # The field of a form that writes, after the user was asked, and the one that says for which plan it was shown.
 SURE, STAMP = "sure", "stamp"
@@ -45,12 +45,17 @@ FORMS = (
     Form("away", "A nurse is away", "Write an absence", _AWAY_TEXT, "the absence of {nurse} was not written", _AWAY_FIELDS),
     Form("back", "A nurse is back", "Back", _BACK_TEXT, "it was not written that {nurse} is back", ("nurse", "first", "seconds")),
     Form("swap", "Two nurses swap", "Look", _SWAP_TEXT, "the swap of {nurse} and {other} was not written", _SWAP_FIELDS),
+    Form(
+        "set", "A nurse has another shift", "Set it", _SET_TEXT, "it was not written what {nurse} has", ("nurse", "first", "shift", "note")
+    ),
     Form("over", "The week is over", "End the week", _OVER_TEXT, "the end of the week was not written", ("corrections",)),
     Form("page", "", "Publish", "the plan; from now on plans change little", "the plan was not published", (), True, _PAGES),
     Form("undo", "", "Undo", "the plan before the last verb holds again", "nothing was taken back", (), False, "its pages"),
 )
 _BY_VERB = {form.verb: form for form in FORMS}
-_CHECKS = ("free", "write it")
+_CHECKS = ("free",)
+# The fields of a form that may stay empty, and the text of the choice that leaves them so; of others a user has to choose.
+_EMPTY = {"from": "all days", "other": "all who could", "other day": "the same day", "last": "this day only"}
 _LABELS = {"first": "day", "last": "last day", "other": "with", "free": "all shifts may change"}
 
 
@@ -72,12 +77,12 @@ def event_of(fields: Fields, seconds: Optional[float] = None) -> Event:
     verb = fields.get("verb", "")
     if verb not in _BY_VERB:
         raise Misuse(f"'{verb}' is no button of this page: it has {quoted(form.button for form in FORMS)}")
-    words = [fields[name] for name in ("nurse", "first", "other", "other day", "last", "from") if fields.get(name)]
+    words = [fields[name] for name in ("nurse", "first", "other", "other day", "last", "from", "shift", "note") if fields.get(name)]
     if verb == "over":
         words = fields.get("corrections", "").split()
     if verb == "away":
         verb = _reason(fields)
-    return Event(verb, tuple(words), _seconds(fields) or seconds, "free" in fields, "write it" in fields)
+    return Event(verb, tuple(words), _seconds(fields) or seconds, "free" in fields, verb == "set" or "write it" in fields)
 
 
 def _seconds(fields: Fields) -> Optional[float]:
@@ -99,18 +104,16 @@ def _reason(fields: Fields) -> str:
 def form_markup(
     form: Form, plan: Optional[WardPlan], address: str, stamp: str, kept: Fields = {}, seconds: Optional[float] = None
 ) -> Markup:
-    """A form of the page, with the stamp of the plan, these values in its fields, and this time of a search. With the choice `-` a field is
-    left out. One without fields needs no plan."""
+    """A form of the page, with the stamp of the plan, these values in its fields, and this time of a search. Nothing is chosen beforehand.
+    One with fields is folded, unless it was refused; one without needs no plan."""
     hidden = [element("input", type="hidden", name=STAMP, value=stamp)] if form.writes else []
     usual = seconds or (WEEK_SECONDS * len(plan.weeks) if plan and form.verb == "plan" else CHANGE_SECONDS)
     fields = [_field(name, plan, kept.get(name, ""), usual) for name in form.fields if plan]
     button = element("button", form.button, name="verb", value=form.verb)
-    text = f"{form.text}; writes {form.writes}" if form.writes else form.text
-    text = f"{form.text}; writes nothing, but with 'write it' {_NEW_PLAN}" if form.verb == "swap" else text
-    inside = [*hidden, *fields, button, " ", element("small", text)]
-    if form.heading:
-        inside = [element("fieldset", element("legend", form.heading), *inside)]
-    return element("form", *inside, method="post", action=address)
+    text = f"{form.text}; writes {form.writes}" if form.writes and form.verb != "swap" else form.text
+    inside = element("form", *hidden, *fields, button, " ", element("small", text), method="post", action=address)
+    is_open = "" if kept or (form.verb == "plan" and plan and not plan.is_planned) else None
+    return element("details", element("summary", form.heading), inside, open=is_open) if form.heading else inside
 
 
 def sure_markup(fields: Fields, plan: Optional[WardPlan], address: str, lines: Sequence[str] = ()) -> Markup:
@@ -148,27 +151,29 @@ def _shown(plan: WardPlan, value: str) -> str:
     return heads.get(value, value)
 
 
-def swap_markup(words: Mapping[str, str], text: str, address: str) -> Markup:
-    """A button for a swap that is known, with this text."""
-    hidden = [element("input", type="hidden", name=name, value=value) for name, value in {**words, "write it": "yes"}.items()]
-    return element("form", *hidden, element("button", text, name="verb", value="swap"), method="post", action=address)
+def button_markup(fields: Fields, text: str, address: str) -> Markup:
+    """A button with this text that sends these fields."""
+    hidden = [element("input", type="hidden", name=name, value=value) for name, value in fields.items()]
+    return element("form", *hidden, element("button", text), method="post", action=address)
 
 
 def _field(name: str, plan: WardPlan, kept: str, seconds: float) -> Markup:
     label = f"{_LABELS.get(name, name)} "
     if name in _CHECKS:
         return joined(element("label", element("input", type="checkbox", name=name, value="yes"), label), " ")
-    if name in ("seconds", "corrections"):
+    if name in ("seconds", "corrections", "note"):
         kind = {"type": "number", "min": "1", "max": f"{_MOST_SECONDS:.0f}"} if name == "seconds" else {"type": "text"}
         kind["placeholder"] = f"{seconds:g}" if name == "seconds" else ""
         return joined(element("label", label, element("input", name=name, value=kept or None, **kind)), " ")
-    if name == "reason":
-        choices: Sequence[Tuple[str, str]] = [(word, word) for word in ("ill", *(word for word in AWAY if word != "ill"))]
+    choices: Sequence[Tuple[str, str]]
+    if name == "shift":
+        choices = [(OFF, "off, promised"), *((shift, readable(shift)) for shift in plan.scenario.shift_types)]
+    elif name == "reason":
+        choices = [(word, word) for word in ("ill", *(word for word in AWAY if word != "ill"))]
     elif name in ("nurse", "other"):
         choices = [(nurse, readable(nurse)) for nurse in plan.scenario.nurses]
     else:
         choices = [(plan.days.head(day), plan.days.text(day)) for day in range(plan.first, plan.days.total)]
-    if name in ("from", "other", "other day", "last"):
-        choices = [("", "-"), *choices]
+    choices = [("", _EMPTY.get(name, "choose")), *choices]
     options = [element("option", text, value=value, selected="" if value and value == kept else None) for value, text in choices]
-    return joined(element("label", label, element("select", *options, name=name)), " ")
+    return joined(element("label", label, element("select", *options, name=name, required=None if name in _EMPTY else "")), " ")

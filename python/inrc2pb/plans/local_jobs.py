@@ -8,6 +8,7 @@ from ..programs.interrupts import Interrupts
 from ..programs.progress import Progress
 from ..week.faults import FileFault, FileFaults, Misuse, ProgramFault, fault_line
 from . import render
+from .kept import KeptSheet
 from .outcome import Event, Outcome, Undone, WeekOver
 from .store import Means, Reader, WardFolder
 from .verbs import Verbs
@@ -59,7 +60,7 @@ class Jobs:
 
     def __init__(self, folder: WardFolder, read: Reader, signals: Interrupts, seconds: Optional[float] = None) -> None:
         # The seconds of a search, if they are not the usual ones.
-        self.folder, self.seconds, self._read, self._signals = folder, seconds, read, signals
+        self.folder, self.seconds, self._read, self._signals = folder, seconds, KeptSheet(read), signals
         self._lock = threading.Lock()
         self._thread: Optional[threading.Thread] = None
         self._spoken = io.StringIO()

@@ -1,38 +1,32 @@
 """The local page of a ward: its forms, what the last verb has said, the roster, and the charges and swaps of one cell."""
 
 from dataclasses import replace
+from pathlib import Path
 from typing import Collection, List, Mapping, NamedTuple, Optional, Sequence, Tuple
-from urllib.parse import quote, urlencode
+from urllib.parse import quote
 
-from ..judging.absences import readable
 from ..shown.calendars import file_names
-from ..shown.charge_words import in_words
 from ..shown.markup import Markup, element, joined
 from ..shown.page import page_style
-from ..shown.page_tables import Content, RosterTable
-from ..week.dates import day_names
-from .events import offers_of
-from .local_forms import FORMS, STAMP, form_markup, sure_markup, swap_markup
+from ..shown.page_tables import RosterTable
+from ..week.records import WEEK_DAYS, NurseDay
+from ..week.words import readable
+from .local_cell import Actions, cell_address
+from .local_forms import FORMS, STAMP, button_markup, form_markup, sure_markup
 from .local_jobs import Fields, Said
-from .outcome import Swapped
+from .outcome import Away, Planned, Swapped, WeekOver
 from .pages import CALENDARS, roster_content
-from .render import MOST_OFFERS, nobody_text
-from .sentences import offer_text
-from .state import NurseDay
-from .swaps import Swaps
+from .swaps import Swap
 from .ward import WardPlan
-from .words import WEEK_DAYS
 
 REFRESH_SECONDS = 2
-_ROSTER = "roster"
+_FORMS = "forms"
 _GUIDE = (
     "The spreadsheet is {}: change it, save it, and plan again. "
     "A button that writes asks first, and Undo takes back what the last one wrote. "
 )
 STYLE = """
 form { margin: .5em 0 }
-fieldset { border: 1px solid #999; padding: .2em .5em .4em }
-legend { font-weight: 600; padding: 0 .3em }
 label { display: inline-block; margin: .1em .3em }
 button, input, select { font: inherit; padding: .25em .5em }
 button { min-width: 11em }
@@ -41,7 +35,15 @@ pre { background: #eee; padding: .6em; white-space: pre-wrap }
 pre.fault { background: #fdd }
 .links a { margin-right: 1em }
 td a { display: block; color: inherit; text-decoration: none; min-height: 1.4em }
-@media screen and (max-width: 40em) { button { width: 100% } label { display: block } }
+td a:hover { outline: 3px solid #05c }
+tbody th a { color: inherit }
+summary { font-weight: 600; padding: .3em 0 }
+.actions { display: grid; grid-template-columns: repeat(auto-fit, minmax(17em, 1fr)); gap: 0 1.5em }
+.actions h3 { font-size: 1em; margin: .6em 0 .2em }
+.actions form { margin: .15em 0 }
+.actions button { width: 100%; text-align: left }
+.actions .words button { width: auto; min-width: 0 }
+@media screen and (max-width: 40em) { button { width: 100% } label { display: block } select { max-width: 100% } }
 """
 
 
@@ -62,34 +64,70 @@ class Shown(NamedTuple):
     stamp: str = ""
     lines: Sequence[str] = ()
     refused: Sequence[str] = ()
+    # The swap that was written for the cell that was clicked.
+    agreed: Optional[Swap] = None
+    roster: Optional["Roster"] = None
+
+
+class Roster(NamedTuple):
+    """The roster of a plan as the page shows it: its points, if it has some, and its notes, tables and legend. It is the same in each look
+    at this plan."""
+
+    points: str
+    tables: Markup
+
+
+def roster_of(top: Path, plan: WardPlan, address: str) -> Roster:
+    """The roster of a folder's plan with links: a click on a cell opens it, and by keyboard a nurse's name opens her first day."""
+
+    def link(week: int, nurse: str, day: int) -> str:
+        return cell_address(address, NurseDay(nurse, plan.first + WEEK_DAYS * week + day))
+
+    content = replace(roster_content(top, plan), link=link)
+    table, notes = RosterTable(content), [element("p", note) for note in content.notes]
+    legend = element("ul", *(element("li", line) for line in table.legend()), class_="legend")
+    hint = element("p", "Click a nurse's day, or by keyboard her name: what it costs, and what can be done with it.")
+    points = content.view.penalty
+    return Roster("" if points is None else f"{points} points. ", joined(*notes, hint, *table.tables(), legend))
 
 
 def page_markup(plan: Optional[WardPlan], shown: Shown, address: str) -> str:
-    """The page. While a verb runs it loads itself again and again, and has no plan, which would take the time of the search."""
+    """The page: what was said or is asked, what can be done with the cell that was clicked, the roster, and below it the forms. While a
+    verb runs it loads itself again and again, and has no plan, which would take the time of the search."""
     name, said = shown.name, shown.said
     # A cell that was clicked, a question, and a form that was refused take the place of an older verb's answer.
     is_old = bool(shown.asks) or (not said.runs and (bool(plan and shown.refused) or (shown.place is not None and not said.fault)))
-    parts: List[Markup] = [element("h1", name), *_lines(shown.refused, True), *([] if is_old else _said(said, shown.kept, address))]
+    parts: List[Markup] = [element("h1", name), *_lines(shown.refused, True), *([] if is_old else _said(said, shown, address))]
     if shown.asks:
         parts.append(sure_markup(shown.asks, plan, address, shown.lines))
     elif plan and not said.runs:
         if shown.place and plan.is_planned:
-            parts.append(_cell(plan, shown.place, address, shown.stamp))
-        to_roster = [element("a", "To the roster", href=f"#{_ROSTER}")] if plan.is_planned else []
-        parts.append(element("p", _GUIDE.format(shown.spreadsheet), *to_roster))
-        clicked = {"nurse": shown.place.nurse, "first": plan.days.head(shown.place.day)} if shown.place else {}
-        for form in FORMS:
-            kept = shown.kept if form.verb == shown.kept.get("verb") and not clicked else clicked
-            if plan.is_planned or not form.needs_plan:
-                parts.append(form_markup(form, plan, address, shown.stamp, kept, shown.seconds))
+            parts.append(Actions(plan, shown.place, address, shown.stamp, shown.agreed).markup())
     elif plan is None and not said.runs:
         parts += _without_plan(shown, address)
-    if plan and (plan.is_planned and plan.weeks or shown.worked):
-        parts.append(_roster(plan, shown, address))
-    heads = [element("style", Markup(page_style() + STYLE))]
+    if plan and shown.roster:
+        parts.append(_roster(plan, shown.roster, shown, address))
+    if plan and not shown.asks and not said.runs:
+        parts.append(_forms(plan, shown, address))
+    chosen = f'\ntd a[href="{cell_address(address, shown.place)}"] {{ outline: 3px solid #05c }}' if shown.place else ""
+    heads = [element("style", Markup(page_style() + STYLE + chosen))]
     if said.runs:
         heads.append(element("meta", http_equiv="refresh", content=str(REFRESH_SECONDS)))
     return page_of(name, heads, parts)
+
+
+def _forms(plan: WardPlan, shown: Shown, address: str) -> Markup:
+    """The forms of the verbs, those with fields folded, and links to the pages of weeks that are over."""
+    forms = [form for form in FORMS if plan.is_planned or not form.needs_plan]
+    # Buttons that need no fields come first.
+    forms.sort(key=lambda form: bool(form.fields))
+    kept = shown.kept
+    parts = [
+        form_markup(form, plan, address, stamp=shown.stamp, kept=kept if form.verb == kept.get("verb") else {}, seconds=shown.seconds)
+        for form in forms
+    ]
+    guide = element("p", _GUIDE.format(shown.spreadsheet))
+    return element("section", guide, *parts, element("p", *_linked(_worked(shown), address), class_="links"), id=_FORMS)
 
 
 def _without_plan(shown: Shown, address: str) -> List[Markup]:
@@ -124,21 +162,19 @@ def _lines(lines: Sequence[str], is_fault: bool) -> List[Markup]:
     return parts
 
 
-def _said(said: Said, kept: Fields, address: str) -> List[Markup]:
-    """The lines of the last verb, and a button that stops it, or that writes the swap of which it tells."""
+def _said(said: Said, shown: Shown, address: str) -> List[Markup]:
+    """The lines of the last verb, and a button that stops it, that takes back what it wrote, or that writes that of which it tells."""
     stop = element("form", element("button", "Stop, and keep the best plan", name="verb", value="stop"), method="post", action=address)
     found = said.outcome
     is_look = isinstance(found, Swapped) and not found.is_written and not found.faults
-    words = {name: value for name, value in kept.items() if value and name != "verb"}
-    write = [swap_markup(words, "Write this swap", address)] if is_look else []
-    return [*_lines(said.lines, said.fault is not None), *([stop] if said.runs else []), *write]
-
-
-def _content(plan: WardPlan, address: str) -> Content:
-    def link(week: int, nurse: str, day: int) -> str:
-        return f"{address}?{urlencode({'nurse': nurse, 'day': plan.first + WEEK_DAYS * week + day})}"
-
-    return replace(roster_content(plan), link=link)
+    words = {name: value for name, value in shown.kept.items() if value}
+    write = [button_markup({**words, "write it": "yes"}, "Write this swap", address)] if is_look else []
+    if isinstance(found, (Away, Planned, WeekOver)) and not found.is_written:
+        asked = {name: value for name, value in said.fields.items() if value}
+        write = [button_markup({**asked, "write it": "yes"}, "Write it all the same", address)]
+    is_written = found is not None and found.is_written and not said.is_undo
+    undo = [button_markup({"verb": "undo", STAMP: shown.stamp}, "Take it back", address)] if is_written and not shown.asks else []
+    return [*_lines(said.lines, said.fault is not None), *([stop] if said.runs else []), *write, *undo]
 
 
 def _worked(shown: Shown) -> List[Tuple[str, str]]:
@@ -146,18 +182,12 @@ def _worked(shown: Shown) -> List[Tuple[str, str]]:
     return [(text, name) for name, text in shown.worked.items()]
 
 
-def _roster(plan: WardPlan, shown: Shown, address: str) -> Markup:
-    links = _worked(shown)
-    if not (plan.is_planned and plan.weeks):
-        return element("section", element("p", *_linked(links, address), class_="links"))
-    content = _content(plan, address)
-    table, notes = RosterTable(content), [element("p", note) for note in content.notes]
-    legend = element("ul", *(element("li", line) for line in table.legend()), class_="legend")
+def _roster(plan: WardPlan, roster: Roster, shown: Shown, address: str) -> Markup:
+    """The roster, and links to its other pages."""
     calendars = [("Calendars", CALENDARS)] if plan.days.monday else []
-    links = [("Costs, totals and coverage", "roster"), ("Page for the wall", "wall"), *calendars, *links]
-    hint = element("p", "Click a nurse's day: what her week costs, and who could take her shift.")
-    cost = element("p", "" if plan.view().penalty is None else f"{plan.view().penalty} points. ", *_linked(links, address), class_="links")
-    return element("section", element("h2", "Roster"), cost, *notes, hint, *table.tables(), legend, id=_ROSTER)
+    to_forms = [] if shown.asks else [element("a", "All buttons", href=f"#{_FORMS}"), " "]
+    links = [*to_forms, *_linked([("Costs, totals and coverage", "roster"), ("Page for the wall", "wall"), *calendars], address)]
+    return element("section", element("p", roster.points, *links, class_="links"), roster.tables)
 
 
 def _linked(links: Sequence[Tuple[str, str]], address: str) -> List[Markup]:
@@ -173,35 +203,3 @@ def calendars_markup(plan: WardPlan, address: str, there: Collection[str]) -> st
     back = element("p", element("a", "Back", href=address))
     style = element("style", Markup(page_style() + STYLE))
     return page_of("Calendars", [style], [element("h1", "Calendars"), element("p", text), element("ul", *items), back])
-
-
-def _cell(plan: WardPlan, place: NurseDay, address: str, stamp: str) -> Markup:
-    """What a nurse is charged in the week of a day, and who could take her shift on it."""
-    nurse, day = place
-    week = plan.view().weeks[day // WEEK_DAYS - plan.state.open_week]
-    names = day_names(plan.days.monday, day // WEEK_DAYS)
-    charged = [charge for charge in week.charges or () if charge.nurse == nurse]
-    items = [element("li", readable(f"{charge.cost} points: {in_words(charge, False, names)}")) for charge in charged]
-    nothing = "nothing is charged in this week" if week.charges is not None else "this week has no cost, since it breaks a hard rule"
-    swaps = Swaps(plan)
-    cell = swaps.works(nurse, day)
-    has = readable(f"{cell.shift} {cell.skill}") if cell else plan.away.get(NurseDay(nurse, day), "off")
-    parts = [
-        element("h2", f"{readable(nurse)}, {plan.days.text(day)}: {has}"),
-        element("ul", *(items or [element("li", nothing)])),
-    ]
-    if cell:
-        found = offers_of(swaps, nurse, day)
-        nobody = "" if found.offers else f"Nobody can take it: {nobody_text(found)}."
-        parts.append(element("p", nobody or "Who could take it, and what it adds to the points:"))
-        for offer in found.offers[:MOST_OFFERS]:
-            others = [plan.days.head(other) for other in offer.swap.days if other != day]
-            words = {
-                "nurse": nurse,
-                "first": plan.days.head(day),
-                "other": offer.swap.other,
-                **({"other day": others[0]} if others else {}),
-                STAMP: stamp,
-            }
-            parts.append(swap_markup(words, offer_text(swaps, offer), address))
-    return element("section", *parts)

@@ -1,25 +1,28 @@
 """A server for the local page of one ward: one address with a secret, and no other origin."""
 
 import hmac
-import secrets
 import sys
 import threading
 from dataclasses import replace
 from http.server import BaseHTTPRequestHandler, ThreadingHTTPServer
-from typing import Any, Dict, List, NamedTuple, Optional, Sequence, Tuple
+from typing import Any, Callable, Dict, List, NamedTuple, Optional, Sequence, Tuple
 from urllib.parse import parse_qsl, quote, urlencode, urlsplit
 
-from ..judging.absences import readable
 from ..programs.interrupts import Interrupts
+from ..programs.secrets_file import new_secret
 from ..shown.calendars import file_names
+from ..shown.markup import element
 from ..shown.page import page_text
 from ..week.faults import Misuse
+from ..week.own_files import own_bytes
+from ..week.records import NurseDay
+from .kept import Kept
 from .local_forms import STAMP, SURE, event_of, not_written, writes
 from .local_jobs import Busy, Changed, Fields, Jobs, Said, fault_lines
-from .local_page import Shown, calendars_markup, page_markup
-from .outcome import Swapped
-from .pages import CALENDARS, own_calendars, roster_content
-from .state import NurseDay
+from .local_page import Roster, Shown, calendars_markup, page_markup, roster_of
+from .outcome import DaySet, Swapped
+from .pages import CALENDARS, own_calendars, roster_content, ward_name
+from .store import tables_of
 from .ward import WardPlan
 from .words import PeriodOver
 
@@ -28,6 +31,8 @@ _MOST_BYTES, _MOST_FIELDS, _SECONDS = 10_000, 20, 20
 # The part of an address that says why its form was refused: a verb ran, or there was another plan.
 LATE = "late"
 _PAUSE = 0.2
+# What a browser says of a form that another page sends.
+_FOREIGN = ("cross-site", "same-site")
 # The host that only programs of this machine reach.
 LOCAL = "127.0.0.1"
 _HEADERS = {
@@ -47,17 +52,20 @@ class Sent(NamedTuple):
 
 
 class Site:
-    """The page of a folder's verbs at an address with a secret. `origins` are the beginnings of the addresses by which browsers know it, as
-    `http://127.0.0.1:8000`: a form of another page, and a page of another name that leads to this server, are refused."""
+    """The page of a folder's verbs at an address with this secret. `origins` are the beginnings of the addresses by which browsers know it,
+    as `http://127.0.0.1:8000`: a form of another page, and a page of another name that leads to this server, are refused."""
 
-    def __init__(self, jobs: Jobs, origins: Sequence[str]) -> None:
+    def __init__(self, jobs: Jobs, origins: Sequence[str], secret: str) -> None:
         self.jobs, self.origins = jobs, origins
         self.hosts = {urlsplit(origin).netloc for origin in origins}
-        self.base = f"/{secrets.token_urlsafe(16)}/"
-        # The ward, as far as it is known.
-        self.name = "Ward"
+        self.base = f"/{secret}/"
+        self.name = ward_name(jobs.folder.top)
         # Whether the spreadsheet had a fault when it was last read.
         self._had_fault = False
+        self._kept = Kept[WardPlan]()
+        # The last plan that was shown, and its roster.
+        self._shown: Optional[Tuple[WardPlan, Roster]] = None
+        self._lock = threading.Lock()
 
     @property
     def spreadsheet(self) -> str:
@@ -71,8 +79,7 @@ class Site:
         """The plan that holds, and what is said above it: a fault of the spreadsheet, if there is one."""
         said = self.jobs.said()
         try:
-            plan = self.jobs.verbs().current()
-            self.name = readable(plan.scenario.name)
+            plan = self._plan()
         except PeriodOver as fault:
             # A period that has just ended is no fault.
             return None, said if said.runs or said.ends_period else Said([str(fault)], said.fields)
@@ -87,6 +94,22 @@ class Site:
             said = self.jobs.said()
         self._had_fault = False
         return plan, said
+
+    def _plan(self) -> WardPlan:
+        """The plan that holds, which is read again only if a file of it, or of the spreadsheet, has changed."""
+        folder = self.jobs.folder
+        last, spreadsheet = folder.last(), folder.spreadsheet()
+        files = [*tables_of(spreadsheet), *(sorted(last.iterdir()) if last else ())]
+        return self._kept.of(files, folder.stamp, self.jobs.verbs().current)
+
+    def roster(self, plan: Optional[WardPlan]) -> Optional[Roster]:
+        """The roster of a plan, if it has one; of the last plan it is known."""
+        if plan is None or not (plan.is_planned and plan.weeks):
+            return None
+        with self._lock:
+            if self._shown is None or self._shown[0] is not plan:
+                self._shown = plan, roster_of(self.jobs.folder.top, plan, self.base)
+            return self._shown[1]
 
     def post(self, fields: Dict[str, str]) -> str:
         """Does what a form asks for, unless it writes and the user was not asked yet. Returns the query of the page that follows: it has
@@ -129,7 +152,7 @@ class Site:
             found = self.jobs.asked(event_of(form, self.jobs.seconds))
         except Misuse as fault:
             return Sent(form, fault_lines(fault), True)
-        is_refused = found.fault is not None or (isinstance(found.outcome, Swapped) and bool(found.outcome.faults))
+        is_refused = found.fault is not None or (isinstance(found.outcome, (DaySet, Swapped)) and bool(found.outcome.faults))
         return Sent(form, found.lines, is_refused) if is_refused or writes(form) else None
 
 
@@ -147,6 +170,23 @@ class _Handler(BaseHTTPRequestHandler):
 
     def do_GET(self) -> None:
         """Shows a page."""
+        self._from_folder(self._get)
+
+    def do_POST(self) -> None:
+        """Takes a form, and leads to the page."""
+        self._from_folder(self._post)
+
+    def _from_folder(self, answer: Callable[[], None]) -> None:
+        """Answers from the ward's folder, or says that it cannot be read, as one on a network share that is gone."""
+        try:
+            answer()
+        except (ConnectionError, TimeoutError):
+            raise
+        except OSError as fault:
+            what = f"{fault.filename or self.site.jobs.folder.top}: {fault.strerror}"
+            self._refuse(503, f"{what}: nothing is lost: see that the ward's folder is there again, and load this page again")
+
+    def _get(self) -> None:
         path, query = self._path()
         if path is None:
             return
@@ -159,7 +199,7 @@ class _Handler(BaseHTTPRequestHandler):
         plan, said = self.site.plan()
         worked = self.site.jobs.verbs().worked_pages(plan)
         if path in worked:
-            self._answer((self.site.jobs.folder.top / path).read_bytes().decode("utf-8", errors="replace"))
+            self._answer(own_bytes(self.site.jobs.folder.top, path).decode(errors="replace"))
         elif path and plan and plan.is_planned and plan.weeks:
             self._page(path, plan)
         elif path:
@@ -168,8 +208,18 @@ class _Handler(BaseHTTPRequestHandler):
             asks = sent if sent and not sent.is_refused else None
             kept = _kept(said, sent)
             place = _place(plan, query) or (None if sent else _looked(plan, kept, said))
-            shown = Shown(said, place, asks.fields if asks else {}, kept, self.site.spreadsheet, worked, self.site.name)
-            shown = shown._replace(seconds=self.site.jobs.seconds, stamp=stamp, lines=asks.lines if asks else [], refused=why)
+            shown = Shown(
+                said, place, asks.fields if asks else {}, kept=kept, spreadsheet=self.site.spreadsheet, worked=worked, name=self.site.name
+            )
+            agreed = self.site.jobs.verbs().agreed_swap(plan, place) if plan and place else None
+            shown = shown._replace(
+                agreed=agreed,
+                roster=self.site.roster(plan),
+                seconds=self.site.jobs.seconds,
+                stamp=stamp,
+                lines=asks.lines if asks else [],
+                refused=why,
+            )
             self._answer(page_markup(plan, shown, self.site.base))
 
     def _page(self, path: str, plan: WardPlan) -> None:
@@ -178,23 +228,25 @@ class _Handler(BaseHTTPRequestHandler):
         there = own_calendars(top) if plan.state.published else set()
         names = {f"{CALENDARS}/{quote(name)}": name for name in file_names(plan.scenario.nurses).values() if name in there}
         if path == "roster":
-            self._answer(page_text(roster_content(plan)))
+            self._answer(page_text(roster_content(top, plan, self.site.jobs.verbs().hung_up(plan))))
         elif path == "wall":
-            self._answer(page_text(replace(roster_content(plan), only_table=True)))
+            self._answer(page_text(replace(roster_content(top, plan, self.site.jobs.verbs().hung_up(plan)), only_table=True)))
         elif path == CALENDARS:
             self._answer(calendars_markup(plan, self.site.base, there))
         elif path in names:
-            self._answer((top / CALENDARS / names[path]).read_bytes().decode("utf-8"), kind="text/calendar; charset=utf-8")
+            text = own_bytes(top, f"{CALENDARS}/{names[path]}").decode(errors="replace")
+            self._answer(text, kind="text/calendar; charset=utf-8")
         else:
             self._refuse(404, "there is no such page")
 
-    def do_POST(self) -> None:
-        """Takes a form, and leads to the page."""
+    def _post(self) -> None:
         path, _ = self._path()
         if path is None:
             return
-        length, origin = _length(self.headers.get("Content-Length", "")), self.headers.get("Origin")
-        if origin is not None and origin not in self.site.origins:
+        lengths: List[str] = self.headers.get_all("Content-Length", [])
+        length = _length(lengths[0]) if len(lengths) == 1 and "Transfer-Encoding" not in self.headers else None
+        is_foreign = any(origin not in self.site.origins for origin in self.headers.get_all("Origin", []))
+        if is_foreign or self.headers.get("Sec-Fetch-Site") in _FOREIGN:
             return self._refuse(403, "this form is of another page")
         if path or length is None:
             return self._refuse(400, "this is no form of the page")
@@ -212,7 +264,8 @@ class _Handler(BaseHTTPRequestHandler):
         """The part of the path after the secret, and the query; None if the request is refused."""
         place, _, query = self.path.partition("?")
         known = hmac.compare_digest(place[: len(self.site.base)].encode(), self.site.base.encode())
-        if not known or self.headers.get("Host") not in self.site.hosts or len(self.path) > _MOST_BYTES:
+        hosts: List[str] = self.headers.get_all("Host", [])
+        if not known or len(hosts) != 1 or hosts[0] not in self.site.hosts or len(self.path) > _MOST_BYTES:
             self._refuse(403, "open the address that inrc2pb-plan has printed")
             return None, {}
         try:
@@ -232,7 +285,7 @@ class _Handler(BaseHTTPRequestHandler):
 
     def _refuse(self, status: int, text: str) -> None:
         self.close_connection = True
-        self._answer(f"<!DOCTYPE html><title>inrc2pb-plan</title><p>{text}\n", status)
+        self._answer(f"<!DOCTYPE html><title>inrc2pb-plan</title>{element('p', text)}\n", status)
 
     def log_message(self, *_: object) -> None:
         """Nothing is logged: addresses have the secret."""
@@ -271,6 +324,8 @@ class _Server(ThreadingHTTPServer):
     """A server that says nothing of browsers that go away before they have their answer."""
 
     daemon_threads = True
+    # The connections that wait to be taken: a whole ward may look at once.
+    request_queue_size = 64
 
     def handle_error(self, request: Any, client_address: Any) -> None:
         """Tells a fault of the program."""
@@ -280,13 +335,13 @@ class _Server(ThreadingHTTPServer):
 
 class LocalServer:
     """A server that runs until a signal comes, at a port. `address` is that of its page. It begins with `origin`, if a proxy stands before
-    the server, so that browsers know the page by another name."""
+    the server, so that browsers know the page by another name, and ends with the secret, or else a new one."""
 
-    def __init__(self, jobs: Jobs, host: str, port: int, origin: str = "") -> None:
+    def __init__(self, jobs: Jobs, host: str, port: int, origin: str = "", secret: str = "") -> None:
         self._jobs, self._server = jobs, _Server((host, port), _Handler)
         self.port = self._server.server_port
         names = [host, "localhost"] if host == LOCAL else [host]
-        site = Site(jobs, [origin] if origin else [f"http://{name}:{self.port}" for name in names])
+        site = Site(jobs, [origin] if origin else [f"http://{name}:{self.port}" for name in names], secret or new_secret())
         self._server.RequestHandlerClass = type("Handler", (_Handler,), {"site": site})
         self.address = f"{site.origins[0]}{site.base}"
 

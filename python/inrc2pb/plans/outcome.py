@@ -12,15 +12,16 @@ from ..programs.program import BROKEN_RULE, NO_ROSTER, READ_OR_WRITE
 from ..search.bounds import PLAIN, Bound
 from ..search.why_none import Shortage
 from ..week.faults import FileFault, Misuse
-from .state import NurseDay, Record
-from .swaps import Fault, Offer, Swap, Swaps
+from ..week.records import Cell, NurseDay
+from .state import Record
+from .swaps import Fault, Instead, Offer, Swap, Swaps
 from .ward import WardPlan
 from .ward_sheet import WeekRow
 
 
 class Event(NamedTuple):
     """What a user asks for: a verb, or a reason to be away; the names and days after it; the seconds of a search, if they are not the usual
-    ones; whether all shifts may change; and whether a swap is written."""
+    ones; whether all shifts may change; and whether a swap, a day that is set, or a plan that exceeds a maximum that holds, is written."""
 
     verb: str
     words: Tuple[str, ...] = ()
@@ -35,7 +36,7 @@ class Status(enum.Enum):
     DONE = 0
     PAGES_NOT_WRITTEN = READ_OR_WRITE
     NO_PLAN = NO_ROSTER
-    # A plan that does not keep each absence and limit, or a swap that cannot be.
+    # A plan that does not keep each absence and limit, or a swap or a day that cannot be.
     NOT_KEPT = BROKEN_RULE
 
 
@@ -49,7 +50,8 @@ class Pages(NamedTuple):
 
 
 class Keep(enum.Enum):
-    """How a search keeps agreed days: not at all, as far as that costs little, or all of them."""
+    """How a search keeps the days of swaps: not at all, as far as that costs little, or all of them. Days that were set are kept as if they
+    were days of swaps, and also if these are not."""
 
     NONE = enum.auto()
     MOST = enum.auto()
@@ -57,13 +59,14 @@ class Keep(enum.Enum):
 
 
 class Asked(NamedTuple):
-    """What a search is asked for: the first day that may change, whether few shifts may change, how many seconds it has, and how it keeps
-    agreed days."""
+    """What a search is asked for: the first day that may change, whether few shifts may change, how many seconds it has, how it keeps
+    agreed days, and whether its plan is written if it exceeds a maximum that holds and the plan before it does not."""
 
     first: int
     few_changes: bool
     seconds: float
     agreed: Keep = Keep.ALL
+    do: bool = False
 
 
 class KnownBound(NamedTuple):
@@ -109,6 +112,11 @@ class Away(Outcome):
     days: Tuple[int, ...]
     word: str
     was: str = ""
+
+    @property
+    def there(self) -> WardPlan:
+        """The plan with this, before a search, without the shifts of days away."""
+        return self.new.with_cells(cell for cell in self.new.cells if NurseDay(cell.nurse, cell.day) not in self.new.away)
 
 
 @dataclass(frozen=True)
@@ -157,6 +165,21 @@ class Swapped(Outcome):
     faults: Tuple[Fault, ...] = ()
     takes_back: bool = False
     offers: Optional[Offers] = None
+
+
+@dataclass(frozen=True)
+class DaySet(Outcome):
+    """A nurse's day is set: the plans before and after it, her shift, or None if she is off, and the reason; why it cannot be; who could do
+    it instead; or, if it takes that back, that later plans need not keep it."""
+
+    old: WardPlan
+    new: WardPlan
+    place: NurseDay
+    now: Optional[Cell]
+    reason: str = ""
+    faults: Tuple[Fault, ...] = ()
+    instead: Tuple[Instead, ...] = ()
+    takes_back: bool = False
 
 
 @dataclass(frozen=True)

@@ -9,13 +9,16 @@ from typing import Collection, Dict, List, Mapping, Optional, Sequence, Set, Tup
 from ..shown.calendars import file_names, issue_now, write_calendars
 from ..shown.page import page_text
 from ..shown.page_tables import Content
-from ..week.dates import DAY, date_text
-from ..week.writing import write_text
-from .facts import unkept
+from ..shown.totals import Sums
+from ..week.dates import DAY, PlanDays, date_text
+from ..week.words import readable
+from ..week.own_files import is_own_file, own_bytes, without_link
+from ..week.records import WEEK_DAYS
+from ..week.writing import write_own_text
+from .facts import sums, unkept
 from .outcome import Pages
 from .sentences import beside_lines, days_away_lines, unkept_lines
 from .ward import WardPlan
-from .words import WEEK_DAYS, PlanDays
 
 ROSTER, WALL, CALENDARS = "roster.html", "wall.html", "calendars"
 # The name of the plan that a page shows, in its head.
@@ -24,23 +27,31 @@ _WORKED = re.compile(r"worked(?:-([0-9]+(?:-[0-9]+-[0-9]+)?))?\.html")
 
 
 def write_pages(
-    top: Path, plan: WardPlan, stamp: str, periods: int, before: Mapping[str, Collection[int]], old: Optional[WardPlan] = None
+    top: Path,
+    plan: WardPlan,
+    stamp: str,
+    periods: int,
+    before: Mapping[str, Collection[int]],
+    old: Optional[WardPlan] = None,
+    earlier: Mapping[str, Sums] = {},
 ) -> Pages:
     """Writes the pages of a plan with this name, after this number of older periods. Each page of the folder then shows it, or weeks that
-    are over. `old` is an older plan of the same weeks, and `before` has the days of nurses' shifts in the calendars of this period."""
+    are over. `old` is the plan that was hung up before, `before` has the days of nurses' shifts in the calendars of this period, and
+    `earlier` what they had in periods before it."""
     worked, contents = worked_name(plan.days, periods), {}
     if plan.state.open_week:
-        contents[worked] = _worked_content(plan)
+        contents[worked] = replace(_worked_content(plan), name=ward_name(top))
     if plan.is_planned and plan.weeks:
-        contents[ROSTER] = replace(roster_content(plan, old), plan=stamp)
-        contents.update({WALL: replace(roster_content(plan), only_table=True, plan=stamp)} if plan.state.published else {})
+        content = roster_content(top, plan, old)
+        both = {nurse: now.plus(earlier.get(nurse, Sums())) for nurse, now in content.sums.items()} if earlier else {}
+        contents[ROSTER] = replace(content, plan=stamp, all_sums=both)
+        contents.update({WALL: replace(contents[ROSTER], only_table=True)} if plan.state.published else {})
     gone = taken_away(top, [name for name in (worked, ROSTER, WALL) if name not in contents])
     gone += [] if plan.state.published else calendars_taken_away(top, list(plan.scenario.nurses), before)
     # The pages that say which plan they show come last, so a run that was killed before its end is known by them.
     calendars = _write_calendars(top, plan, before) if plan.state.published else []
     for name, content in contents.items():
-        _without_link(top / name)
-        write_text(top / name, page_text(content))
+        write_own_text(top / name, page_text(content))
     return Pages((*(top / name for name in contents), *calendars), tuple(gone))
 
 
@@ -48,21 +59,10 @@ def other_plan_pages(top: Path, stamp: str) -> Tuple[str, ...]:
     """The names of the pages that show another plan than the one with this name."""
     found = []
     for path in (top / ROSTER, top / WALL):
-        shown = _PLAN.search(path.read_text(encoding="utf-8", errors="replace")) if is_own_file(path) else None
+        shown = _PLAN.search(own_bytes(top, path.name).decode(errors="replace")) if is_own_file(path) else None
         if shown and shown[1] != stamp:
             found.append(path.name)
     return tuple(found)
-
-
-def is_own_file(path: Path) -> bool:
-    """Whether the path is a file of its folder, and not a link: a link could lead to a file that only the user of this program may read."""
-    return path.is_file() and not path.is_symlink()
-
-
-def _without_link(path: Path) -> None:
-    """Takes a link away, so that what is written there does not change a file that the link leads to."""
-    if path.is_symlink():
-        path.unlink()
 
 
 def taken_away(top: Path, names: Sequence[str]) -> List[Path]:
@@ -76,7 +76,7 @@ def taken_away(top: Path, names: Sequence[str]) -> List[Path]:
 def calendars_taken_away(top: Path, nurses: Sequence[str], before: Mapping[str, Collection[int]]) -> List[Path]:
     """Takes the calendars of this period away, if it has some. Returns their folder, if there were any."""
     names = file_names(dict.fromkeys((*nurses, *before))).values() if before else ()
-    _without_link(top / CALENDARS)
+    without_link(top / CALENDARS)
     gone = taken_away(top / CALENDARS, list(names))
     if gone and not any((top / CALENDARS).iterdir()):
         (top / CALENDARS).rmdir()
@@ -123,19 +123,23 @@ def _write_calendars(top: Path, plan: WardPlan, before: Mapping[str, Collection[
     if monday is None or not plan.is_planned:
         return []
     dates = {nurse: [plan.days.date(day) for day in days] for nurse, days in before.items()}
-    _without_link(top / CALENDARS)
-    for path in (top / CALENDARS).glob("*.ics"):
-        _without_link(path)
+    without_link(top / CALENDARS)
     write_calendars(plan.view(range(plan.days.weeks)), top / CALENDARS, monday, plan.ward.times, issue_now(dates))
     return [top / CALENDARS]
 
 
-def roster_content(plan: WardPlan, old: Optional[WardPlan] = None) -> Content:
-    """What the pages show: the weeks that are not over, as of now."""
+def ward_name(top: Path) -> str:
+    """The name of a ward for people: that of its folder."""
+    return readable(top.resolve().name)
+
+
+def roster_content(top: Path, plan: WardPlan, old: Optional[WardPlan] = None) -> Content:
+    """What the pages of a folder show: the weeks that are not over, as of now, and what differs from the plan that was hung up before."""
     monday = None if plan.days.monday is None else plan.days.monday + plan.first * DAY
-    before = old.view() if old and old.is_planned else None
+    before = old.view(plan.weeks) if old and old.is_planned else None
     holidays = {day - plan.first for day in plan.ward.holidays if day >= plan.first}
     notes = (*unkept_lines(plan, unkept(plan)), *days_away_lines(plan), *beside_lines(plan))
     swapped = {(one.day // WEEK_DAYS - plan.state.open_week, one.nurse, one.day % WEEK_DAYS) for one in plan.state.agreed}
     now = datetime.datetime.now()
-    return Content(plan.view(), before, monday, plan.ward.times, holidays=holidays, as_of=now, notes=notes, swapped=swapped)
+    content = Content(plan.view(), before, monday, plan.ward.times, holidays=holidays, as_of=now, notes=notes, swapped=swapped)
+    return replace(content, name=ward_name(top), since="the plan that was hung up before", sums=sums(plan))

@@ -3,26 +3,54 @@
 from functools import singledispatch
 from typing import Dict, Iterator, List, Mapping, Optional, Tuple
 
-from ..judging.absences import readable
-from ..judging.leave import paid_days
 from ..search.why_none import CAN, kept_no_absence_lines, lowered_text, shortage_head
-from ..sheets.plan_sheets import COUNTED
-from ..shown.charge_words import difference
-from ..shown.charge_words import in_words as charge_text
 from ..shown.ward_sentences import history_sentences, limit_sentences, part_sentences, scenario_sentences, supply_text, ward_sentence
 from ..shown.week_sentences import DescribedWeek, weeks_sentences
-from ..shown.why import plain_breach_lines
+from ..shown.why import difference, in_words as charge_text, plain_breach_lines
 from ..week.faults import fault_line
-from ..week.hints import plural
+from ..week.records import WEEK_DAYS, NurseDay, in_week, week_name
+from ..week.words import plural, readable
 from .changes import BESIDE_POINTS, CALL_POINTS, POINTS, shift_changes
 from .facts import beside_days_away, broken, broken_agreements, unkept
-from .outcome import Asked, Away, Checked, KnownBound, Made, NoPlan, Offers, Outcome, Planned, Published, Status, Swapped, Undone
-from .outcome import WeekOver
-from .sentences import anew_lines, beside_lines, beside_text, broken_text, call_lines, cell_text, change_lines, days_away_lines
-from .sentences import days_off_lines, exceeded_lines, fault_text, offer_text, pages_lines, unkept_lines, wish_lines
-from .state import BACK, NurseDay, in_week
-from .ward import ALWAYS_OFF, WardPlan, for_leavers
-from .words import PERIOD_IS_OVER, WEEK_DAYS
+from .outcome import (
+    Asked,
+    Away,
+    Checked,
+    DaySet,
+    KnownBound,
+    Made,
+    NoPlan,
+    Offers,
+    Outcome,
+    Planned,
+    Published,
+    Status,
+    Swapped,
+    Undone,
+    WeekOver,
+)
+from .sentences import (
+    anew_lines,
+    beside_lines,
+    beside_text,
+    broken_text,
+    call_lines,
+    cell_text,
+    change_lines,
+    days_away_lines,
+    due_lines,
+    evenness_lines,
+    exceeded_lines,
+    fault_text,
+    offer_text,
+    pages_lines,
+    unkept_lines,
+    wish_lines,
+)
+from .state import BACK
+from .swaps import Instead, Offer, Swaps
+from .ward import ALWAYS_OFF, DAYS_OFF, WardPlan, for_leavers
+from .words import PERIOD_IS_OVER
 
 # The most swaps that are offered.
 MOST_OFFERS = 8
@@ -34,7 +62,7 @@ FOR_REASON = "no plan was found: a search for the reason, at most 30 s for each 
 
 @singledispatch
 def lines(outcome: Outcome, write: str = "") -> List[str]:
-    """The lines of an outcome. `write` says how a user writes a swap that was only looked at."""
+    """The lines of an outcome. `write` says how a user writes what was only looked at."""
     raise TypeError(type(outcome))
 
 
@@ -66,7 +94,7 @@ def _checked_lines(found: Checked, write: str = "") -> List[str]:
 def _ward_lines(plan: WardPlan) -> List[str]:
     """The ward and the weeks that are not over in sentences: first its size, and what its weeks ask for and the contracts supply."""
     limits = limit_sentences(plan.scenario, plan.data[plan.state.open_week]) if plan.weeks else ()
-    past = history_sentences(plan.past, plan.ward.credit)
+    past = history_sentences(plan.past, plan.ward.counted)
     weeks = [DescribedWeek(number, plan.data[number], plan.reasons(number), in_week(plan.ward.held, number)) for number in plan.weeks]
     sentences = weeks_sentences(plan.scenario, weeks, lambda days: plan.days.spans([plan.first + day for day in days]))
     return [ward_sentence(plan.scenario), *_supplies(plan), "", *scenario_sentences(plan.scenario), *limits, "", *past, "", *sentences]
@@ -74,9 +102,9 @@ def _ward_lines(plan: WardPlan) -> List[str]:
 
 def _supplies(plan: WardPlan) -> Iterator[str]:
     """A line for each week. A plan takes nothing from what is left after the weeks that are over."""
-    paid = {number: paid_days(plan.reasons(number), COUNTED) for number in plan.weeks}
+    paid = {number: plan.ward.counted.of_week(number) for number in plan.weeks}
     for number in plan.weeks:
-        own_first = [paid[number], *(days for other, days in paid.items() if other != number)]
+        own_first = [paid[number], *(shifts for other, shifts in paid.items() if other != number)]
         supply = supply_text(plan.scenario, plan.past, plan.data[number], own_first)
         yield f"Week {number + 1}, {plan.days.text(WEEK_DAYS * number)}: {supply}."
 
@@ -103,15 +131,16 @@ def absence_lines(found: Away) -> List[str]:
     stays: Dict[str, List[int]] = {}
     for day in range(found.days[0], found.new.days.total):
         stays.setdefault(found.new.away.get(NurseDay(found.nurse, day), ALWAYS_OFF), []).append(day)
-    stays.pop(ALWAYS_OFF, None)
     said = [f"{nurse}: back, {found.old.days.span(found.days)} ({found.was})"]
-    return said + [f"{nurse} stays away: {word}, {found.new.days.spans(days)}" for word, days in stays.items()]
+    away = {word: days for word, days in stays.items() if word not in DAYS_OFF}
+    return said + [f"{nurse} stays away: {word}, {found.new.days.spans(days)}" for word, days in away.items()]
 
 
 @lines.register
 def _away_lines(found: Away, write: str = "") -> List[str]:
     begin = absence_lines(found) if found.word == BACK else []
-    return [*begin, *_counts_now(found)]
+    said = [*begin, *_counts_now(found), *exceeded_lines(found.there)]
+    return [*said, _not_written(write)] if found.status is Status.NOT_KEPT and write else said
 
 
 def _counts_now(found: Away) -> List[str]:
@@ -143,14 +172,22 @@ def _planned_lines(found: Planned, write: str = "") -> List[str]:
         said.append(f"shifts before {new.days.text(found.asked.first)} stay: plan from an earlier day can take some of them away")
     said += [*days_away_lines(new), *_changed(found)]
     said += [_agreement_text(found.old, new, one) for one in broken_agreements(found.old, new)]
-    said += [*beside_lines(new), *days_off_lines(new), *wish_lines(found.before, new), *cost_lines(found.penalties)]
+    said += [*beside_lines(new), *due_lines(new), *wish_lines(found.before, new), *cost_lines(found.penalties)]
+    said += evenness_lines(new)
     if not missing and not found.asked.few_changes:
         said.append(bound_text(found.bound))
     if found.is_stopped:
         said.append("stopped: this is the best plan until then")
+    if not found.is_written:
+        return [*said, *days_away_lines(new), _not_written(write)]
     if missing:
         said.append("this plan is written, but it does not keep what the first lines say: do what helps and plan again, or undo")
     return [*said, *pages_lines(found.pages)]
+
+
+def _not_written(write: str) -> str:
+    """That a maximum that holds would be exceeded, so nothing is written before the user is asked."""
+    return f"nothing is written, since a maximum that holds would be exceeded: do what helps, or {write}"
 
 
 def _changed(found: Planned) -> List[str]:
@@ -168,35 +205,44 @@ def _changed(found: Planned) -> List[str]:
 
 
 def _agreement_text(old: WardPlan, new: WardPlan, one: NurseDay) -> str:
-    """That a plan does not keep what two nurses have agreed on."""
+    """That a plan does not keep what two nurses have agreed on, or what was set."""
     now, agreed = readable(new.away.get(one) or cell_text(new.works.get(one))), cell_text(old.works.get(one))
-    return f"this breaks an agreed swap: {readable(one.nurse)}, {new.days.text(one.day)}: {now}, agreed was {agreed}"
+    what, was = ("an agreed swap", "agreed was") if one in old.state.agreed else ("what was set", "set was")
+    return f"this breaks {what}: {readable(one.nurse)}, {new.days.text(one.day)}: {now}, {was} {agreed}"
 
 
 def cost_lines(penalties: Mapping[int, int]) -> List[str]:
     """What each week costs, and all of them."""
-    said = [f"week {number + 1}: {points} points" for number, points in penalties.items()]
+    said = [f"{week_name(number)}: {points} points" for number, points in penalties.items()]
     return [*said, f"{plural(len(said), 'week')}: {sum(penalties.values())} points"] if len(said) > 1 else said
 
 
 def bound_text(known: Optional[KnownBound]) -> str:
-    """What a plan costs at least, and whether that is proved; after it the other bound, if it is higher."""
+    """What a plan costs, how many points cannot be avoided, and whether that is proved; after it the other bound, if it is higher."""
     if not known:
         return UNKNOWN_BOUND
-    kept = f" that keeps all {known.bound.only}" if known.bound.only else ""
-    bounds = [(f"no plan{kept}", known.bound.points, f"proved by {known.bound.by}" if known.is_proved else "not proved")]
-    if known.beside is not None and known.beside > known.bound.points:
-        bounds.append(("with training as work in a row and no night shift before it or leave, none", known.beside, "not proved"))
-    said = [f"{plans} costs less than {'this one' if known.penalty <= least else f'{least} points'} ({by})" for plans, least, by in bounds]
-    if known.penalty > bounds[-1][1]:
-        said.append(f"this one costs {known.penalty}: more seconds may help")
-    return "; ".join(said)
+    plans = f"plan that keeps all {known.bound.only}" if known.bound.only else "plan"
+    said = _least_text(known.penalty, known.bound.points, plans, f"proved by {known.bound.by}" if known.is_proved else "not proved")
+    least = known.bound.points
+    if known.beside is not None and known.beside > least:
+        least = known.beside
+        plans = "plan with training as work in a row, and no night shift before it or leave,"
+        said += f" {_least_text(known.penalty, least, plans, 'not proved', is_first=False)}"
+    return f"{said} More seconds may help." if known.penalty > least else said
+
+
+def _least_text(penalty: int, least: int, plans: str, proof: str, is_first: bool = True) -> str:
+    """That such plans cost at least so many points."""
+    begin = f"This plan costs {plural(penalty, 'point')}" if is_first else ""
+    if penalty <= least:
+        return f"{f'{begin}, and no' if begin else 'No'} {plans} costs less ({proof})."
+    return f"{f'{begin}. ' if begin else ''}At least {least} cannot be avoided by a {plans.rstrip(',')} ({proof})."
 
 
 @lines.register
 def _no_plan_lines(found: NoPlan, write: str = "") -> List[str]:
     plan, begin = found.plan, _counts_now(found.absence) if found.absence else []
-    said = [f"week {found.week + 1}: {shortage_head(found.shortage)}"]
+    said = [f"{week_name(found.week)}: {shortage_head(found.shortage)}"]
     for short in found.shortage.places:
         said.append(readable(f"{plan.days.text(WEEK_DAYS * found.week + short.place.day)} {lowered_text(short)}"))
         if not short.is_known:
@@ -243,16 +289,20 @@ def _swapped_lines(found: Swapped, write: str = "") -> List[str]:
 
 def swap_lines(found: Swapped) -> List[str]:
     """What a swap changes and costs."""
-    old, new = found.old, found.new
-    changes = shift_changes(old.cells, new.cells)
-    known = beside_days_away(old)
-    beside = [beside_text(new.days, one) for one in beside_days_away(new) if one not in known]
-    said = [*change_lines(changes, old.days), *call_lines(changes), *wish_lines(old, new), *beside, *_charge_lines(old, new)]
+    said = changed_lines(found.old, found.new)
     return [*said, "this takes their swap back: later plans do not keep it"] if found.takes_back else said
 
 
+def changed_lines(old: WardPlan, new: WardPlan) -> List[str]:
+    """What differs in a plan that was made without a search: shifts, nurses to call, wishes, what is odd beside days away, and charges."""
+    changes = shift_changes(old.cells, new.cells)
+    known = beside_days_away(old)
+    beside = [beside_text(new.days, one) for one in beside_days_away(new) if one not in known]
+    return [*change_lines(changes, old.days), *call_lines(changes), *wish_lines(old, new), *beside, *_charge_lines(old, new)]
+
+
 def _charge_lines(old: WardPlan, new: WardPlan) -> Iterator[str]:
-    """The charges that a swap saves or adds, and their sum; nothing if a plan has no cost, since it breaks a hard rule."""
+    """The charges that are saved or added, and their sum; nothing if a plan has no cost, since it breaks a hard rule."""
     before, now = old.view().penalty, new.view().penalty
     if before is None or now is None:
         return
@@ -267,11 +317,64 @@ def _charged(plan: WardPlan) -> List[Tuple[int, str]]:
     return [(charge.cost, readable(charge_text(charge, names=names))) for charges, names in weeks for charge in charges]
 
 
+# ---- a day that is set
+
+
+@lines.register
+def _day_set_lines(found: DaySet, write: str = "") -> List[str]:
+    if found.takes_back:
+        said = [f"{_set_text(found)}: later plans may change it again"]
+    elif found.faults:
+        refused = [f"not possible: {fault_text(found.old, fault)}" for fault in found.faults]
+        return [*refused, "nothing is written", *_instead_lines(found)]
+    else:
+        said = [*changed_lines(found.old, found.new), f"{_set_text(found)}: later plans keep it, until it is taken back"]
+    if not found.is_written:
+        instead = [] if found.takes_back else _instead_lines(found)
+        return [*said, f"nothing is written: {write}", *instead] if write else said
+    return [*said, *exceeded_lines(found.new), *pages_lines(found.pages)]
+
+
+def _set_text(found: DaySet) -> str:
+    """Whose day is set, and to what."""
+    reason = f" ({found.reason})" if found.reason else ""
+    return f"{readable(found.place.nurse)}, {found.old.days.text(found.place.day)}: {cell_text(found.now)}{reason}"
+
+
+def _instead_lines(found: DaySet) -> List[str]:
+    """Who could do it instead, or swap for it, and how that is written."""
+    if not found.instead:
+        return ["nobody else could do it without a broken rule"]
+    nurse, day = readable(found.place.nurse), found.old.days.head(found.place.day)
+    shown = found.instead[:MOST_OFFERS]
+    ways = [f"swap {nurse} {day} NAME" if one.swap or not found.now else f"set NAME {day} {readable(found.now.shift)}" for one in shown]
+    swaps = Swaps(found.old)
+    said = ["other ways, and what they add to the points:", *(_instead_text(swaps, found, one) for one in shown)]
+    return [*said, f"with the name of one of them: {', or '.join(dict.fromkeys(ways))}"]
+
+
+def _instead_text(swaps: Swaps, found: DaySet, one: Instead) -> str:
+    """Who could do it, and what that adds to the points."""
+    nurse, other = readable(found.place.nurse), readable(one.nurse)
+    if one.swap and not found.now:
+        return offer_text(swaps, Offer(one.cost, one.swap))
+    way = f"{nurse} swaps with {other}, who has {cell_text(found.old.works.get(NurseDay(one.nurse, found.place.day)))} then"
+    return f"{one.cost:+5}  {way if one.swap else f'{other} instead of {nurse}'}"
+
+
 # ---- the end of a week, publishing and undo
 
 
 @lines.register
 def _week_over_lines(found: WeekOver, write: str = "") -> List[str]:
+    if found.status is Status.NOT_KEPT and not found.is_written:
+        exceeded = [line for plan in (found.worked, found.next) if plan for line in exceeded_lines(plan)]
+        return [*_corrections(found), *dict.fromkeys(exceeded), *([_not_written(write)] if write else [])]
+    return [*_corrections(found), *(_goes_on(found, found.next) if found.next else _period_over(found))]
+
+
+def _corrections(found: WeekOver) -> List[str]:
+    """What was worked otherwise than planned, and the rules that this breaks."""
     old, worked = found.old, found.worked
     said: List[str] = []
     for (nurse, day), word in found.away.items():
@@ -281,8 +384,7 @@ def _week_over_lines(found: WeekOver, write: str = "") -> List[str]:
     number = old.state.open_week
     known = broken(old, number)
     by_hand = [broken_text(worked, one) for one in broken(worked, number) if one not in known]
-    said += [*by_hand, "if it was not worked so: undo, then over with other corrections"] if by_hand else []
-    return [*said, *(_goes_on(found, found.next) if found.next else _period_over(found))]
+    return [*said, *([*by_hand, "if it was not worked so: undo, then over with other corrections"] if by_hand else [])]
 
 
 def _goes_on(found: WeekOver, new: WardPlan) -> List[str]:
@@ -290,7 +392,7 @@ def _goes_on(found: WeekOver, new: WardPlan) -> List[str]:
     begin = new.days.text(new.first)
     now = [one for number in new.weeks for one in broken(new, number)]
     known = [one for number in new.weeks for one in broken(found.old, number)]
-    said = [f"week {found.old.state.open_week + 1} is over: the plan goes on from {begin}", *(broken_text(new, one) for one in now)]
+    said = [f"{week_name(found.old.state.open_week)} is over: the plan goes on from {begin}", *(broken_text(new, one) for one in now)]
     if any(one not in known for one in now):
         said.append(f"after these corrections the plan does not fit any more: plan again, from {begin} on")
     return [*said, *days_away_lines(new), *pages_lines(found.pages)]
@@ -301,7 +403,7 @@ def _period_over(found: WeekOver) -> List[str]:
     days = found.worked.days.next()
     begin = f"from {days.monday} on, " if days.monday else ""
     then = "into the sheet plan, with its wishes and absences; then plan"
-    closed = f"week {found.old.state.open_week + 1} is over, and with it the {PERIOD_IS_OVER}"
+    closed = f"{week_name(found.old.state.open_week)} is over, and with it the {PERIOD_IS_OVER}"
     rows = anew_lines(found.worked.ward.week_rows, days)
     return [*pages_lines(found.pages), closed, f"write the days of the next one, {begin}{then}", *rows]
 
@@ -331,4 +433,6 @@ def _undone_lines(found: Undone, write: str = "") -> List[str]:
 
 def question_lines(found: Optional[Outcome]) -> List[str]:
     """What a question says of an event that is not done yet; why it cannot be, if that is known."""
-    return lines(found) if isinstance(found, (Away, Swapped, Undone)) else []
+    if isinstance(found, WeekOver):
+        return _corrections(found) or ["as it was planned"]
+    return lines(found) if isinstance(found, (Away, DaySet, Swapped, Undone)) else []

@@ -19,13 +19,11 @@ from ..search.why_none import Shortage, why_none
 from ..week.facts import Choice, Claim, Fact, facts_text
 from ..week.faults import FileFault, fault_line
 from ..week.files import history_text, solution_text, week_text
-from ..week.records import Cell, Solution, Week, WeekData
+from ..week.records import WEEK_DAYS, Cell, NurseDay, Solution, Week, WeekData, in_week
 from ..week.writing import write_text
 from .changes import CALL_POINTS, days_off_beside_absences, with_few_changes, with_old_skills
 from .outcome import Asked, Keep, KnownBound
-from .state import NurseDay, in_week
 from .ward import WardPlan, limits_for_leavers
-from .words import WEEK_DAYS
 
 _FACTS = "facts.txt"
 
@@ -92,12 +90,12 @@ def _files(old: WardPlan, asked: Asked, folder: Path) -> PeriodFiles:
     history, given = folder / history_name(old.state.open_week), folder / _FACTS
     agreed = _kept_agreed(old, asked)
     claims = [*_later_claims(old, asked.first), *_past_claims(old, asked.first)]
-    claims += _agreed_off(old, agreed) if asked.agreed is Keep.ALL else []
+    claims += _agreed_off(old, agreed) if asked.agreed is not Keep.MOST else []
     write_text(folder / "ward.txt", old.ward.texts["ward.txt"])
     write_text(history, history_text(old.past))
     write_text(given, facts_text(old.scenario.name, claims))
     held = [cell for cell in old.held.values() if cell.day >= asked.first] + [cell for cell in old.cells if cell.day < asked.first]
-    if asked.agreed is Keep.ALL:
+    if asked.agreed is not Keep.MOST:
         held += [old.works[one] for one in agreed if one in old.works]
     weeks, fixes = [], {}
     for number in old.weeks:
@@ -122,14 +120,15 @@ def _week(old: WardPlan, number: int, asked: Asked, agreed: Collection[NurseDay]
 
 
 def _kept_agreed(old: WardPlan, asked: Asked) -> List[NurseDay]:
-    """The agreed days that can be kept: nobody is away on them, and the spreadsheet holds no shift."""
+    """The days of swaps, and those that were set, that can be kept: nobody is away on them, and the spreadsheet holds no shift."""
 
     def can_be_kept(one: NurseDay) -> bool:
         cell = old.works.get(one)
         is_away = cell is not None and is_broken_by(old.absences, cell)
         return one.day >= asked.first and one not in old.held and not is_away
 
-    return [one for one in old.state.agreed if asked.agreed is not Keep.NONE and old.is_planned and can_be_kept(one)]
+    asked_for = [one.place for one in old.state.set_days] if asked.agreed is Keep.NONE else old.state.kept
+    return [one for one in asked_for if old.is_planned and can_be_kept(one)]
 
 
 def _agreed_off(old: WardPlan, agreed: Sequence[NurseDay]) -> List[Claim]:

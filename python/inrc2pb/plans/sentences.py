@@ -2,21 +2,31 @@
 
 from typing import Dict, Iterable, Iterator, List, Mapping, Optional
 
-from ..judging.absences import in_words, joined, readable
+from ..judging.absences import in_words
 from ..judging.limits import limits_in_words, limits_way_out
-from ..shown.charge_words import in_words as charge_text
+from ..shown.why import in_words as charge_text
+from ..week.dates import PlanDays
 from ..week.faults import fault_line
-from ..week.hints import plural, quoted
-from ..week.records import Cell, Request
+from ..week.records import WEEK_DAYS, Cell, NurseDay, Request, week_name
+from ..week.words import joined, plural, quoted, readable
 from .changes import ShiftChange, called
-from .facts import Beside, Broken, TooMany, Unkept, beside_days_away, charged_days_off, exceeded_in_weeks, lost_wishes
-from .facts import too_many_by_days_away, too_many_shifts
+from .fairness import evenness
+from .facts import (
+    Beside,
+    Broken,
+    TooMany,
+    Unkept,
+    beside_days_away,
+    due_to_days_away,
+    exceeded_in_weeks,
+    lost_wishes,
+    too_many_by_days_away,
+    too_many_shifts,
+)
 from .outcome import Pages
-from .state import NurseDay
 from .swaps import Fault, Kind, Offer, Swaps
 from .ward import OFF, WardPlan
 from .ward_sheet import WeekRow
-from .words import WEEK_DAYS, PlanDays
 
 
 # ---- shifts, days and nurses
@@ -61,7 +71,7 @@ def unkept_lines(plan: WardPlan, found: Iterable[Unkept]) -> List[str]:
     """Who works while she is away, or above a limit that holds, and what would help."""
     said: List[str] = []
     for one in found:
-        week, names, cells = f"week {one.week + 1}", plan.day_names(one.week), plan.state.roster(one.week)
+        week, names, cells = week_name(one.week), plan.day_names(one.week), plan.state.roster(one.week)
         if one.working:
             skills = joined(dict.fromkeys(readable(cell.skill) for cell in one.working))
             said.append(f"{week}: no plan was found that keeps every absence: {in_words(one.working, names)}")
@@ -77,7 +87,7 @@ def exceeded_lines(plan: WardPlan) -> List[str]:
     said = []
     for number, charge in exceeded_in_weeks(plan):
         words = limits_in_words([charge], plan.state.roster(number), plan.day_names(number))
-        said.append(f"week {number + 1} exceeds a limit that holds: {words}: plan again, or allow her more")
+        said.append(f"{week_name(number)} exceeds a limit that holds: {words}: plan again, or allow her more")
     return said + [_shifts_line(plan, one) for one in too_many_shifts(plan)]
 
 
@@ -114,27 +124,49 @@ def beside_lines(plan: WardPlan) -> List[str]:
     return [beside_text(plan.days, one) for one in beside_days_away(plan)]
 
 
-def days_off_lines(plan: WardPlan) -> List[str]:
-    """A line for each charge for too many days off in a row, if the nurse is away on some of them."""
+# Why days away have a part in the charges of a rule.
+_DUE = {
+    "S2": "the days in a row end at her days away ({})",
+    "S3": "her days away ({}) count as days off",
+    "S5": "she is away on the other day ({})",
+    "S6": "some of her shifts are for days away ({})",
+    "S7": "some of her weekends are days away ({})",
+}
+
+
+def due_lines(plan: WardPlan) -> List[str]:
+    """A line for each charge in which days away have a part, and the sum of what is due to them."""
+    found = due_to_days_away(plan)
     said = []
-    for one in charged_days_off(plan):
-        text = charge_text(one.charge, names=plan.day_names(one.week))
-        said.append(readable(f"{one.charge.cost} points: {text}: her days away ({joined(one.words)}) count as days off"))
-    return said
+    for one in found:
+        text, why = charge_text(one.charge, names=plan.day_names(one.week)), _DUE[one.charge.rule].format(joined(one.words))
+        said.append(readable(f"{one.points} points: {text}: {why}"))
+    return [*said, f"{sum(one.points for one in found)} of the points are due to days away"] if len(found) > 1 else said
 
 
 def broken_text(plan: WardPlan, one: Broken) -> str:
     if one.rule:
-        return f"week {one.week + 1}, {readable(one.rule)}"
+        return f"{week_name(one.week)}, {readable(one.rule)}"
     words = limits_in_words(one.above, plan.state.roster(one.week), plan.day_names(one.week))
-    return f"week {one.week + 1} exceeds a limit that holds: {words}"
+    return f"{week_name(one.week)} exceeds a limit that holds: {words}"
+
+
+def evenness_lines(plan: WardPlan) -> List[str]:
+    """How evenly nights and weekends are shared among the nurses of each contract who may work them."""
+    found = evenness(plan)
+    said = []
+    for kind, spreads in (("nights", found.nights), ("weekends", found.weekends)):
+        numbers = [f"{readable(one.contract)} {one.fewest}{f' to {one.most}' if one.most > one.fewest else ''}" for one in spreads]
+        if numbers:
+            said.append(f"{kind} of each nurse who may work them, by contract: {', '.join(numbers)}")
+    return said
 
 
 # ---- swaps
 
 
 def fault_text(plan: WardPlan, fault: Fault) -> str:
-    """Why a swap cannot be."""
+    """Why a swap, or a day that is set, cannot be."""
     nurse, day = fault.nurse, plan.days.text(fault.day)
     if fault.kind is Kind.LIMIT:
         above = (limits_in_words(one.charges, one.cells, plan.day_names(one.week)) for one in fault.above)
@@ -147,15 +179,16 @@ def fault_text(plan: WardPlan, fault: Fault) -> str:
         Kind.NEVER: f"{nurse} never works {fault.what}",
         Kind.SKILL: f"{nurse} does not have the skill {fault.what}",
         Kind.FOLLOWS: f"{nurse} may not work {fault.what} on {day} after {fault.before}",
+        Kind.MINIMUM: f"{fault.what} on {day} needs at least {plural(fault.number, 'nurse')}, and without {nurse} has fewer",
     }
     return readable(texts[fault.kind])
 
 
 def offer_text(swaps: Swaps, offer: Offer) -> str:
     """Who takes a shift, which of hers is taken for it, and what that adds to the points."""
-    one, other, days = offer.swap
+    _, other, days = offer.swap
     given = ((day, swaps.works(other, day)) for day in days)
-    taken = "".join(f", and {readable(one)} her {readable(cell.shift)} on {swaps.plan.days.text(day)}" for day, cell in given if cell)
+    taken = "".join(f", in exchange for {readable(cell.shift)} on {swaps.plan.days.text(day)}" for day, cell in given if cell)
     return f"{offer.cost:+5}  {readable(other)} takes it{taken}"
 
 
@@ -181,5 +214,5 @@ def anew_lines(rows: Iterable[WeekRow], days: PlanDays) -> Iterator[str]:
     for week, numbers in found.items():
         named = f"row{'s' if len(numbers) > 1 else ''} {joined(numbers)}"
         span = f", now {days.span([WEEK_DAYS * week, WEEK_DAYS * week + WEEK_DAYS - 1])}" if days.monday else ""
-        now = f"weeks count anew, and this is week {week + 1}{span}"
+        now = f"weeks count anew, and this is {week_name(week)}{span}"
         yield f"sheet needs, {named}: {now}: correct it, or delete what the last period needed"

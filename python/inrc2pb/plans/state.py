@@ -8,44 +8,54 @@ import datetime
 import json
 from dataclasses import dataclass, replace
 from pathlib import Path
-from typing import Any, Callable, Collection, Dict, Iterable, List, NamedTuple, Sequence, Tuple
+from typing import Any, Callable, Collection, Dict, Iterable, List, Mapping, NamedTuple, Optional, Sequence, Tuple
 
+from ..judging.leave import ILL
+from ..week.dates import PlanDays
 from ..week.faults import FileFault
 from ..week.files import history_text, read_history, read_scenario, read_solution, solution_text
-from ..week.records import Cell, History, Scenario, Solution
+from ..week.own_files import check_own
+from ..week.records import WEEK_DAYS, Cell, History, NurseDay, Scenario, Solution, in_plan, in_week
 from ..week.slots import text_of
-from .words import WEEK_DAYS, PlanDays
 
 NAME, START = "plan.json", "start.txt"
 # The most bytes of a plan's file: that of the largest ward has some thousand days away.
 _MOST_BYTES = 1_000_000
 _MOST_WEEKS = 52
 _CURE = "correct it, or type undo to go back to the plan before it"
+# What the plans of an older version do not have.
+_SET = "set days"
 # The words of days on which a nurse is back: the first empties her cell, the second gives the day its cell of the spreadsheet again.
 BACK, SHEET = "back", "sheet"
-# The word that other ones stay below: who is ill on days of leave has her leave again if she is back.
-_ILL = "ill"
-
-
-class NurseDay(NamedTuple):
-    """A nurse on a day of the plan."""
-
-    nurse: str
-    day: int
 
 
 class DayWord(NamedTuple):
-    """A nurse's day, and the word that a verb has written for it, such as `ill`: it counts as if it were in the spreadsheet's plan."""
+    """A nurse's day, and the word that a verb has written for it, such as `ill`: it counts as if it were in the spreadsheet's plan. `lost`
+    is the number of shifts that an illness takes from a plan on the wall, if that is known."""
 
     nurse: str
     day: int
     word: str
+    lost: Optional[int] = None
+
+
+class SetDay(NamedTuple):
+    """A nurse's day whose shift, or day off, was set: later plans keep it. `reason` is what was written with it, or empty."""
+
+    nurse: str
+    day: int
+    reason: str = ""
+
+    @property
+    def place(self) -> NurseDay:
+        """The nurse's day."""
+        return NurseDay(self.nurse, self.day)
 
 
 class Record(NamedTuple):
     """What a plan's folder says of itself: the verb that made it, and when; the days of the plan; the first week that is not over; whether
     it hangs on the wall, so that later plans change little; the days away that verbs have written, of which the last one of a day holds;
-    and the days of swaps that were written, whose shifts later plans keep."""
+    the days of swaps that were written, and those that were set, whose shifts later plans keep."""
 
     verb: str
     time: datetime.datetime
@@ -54,6 +64,7 @@ class Record(NamedTuple):
     published: bool = False
     absences: Tuple[DayWord, ...] = ()
     agreed: Tuple[NurseDay, ...] = ()
+    set_days: Tuple[SetDay, ...] = ()
 
     @property
     def made(self) -> str:
@@ -64,7 +75,8 @@ class Record(NamedTuple):
 @dataclass(frozen=True)
 class State:
     """A plan without its ward. `start` is the history before the first week, without days away. The first `planned` weeks have the shifts
-    of `cells`: those that are over as they were worked, the others as they are planned. `absences` and `agreed` are those of a record."""
+    of `cells`: those that are over as they were worked, the others as they are planned. `absences`, `agreed` and `set_days` are those of a
+    record."""
 
     days: PlanDays
     start: History
@@ -74,6 +86,12 @@ class State:
     published: bool = False
     absences: Tuple[DayWord, ...] = ()
     agreed: Tuple[NurseDay, ...] = ()
+    set_days: Tuple[SetDay, ...] = ()
+
+    @property
+    def kept(self) -> Tuple[NurseDay, ...]:
+        """The nurses' days that later plans keep as they are: those of swaps, and those that were set."""
+        return (*self.agreed, *(one.place for one in self.set_days))
 
     @property
     def first(self) -> int:
@@ -91,27 +109,33 @@ class State:
 
     def record(self, verb: str, time: datetime.datetime) -> Record:
         """What the folder of a plan says of itself that this verb has made."""
-        return Record(verb, time, self.days, self.open_week, self.published, absences=self.absences, agreed=self.agreed)
+        return Record(
+            verb,
+            time,
+            self.days,
+            open_week=self.open_week,
+            published=self.published,
+            absences=self.absences,
+            agreed=self.agreed,
+            set_days=self.set_days,
+        )
 
-
-def in_week(cells: Iterable[Cell], week: int) -> Tuple[Cell, ...]:
-    """The shifts of a week, with the days of the week, as files have them."""
-    return tuple(cell._replace(day=cell.day % WEEK_DAYS) for cell in cells if cell.day // WEEK_DAYS == week)
-
-
-def in_plan(rosters: Iterable[Sequence[Cell]]) -> Tuple[Cell, ...]:
-    """The shifts of weeks, one after another from the first one on, with the days of the plan."""
-    return tuple(cell._replace(day=WEEK_DAYS * week + cell.day) for week, cells in enumerate(rosters) for cell in cells)
+    def keeping(self, fits: Callable[[NurseDay], bool]) -> "State":
+        """The same with those days of swaps, and those that were set, that fit."""
+        agreed = tuple(one for one in self.agreed if fits(one))
+        return replace(self, agreed=agreed, set_days=tuple(one for one in self.set_days if fits(one.place)))
 
 
 # ---- the words of days away
 
 
-def with_days(absences: Sequence[DayWord], nurse: str, days: Iterable[int], word: str) -> Tuple[DayWord, ...]:
-    """The absences with this word for these days of a nurse, in place of older ones, or, if she is ill, above them."""
-    new = [DayWord(nurse, day, word) for day in days]
-    taken, stay = {(one.nurse, one.day) for one in new}, word == _ILL
-    kept = (one for one in absences if (one.nurse, one.day) not in taken or (stay and one.word not in (_ILL, SHEET)))
+def with_days(absences: Sequence[DayWord], nurse: str, days: Iterable[int], word: str, lost: Mapping[int, int] = {}) -> Tuple[DayWord, ...]:
+    """The absences with this word for these days of a nurse, in place of older ones, or, if she is ill, above them; `lost` has the shifts
+    that her illness takes from a plan on the wall."""
+    new = [DayWord(nurse, day, word, lost.get(day)) for day in days]
+    # Other words stay below: who is ill on days of leave has her leave again if she is back.
+    taken, stay = {(one.nurse, one.day) for one in new}, word == ILL
+    kept = (one for one in absences if (one.nurse, one.day) not in taken or (stay and one.word not in (ILL, SHEET)))
     return (*kept, *new)
 
 
@@ -126,6 +150,12 @@ def without_last(absences: Sequence[DayWord], nurse: str, days: Collection[int])
 def words_of(absences: Sequence[DayWord], nurse: str) -> Dict[int, str]:
     """The word that holds on each day of a nurse for which a verb has written one."""
     return {one.day: one.word for one in absences if one.nurse == nurse}
+
+
+def lost_shifts(absences: Sequence[DayWord]) -> Dict[NurseDay, int]:
+    """The shifts that illnesses have taken from plans on the wall, by the last word of each day that says it."""
+    known = {NurseDay(one.nurse, one.day): one.lost for one in absences}
+    return {one: lost for one, lost in known.items() if lost is not None}
 
 
 # ---- the folder of a plan
@@ -145,8 +175,9 @@ def record_text(record: Record) -> str:
         "weeks": record.days.weeks,
         "weeks over": record.open_week,
         "published": record.published,
-        "days away": [list(one) for one in record.absences],
+        "days away": [list(one if one.lost is not None else one[:3]) for one in record.absences],
         "agreed days": [list(one) for one in record.agreed],
+        _SET: [list(one) for one in record.set_days],
     }
     lines = [f"  {json.dumps(name)}: {json.dumps(value, ensure_ascii=False)}" for name, value in values.items()]
     return "{\n" + ",\n".join(lines) + "\n}\n"
@@ -157,6 +188,7 @@ def read_record(folder: Path) -> Record:
     path = folder / NAME
     if not path.exists():
         raise FileFault(folder, 0, "this folder is no plan: move it away, or type undo to go back to the plan before it")
+    check_own(folder)
     if path.stat().st_size > _MOST_BYTES:
         raise FileFault(path, 0, f"the file has more than {_MOST_BYTES} bytes: {_CURE}")
     text = text_of(path)
@@ -177,23 +209,26 @@ class _Changed(ValueError):
 
 
 def _record_of(values: Any) -> Record:
-    names = ("verb", "time", "monday", "weeks", "weeks over", "published", "days away", "agreed days")
-    if not isinstance(values, dict) or set(values) != set(names):
+    names = ("verb", "time", "monday", "weeks", "weeks over", "published", "days away", "agreed days", _SET)
+    if not isinstance(values, dict) or {_SET, *values} != set(names):
         raise _Changed(f"it has not the names {', '.join(names)}")
+    values = {_SET: [], **values}
     monday = values["monday"]
     weeks = _taken(values, "weeks", _is_number_to(_MOST_WEEKS))
     days = PlanDays(None if monday is None else _time(values, "monday", "%Y-%m-%d").date(), weeks)
     is_day, open_week = _is_number_to(days.total - 1), _taken(values, "weeks over", _is_number_to(weeks))
-    absences = _rows(values, "days away", [_is_text, is_day, _is_text])
+    absences = _rows(values, "days away", [_is_text, is_day, _is_text, _is_number_to(1)], least=3)
     agreed = _rows(values, "agreed days", [_is_text, is_day])
+    set_days = _rows(values, _SET, [_is_text, is_day, lambda value: isinstance(value, str)])
     return Record(
         _taken(values, "verb", _is_text),
         _time(values, "time", "%Y-%m-%d %H:%M"),
         days,
-        open_week,
-        _taken(values, "published", lambda value: isinstance(value, bool)),
-        tuple(DayWord(*row) for row in absences),
-        tuple(NurseDay(*row) for row in agreed),
+        open_week=open_week,
+        published=_taken(values, "published", lambda value: isinstance(value, bool)),
+        absences=tuple(DayWord(*row) for row in absences),
+        agreed=tuple(NurseDay(*row) for row in agreed),
+        set_days=tuple(SetDay(*row) for row in set_days),
     )
 
 
@@ -220,11 +255,12 @@ def _time(values: Dict[str, Any], name: str, form: str) -> datetime.datetime:
         raise _Changed(f"'{name}' has a value that no plan has") from None
 
 
-def _rows(values: Dict[str, Any], name: str, fits: Sequence[Callable[[object], bool]]) -> List[List[Any]]:
-    """The rows of this name, whose values fit one by one."""
+def _rows(values: Dict[str, Any], name: str, fits: Sequence[Callable[[object], bool]], least: Optional[int] = None) -> List[List[Any]]:
+    """The rows of this name, whose values fit one by one: all of them, or the first ones, at least so many."""
+    lengths = range(len(fits) if least is None else least, len(fits) + 1)
     rows = _taken(values, name, lambda value: isinstance(value, list))
     for number, row in enumerate(rows, 1):
-        if not isinstance(row, list) or len(row) != len(fits) or not all(fit(value) for fit, value in zip(fits, row)):
+        if not isinstance(row, list) or len(row) not in lengths or not all(fit(value) for fit, value in zip(fits, row)):
             raise _Changed(f"row {number} of '{name}' is none of a plan")
     return list(rows)
 
@@ -244,6 +280,7 @@ def read_state(folder: Path) -> State:
         published=record.published,
         absences=record.absences,
         agreed=record.agreed,
+        set_days=record.set_days,
     )
 
 

@@ -9,25 +9,31 @@ import shlex
 import shutil
 import tempfile
 import threading
+from dataclasses import replace
 from pathlib import Path
 from typing import Callable, Dict, Iterable, Iterator, List, NamedTuple, Optional, Sequence, Set, TextIO, Tuple
 
+from ..judging.absences import wishes_of
 from ..programs.interrupts import interrupts
 from ..programs.program import WeekFiles, penalty_of
 from ..programs.progress import Progress
+from ..shown.totals import Sums, sums_of
+from ..week.dates import PlanDays
 from ..week.faults import FileFault, Misuse
 from ..week.files import history_text, read_scenario, read_solution, read_week, write_solution
-from ..week.hints import quoted
-from ..week.records import Cell, Solution
+from ..week.own_files import check_inside, check_no_link, is_own_file
+from ..week.records import WEEK_DAYS, Cell, Solution
+from ..week.words import quoted
 from ..week.writing import write_text
 from . import pages
 from .outcome import Pages
 from .state import DayWord, Record, read_record, read_state, roster_name, state_texts
 from .ward import Ward, WardPlan, continued, first_plan
 from .ward_sheet import WeekRow, unchanged_rows
-from .words import WEEK_DAYS, PlanDays
 
 PLANS, UNDONE, LOCK = "plans", "undone", "lock"
+# The verb that hangs a plan up.
+PAGE = "page"
 _SPREADSHEETS, _CSV = (".ods", ".xlsx"), (".csv", ".tsv")
 _NAME = re.compile("([0-9]{4,})-.+")
 # Seconds between two looks whether the run that works in the folder has ended.
@@ -37,6 +43,13 @@ _PAUSE = 0.2
 def has_spreadsheet(top: Path) -> bool:
     """Whether the folder has a spreadsheet, or sheets as .csv files."""
     return any(path.suffix.lower() in (*_SPREADSHEETS, *_CSV) for path in top.iterdir() if path.is_file())
+
+
+def tables_of(spreadsheet: Path) -> List[Path]:
+    """The files of a spreadsheet: itself, or the .csv files of a folder."""
+    if not spreadsheet.is_dir():
+        return [spreadsheet]
+    return [path for path in sorted(spreadsheet.iterdir()) if path.suffix.lower() in _CSV and path.is_file()]
 
 
 class WardFolder:
@@ -53,17 +66,16 @@ class WardFolder:
         found = [path for path in files if path.suffix.lower() in _SPREADSHEETS]
         if len(found) > 1:
             raise Misuse(f"{self.top} has several spreadsheets, {quoted(path.name for path in found)}: leave one of them in it")
-        if found:
-            return found[0]
-        if any(path.suffix.lower() in _CSV for path in files):
-            return self.top
+        tables = found or [path for path in files if path.suffix.lower() in _CSV]
+        for path in tables:
+            check_inside(path, self.top)
+        if tables:
+            return found[0] if found else self.top
         raise Misuse(f"{self.top} has no spreadsheet: put the ward's .ods or .xlsx file into it, or give a new folder and `new`")
 
     def all_plans(self) -> List[Path]:
         """The folders of all plans, in the order in which they were made."""
-        if not self.plans.is_dir():
-            return []
-        return sorted((path for path in self.plans.iterdir() if path.is_dir() and _NAME.fullmatch(path.name)), key=_place)
+        return sorted(_own_folders(self.plans), key=_place)
 
     def last(self) -> Optional[Path]:
         """The folder of the plan that holds, if there is one."""
@@ -94,8 +106,7 @@ class WardFolder:
 
     def undone(self) -> List[Path]:
         """The folders of the plans that were undone."""
-        folder = self.plans / UNDONE
-        return [path for path in folder.iterdir() if _NAME.fullmatch(path.name)] if folder.is_dir() else []
+        return _own_folders(self.plans / UNDONE)
 
     def check_undo(self) -> Path:
         """The folder of the plan that undo takes away. Raises Misuse if there is none."""
@@ -107,6 +118,7 @@ class WardFolder:
     def undo(self) -> Path:
         """Takes the last plan away, to the folder `undone`. Returns its new path."""
         last = self.check_undo()
+        check_no_link(self.plans / UNDONE)
         (self.plans / UNDONE).mkdir(exist_ok=True)
         return last.rename(self.plans / UNDONE / last.name)
 
@@ -119,10 +131,15 @@ class WardFolder:
             yield
 
     def _lock_file(self) -> TextIO:
-        """The file that is locked, open. A fault names the folder."""
+        """The file that is locked, open. A fault names the folder. Raises Misuse if it is a link, or if this is no ward's folder."""
+        check_no_link(self.plans)
+        check_no_link(self.plans / LOCK)
+        if not self.plans.is_dir():
+            # The folder of a network share that is gone is empty.
+            self.spreadsheet()
         try:
             self.plans.mkdir(exist_ok=True)
-            return open(self.plans / LOCK, "a+", encoding="utf-8")
+            return open(os.open(self.plans / LOCK, os.O_RDWR | os.O_CREAT | os.O_NOFOLLOW, 0o666), "r+", encoding="utf-8")
         except OSError as fault:
             fault.filename = str(self.top if isinstance(fault, PermissionError) else self.plans)
             raise
@@ -138,6 +155,13 @@ class WardFolder:
                     say("the other run has ended")
                     return
         raise KeyboardInterrupt
+
+
+def _own_folders(top: Path) -> List[Path]:
+    """The folders of plans in a folder, which are no links, if it is none either."""
+    if top.is_symlink() or not top.is_dir():
+        return []
+    return [path for path in top.iterdir() if _NAME.fullmatch(path.name) and path.is_dir() and not path.is_symlink()]
 
 
 def _place(plan: Path) -> Tuple[int, str]:
@@ -182,6 +206,7 @@ class PlanStore:
 
     def current(self) -> WardPlan:
         """The plan that holds, with what the spreadsheet says now."""
+        check_no_link(self.folder.plans)
         last, spreadsheet = self.folder.last(), self.folder.spreadsheet()
         if last is None:
             return first_plan(self.means.read(spreadsheet, None, ()))
@@ -199,10 +224,10 @@ class PlanStore:
         """The same. Raises Misuse if the spreadsheet does not have its names any more."""
         return fitted(self.planned())
 
-    def save(self, verb: str, plan: WardPlan, old: Optional[WardPlan] = None) -> Pages:
-        """Writes the plan and its pages, which mark what differs from an older plan. Returns the pages."""
+    def save(self, verb: str, plan: WardPlan) -> Pages:
+        """Writes the plan and its pages. Returns the pages."""
         self.add(verb, plan)
-        return self.pages(plan, old)
+        return self.pages(plan)
 
     def add(self, verb: str, plan: WardPlan) -> None:
         """Writes the plan that this verb has made, without pages."""
@@ -225,16 +250,30 @@ class PlanStore:
 
     def worked_pages(self, plan: Optional[WardPlan]) -> Dict[str, str]:
         """The pages of weeks that are over, and their texts; if the sheet has a fault, so there is no plan, that of the roster too."""
-        is_left = plan is None and pages.is_own_file(self.folder.top / pages.ROSTER)
+        is_left = plan is None and is_own_file(self.folder.top / pages.ROSTER)
         found = {pages.ROSTER: "The roster as it was last written"} if is_left else {}
         return {**found, **pages.worked_pages(self.folder.top)}
 
-    def pages(self, plan: WardPlan, old: Optional[WardPlan] = None) -> Pages:
-        """Makes the pages of the folder those of a plan."""
+    def hung_up(self, plan: WardPlan) -> Optional[WardPlan]:
+        """The last plan of the same days that was hung up before the one that holds, if the spreadsheet still has its names."""
+        older = reversed(self.folder.all_plans()[:-1])
+        records = ((path, known_record(path)) for path in older)
+        path = next((path for path, record in records if record and record.verb == PAGE and record.days == plan.days), None)
+        if path is None:
+            return None
+        try:
+            state = read_state(path)
+            return continued(plan.ward.with_absences(state.absences), state)
+        except (FileFault, Misuse, OSError):
+            return None
+
+    def pages(self, plan: WardPlan) -> Pages:
+        """Makes the pages of the folder those of a plan. They mark what differs from the plan that was hung up before."""
         is_ended = bool(plan.state.open_week) and not plan.weeks
         periods, before = self._periods() - is_ended, self._before(plan.days)
         try:
-            return pages.write_pages(self.folder.top, plan, self.folder.stamp, periods, before, old)
+            top, stamp, old, earlier = self.folder.top, self.folder.stamp, self.hung_up(plan), self._earlier_sums(plan)
+            return pages.write_pages(top, plan, stamp, periods=periods, before=before, old=old, earlier=earlier)
         except OSError as fault:
             return Pages(fault=fault)
 
@@ -254,6 +293,16 @@ class PlanStore:
     def _periods(self) -> int:
         """The number of periods that are over."""
         return sum(map(_ends_period, self.folder.all_plans()))
+
+    def _earlier_sums(self, plan: WardPlan) -> Dict[str, Sums]:
+        """What each nurse had in the periods that are over, by the last plan of each, but for damaged folders."""
+        found: Dict[str, Sums] = {}
+        folders = self.folder.all_plans()
+        for last, ended in zip(folders, folders[1:]):
+            if _ends_period(ended):
+                for nurse, of_period in _sums_of_folder(last, plan).items():
+                    found[nurse] = found.get(nurse, Sums()).plus(of_period)
+        return found
 
     def _before(self, days: PlanDays) -> Dict[str, Set[int]]:
         """The days of each nurse's shifts in plans of these days that hung on the wall, also in those that were undone."""
@@ -281,6 +330,17 @@ def _ends_period(folder: Path) -> bool:
     """Whether the verb of a plan's folder has ended a period; a folder that is damaged has not."""
     of_plan = known_record(folder)
     return of_plan is not None and not of_plan.days.weeks
+
+
+def _sums_of_folder(folder: Path, plan: WardPlan) -> Dict[str, Sums]:
+    """What each nurse had by the plan of a folder; the times of shift types, and which are nights, are those of another plan."""
+    try:
+        state, ward = read_state(folder), read_scenario(folder / "ward.txt")
+        weeks = [read_week(folder / f"week-{number}.txt", ward) for number in range(state.days.weeks)]
+    except (FileFault, OSError):
+        return {}
+    wishes = [replace(one, day=WEEK_DAYS * number + one.day) for number, week in enumerate(weeks) for one in wishes_of(week)]
+    return sums_of(ward.nurses, state.cells, wishes, plan.days_away.nights, plan.ward.times)
 
 
 def published_days(folders: Iterable[Path], days: PlanDays) -> Dict[str, Set[int]]:

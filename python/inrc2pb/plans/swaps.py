@@ -1,10 +1,12 @@
-"""Swaps of two nurses: on each day of a swap they have each other's shifts, so each place keeps its number of nurses.
+"""Swaps of two nurses: on each day of a swap they have each other's shifts, so each place keeps its number of nurses; and single days of a
+nurse that are set.
 
 A swap is judged by the weeks of its two nurses alone: what they are charged, what they have above limits that hold, and what is wrong
-beside their days away.
+beside their days away. A day that is set is judged so, and by the places that the nurse leaves and takes.
 """
 
 import enum
+from collections import Counter
 from dataclasses import replace
 from typing import Dict, Iterator, List, Mapping, NamedTuple, Optional, Sequence, Tuple
 
@@ -14,9 +16,9 @@ from ..judging.days_away import DaysAway
 from ..judging.limits import exceeded, excess
 from ..judging.next_history import next_nurse_history
 from ..judging.rules import Charge, costs
-from ..week.records import Cell, History, Week, WeekData
+from ..week.records import Cell, History, NurseDay, Place, Week, WeekData, exchanged, in_week
+from ..week.soft_rules import MISSING_NURSE
 from .facts import Beside, beside_of
-from .state import NurseDay, in_week
 from .ward import WardPlan
 
 # A nurse's shifts, by the days of the plan.
@@ -33,7 +35,8 @@ class Above(NamedTuple):
 
 class Kind(enum.Enum):
     """Why a nurse cannot have some shifts: a limit that holds, a row or a night beside days away, a shift that is held, a day on which she
-    is away, a shift type that she never works, a skill that she does not have, and a shift type that may not follow another one."""
+    is away, a shift type that she never works, a skill that she does not have, a shift type that may not follow another one, and a place
+    that has its minimum number of nurses only with her."""
 
     LIMIT = enum.auto()
     BESIDE = enum.auto()
@@ -42,11 +45,12 @@ class Kind(enum.Enum):
     NEVER = enum.auto()
     SKILL = enum.auto()
     FOLLOWS = enum.auto()
+    MINIMUM = enum.auto()
 
 
 class Fault(NamedTuple):
     """Why a nurse cannot have some shifts: on a day, a word for why she is away, a shift type or a skill, and the shift type before it;
-    or what she has above limits, or what is wrong beside her days away."""
+    or what she has above limits, or what is wrong beside her days away; or the place that she leaves, and its minimum number."""
 
     kind: Kind
     nurse: str
@@ -55,6 +59,7 @@ class Fault(NamedTuple):
     before: str = ""
     above: Tuple[Above, ...] = ()
     beside: Optional[Beside] = None
+    number: int = 0
 
 
 class NurseWeeks:
@@ -82,13 +87,13 @@ class NurseWeeks:
 
     def faults(self, nurse: str, cells: NurseCells) -> List[Fault]:
         """The hard rules, absences and held shifts that these shifts break, each by itself, in the order of days."""
-        types, last = self._plan.scenario.shift_types, self._plan.past.nurses[nurse].last_shift
+        last = self._plan.past.nurses[nurse].last_shift
         shift_on = {**({self._plan.first - 1: last} if last else {}), **{day: cell.shift for day, cell in cells.items()}}
         found = [Fault(Kind.HELD, nurse, day) for day, cell in self._held[nurse].items() if cells.get(day) != cell]
         for cell in cells.values():
             found += self._cell_faults(cell)
             before = shift_on.get(cell.day - 1)
-            if before and cell.shift in types[before].forbidden_next:
+            if before and self._plan.scenario.forbids(before, cell.shift):
                 found.append(Fault(Kind.FOLLOWS, nurse, cell.day, cell.shift, before))
         return sorted(found, key=lambda fault: fault.day)
 
@@ -119,9 +124,9 @@ class NurseWeeks:
         """By how many days rows with training are too long, with the number of nights before training or leave."""
         return days_away.excess(self._plan.scenario, self._plan.past, *self._around(nurse, cells))
 
-    def _around(self, nurse: str, cells: NurseCells) -> Tuple[DaysAway, Dict[Tuple[str, int], str]]:
+    def _around(self, nurse: str, cells: NurseCells) -> Tuple[DaysAway, Dict[NurseDay, str]]:
         """The nurse's days away, and her shift types on the days from the first one that is not over."""
-        return self._plan.days_away.of(nurse), {(nurse, day - self._plan.first): cell.shift for day, cell in cells.items()}
+        return self._plan.days_away.of(nurse), {NurseDay(nurse, day - self._plan.first): cell.shift for day, cell in cells.items()}
 
 
 def _of_nurse(data: WeekData, nurse: str) -> WeekData:
@@ -158,10 +163,19 @@ class Offer(NamedTuple):
     swap: Swap
 
 
+class Instead(NamedTuple):
+    """A nurse who could do what is set for another one, what that adds to the penalty, and the swap that does it; without a swap it is to
+    be set for her."""
+
+    cost: int
+    nurse: str
+    swap: Optional[Swap] = None
+
+
 def swapped(cells: Sequence[Cell], swap: Swap) -> List[Cell]:
     """The shifts after the swap."""
-    others = {swap.one: swap.other, swap.other: swap.one}
-    return [cell._replace(nurse=others.get(cell.nurse, cell.nurse)) if cell.day in swap.days else cell for cell in cells]
+    pairs = ((swap.one, swap.other), (swap.other, swap.one))
+    return exchanged(cells, {NurseDay(nurse, day): NurseDay(other, day) for nurse, other in pairs for day in swap.days})
 
 
 class Swaps:
@@ -172,6 +186,7 @@ class Swaps:
         self._cells = by_nurse(plan, plan.works)
         self._alone = NurseWeeks(plan)
         self._costs = {nurse: self._alone.cost(nurse, cells) for nurse, cells in self._cells.items()}
+        self._number = Counter(Place(*cell[1:]) for cell in plan.cells)
 
     def works(self, nurse: str, day: int) -> Optional[Cell]:
         """The nurse's shift on a day, if she has one."""
@@ -196,6 +211,56 @@ class Swaps:
         """All swaps by which another nurse takes this shift, the cheapest and nearest first: alone, or for one of her shifts."""
         found = [Offer(self.cost(swap), swap) for swap in self._possible(nurse, day) if not self.faults(swap)]
         return sorted(found, key=lambda offer: (offer.cost, len(offer.swap.days), max(abs(other - day) for other in offer.swap.days)))
+
+    # ---- one day of one nurse
+
+    def day_faults(self, place: NurseDay, now: Optional[Cell]) -> List[Fault]:
+        """Why the nurse cannot have this shift on her day in place of her old one, or cannot be off."""
+        nurse, day = place
+        found = list(self._faults(nurse, self._with_day(place, now), (day,)))
+        for left, step in self._steps(place, now):
+            minimum = self.plan.needs[left].minimum if left in self.plan.needs else 0
+            if step < 0 and self._number[left] <= minimum:
+                found.append(Fault(Kind.MINIMUM, nurse, day, f"{left.shift} {left.skill}", number=minimum))
+        return found
+
+    def day_cost(self, place: NurseDay, now: Optional[Cell]) -> int:
+        """What that adds to the penalty: the charges of the nurse, and of the places that she leaves and takes."""
+        changed = self._alone.cost(place.nurse, self._with_day(place, now)) - self._costs[place.nurse]
+        for left, step in self._steps(place, now):
+            missing = self.plan.needs[left].optimal - self._number[left] if left in self.plan.needs else 0
+            changed += MISSING_NURSE * (max(0, missing - step) - max(0, missing))
+        return changed
+
+    def instead(self, place: NurseDay, now: Optional[Cell]) -> List[Instead]:
+        """Who could do it instead, the cheapest first: take the shift of a nurse who is to be off, or have the shift that she is to have,
+        by a swap with one who has it, or in addition to those who have it."""
+        if now is None:
+            offers = self.offers(*place) if self.works(*place) else []
+            return [Instead(offer.cost, offer.swap.other, offer.swap) for offer in offers]
+        found = [self._instead(place, now, other) for other in self._cells if other != place.nurse]
+        return sorted((one for one in found if one), key=lambda one: one.cost)
+
+    def _instead(self, place: NurseDay, now: Cell, other: str) -> Optional[Instead]:
+        """How another nurse could have this shift instead, if she could."""
+        before, swap = self.works(other, place.day), Swap(place.nurse, other, (place.day,))
+        if before:
+            same = before.shift == now.shift and not self.faults(swap)
+            return Instead(self.cost(swap), other, swap) if same else None
+        her, hers = NurseDay(other, place.day), now._replace(nurse=other)
+        return None if self.day_faults(her, hers) else Instead(self.day_cost(her, hers), other)
+
+    def _with_day(self, place: NurseDay, now: Optional[Cell]) -> Dict[int, Cell]:
+        """The nurse's shifts with this one on her day, or with none."""
+        others = {day: cell for day, cell in self._cells[place.nurse].items() if day != place.day}
+        return {**others, place.day: now} if now else others
+
+    def _steps(self, place: NurseDay, now: Optional[Cell]) -> Iterator[Tuple[Place, int]]:
+        """The place that the nurse leaves, which has a nurse less then, and the one that she takes, which has one more."""
+        before = self.works(*place)
+        if before and now and before[1:] == now[1:]:
+            return
+        yield from ((Place(*cell[1:]), step) for cell, step in ((before, -1), (now, 1)) if cell)
 
     def _possible(self, nurse: str, day: int) -> Iterator[Swap]:
         for other, cells in self._cells.items():

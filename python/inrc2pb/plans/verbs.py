@@ -8,25 +8,30 @@ from dataclasses import replace
 from pathlib import Path
 from typing import Callable, Dict, Optional, Sequence, TypeVar, Union
 
-from ..judging.demand import Reach, reach_of
+from ..judging.odd_values import Reach
+from ..judging.leave import Counted
 from ..judging.next_history import next_history
 from ..programs.interrupts import interrupts
 from ..programs.program import NO_ROSTER
 from ..sheets.plan_sheets import AWAY
+from ..week.records import NurseDay
 from ..week.faults import FileFault, Misuse, ProgramFault, Stopped
 from . import events, render
 from .changes import without_needless_changes
-from .facts import unkept
-from .outcome import Asked, Away, Checked, Event, Keep, Made, NoPlan, Offers, Outcome, Pages, Planned, Published, Status, Swapped
+from .facts import newly_exceeded, unkept
+from .fairness import more_even
+from .outcome import Asked, Away, Checked, DaySet, Event, Keep, Made, NoPlan, Offers, Outcome, Pages, Planned, Published, Status, Swapped
 from .outcome import Undone, WeekOver
 from .searching import Found, search_plan, why_no_plan
-from .state import State, read_state
-from .store import Means, PlanStore, WardFolder, fitted, known_record, penalties
+from .state import BACK, State, read_state
+from .store import PAGE, Means, PlanStore, WardFolder, fitted, known_record, penalties
 from .swaps import Swap, Swaps
-from .ward import WardPlan, first_plan, for_leavers, limits_of
+from .ward import OFF, WardPlan, first_plan, for_leavers, limits_of
 
 # The seconds of a search, for each week if it is a whole plan.
 WEEK_SECONDS, CHANGE_SECONDS = 20.0, 30.0
+# How much longer than its seconds a search of a whole plan may take to make nights and weekends more even.
+EVENING_SHARE = 0.1
 
 
 class Verbs:
@@ -43,6 +48,14 @@ class Verbs:
         """The pages of weeks that are over, with this plan, if there is one, and their texts."""
         return self._store.worked_pages(plan)
 
+    def hung_up(self, plan: WardPlan) -> Optional[WardPlan]:
+        """The last plan of the same days that was hung up before the one that holds."""
+        return self._store.hung_up(plan)
+
+    def agreed_swap(self, plan: WardPlan, place: NurseDay) -> Optional[Swap]:
+        """The last swap that was written for a nurse's day, if the plan keeps it."""
+        return _agreed_swap(self._store, plan, place)
+
     def asked(self, event: Event) -> Optional[Outcome]:
         """What comes of an event before anything is searched or written, as far as that is known."""
         store = self._store
@@ -55,6 +68,7 @@ class Verbs:
             **{word: lambda: events.absence(store.planned(), event) for word in AWAY},
             "back": lambda: events.back(store.planned(), event),
             "swap": lambda: _judged_swap(store, event),
+            "set": lambda: events.set_day(store.fitting(), event),
             "over": lambda: events.end_of_week(store.fitting(), event),
             "page": lambda: events.published(store.fitting()),
             "undo": lambda: _undoing(store),
@@ -69,6 +83,7 @@ class Verbs:
             "plan": _plan,
             "back": _back,
             "swap": _swap,
+            "set": _set,
             "over": _over,
             "page": _page,
             "undo": _undo,
@@ -79,7 +94,7 @@ class Verbs:
 def _check(store: PlanStore, event: Event) -> Checked:
     """Reads the spreadsheet. The status is that which a plan would have, as far as the warnings show it."""
     plan = store.current()
-    status = {Reach.NONE: Status.NO_PLAN, Reach.NOT_ALL: Status.NOT_KEPT, Reach.ALL: Status.DONE}[reach_of(plan.ward.warnings)]
+    status = {Reach.NONE: Status.NO_PLAN, Reach.NOT_ALL: Status.NOT_KEPT, Reach.ALL: Status.DONE}[plan.ward.reach]
     return Checked(plan, store.other_pages(), store.anew(plan), status=status)
 
 
@@ -92,7 +107,7 @@ def _plan(store: PlanStore, event: Event) -> Outcome:
     first = events.first_day(old, event)
     _say(store, render.warning_lines(Checked(old, anew=store.anew(old))))
     few = old.state.published and old.is_planned and not event.free
-    asked = Asked(first, few, event.seconds or WEEK_SECONDS * len(old.weeks))
+    asked = Asked(first, few, event.seconds or WEEK_SECONDS * len(old.weeks), do=event.do)
     keeping = replace(old, limits=limits_of(old.ward, old.state, first))
     return _searched(store, "plan", keeping, asked._replace(agreed=Keep.NONE) if event.free else asked)
 
@@ -100,20 +115,23 @@ def _plan(store: PlanStore, event: Event) -> Outcome:
 def _away(store: PlanStore, event: Event) -> Outcome:
     """A nurse is away: the plan changes little, and only from the first of the days on."""
     found = events.absence(store.planned(), event)
-    return _searched_for(store, found, found.days[0], found.days[-1], seconds=event.seconds)
+    return _searched_for(store, event, found, found.days[0], found.days[-1])
 
 
 def _back(store: PlanStore, event: Event) -> Outcome:
     """A nurse is back."""
     found = events.back(store.planned(), event)
-    return _searched_for(store, found, found.days[0], seconds=event.seconds)
+    return _searched_for(store, event, found, found.days[0])
 
 
-def _searched_for(store: PlanStore, found: Away, *named: int, seconds: Optional[float]) -> Outcome:
-    """The outcome of a search with an absence, or without it; the verb is named with these days."""
+def _searched_for(store: PlanStore, event: Event, found: Away, *named: int) -> Outcome:
+    """The outcome of a search with an absence, or without it; the verb is named with these days. If the days alone exceed a maximum that
+    holds, there is no search before the user is asked."""
+    if not event.do and newly_exceeded(found.old, found.there):
+        return replace(found, status=Status.NOT_KEPT)
     _say(store, render.absence_lines(found))
     verb = " ".join([found.word, found.nurse, *map(found.old.days.head, named)])
-    return _searched(store, verb, found.new, Asked(found.days[0], True, seconds or CHANGE_SECONDS), found)
+    return _searched(store, verb, found.new, Asked(found.days[0], True, event.seconds or CHANGE_SECONDS, do=event.do), found)
 
 
 def _say(store: PlanStore, said: Sequence[str]) -> None:
@@ -134,9 +152,10 @@ def _searched(store: PlanStore, verb: str, old: WardPlan, asked: Asked, absence:
             return _no_plan(store, old, fault, absence)
         if asked.few_changes and old.is_planned:
             found = found._replace(plan=without_needless_changes(old, found.plan))
+        if not asked.few_changes:
+            found = found._replace(plan=_evened(found.plan, asked))
         works, before = found.plan.works, old.works
-        agreed = tuple(one for one in old.state.agreed if works.get(one) == before.get(one))
-        new = found.plan.with_state(replace(found.plan.state, agreed=agreed))
+        new = found.plan.with_state(found.plan.state.keeping(lambda one: works.get(one) == before.get(one)))
         older = absence.old if absence else old
         seen = older if old.is_planned else None
         status = Status.NOT_KEPT if unkept(new) else Status.DONE
@@ -151,7 +170,15 @@ def _searched(store: PlanStore, verb: str, old: WardPlan, asked: Asked, absence:
             absence=absence,
             status=status,
         )
-        return _saved(planned, store.save(verb, new, seen))
+        if not asked.do and newly_exceeded(seen, new):
+            return replace(planned, status=Status.NOT_KEPT)
+        return _saved(planned, store.save(verb, new))
+
+
+def _evened(plan: WardPlan, asked: Asked) -> WardPlan:
+    """The plan with nights and weekends that are shared more evenly, if the program charges as much for it."""
+    even = more_even(plan, asked.first, EVENING_SHARE * asked.seconds)
+    return even if sum(penalties(even).values()) == sum(penalties(plan).values()) else plan
 
 
 _AnOutcome = TypeVar("_AnOutcome", bound=Outcome)
@@ -165,7 +192,7 @@ def _saved(outcome: _AnOutcome, pages: Pages) -> _AnOutcome:
 
 def _found(store: PlanStore, old: WardPlan, asked: Asked) -> Found:
     """The best plan that keeps the agreed days, or, if it would keep less of the absences and limits, one that keeps most of them."""
-    if not old.state.agreed or asked.agreed is Keep.NONE:
+    if not (old.state.set_days if asked.agreed is Keep.NONE else old.state.kept):
         return search_plan(old, asked, store.means.progress)
     firm: Optional[Found] = None
     try:
@@ -212,12 +239,36 @@ def _swap(store: PlanStore, event: Event) -> Union[Offers, Swapped]:
         return found
     # The program has the last word on the new rosters.
     penalties(found.new)
-    return _saved(found, store.save(_named(found.old, found.swap), found.new, found.old))
+    return _saved(found, store.save(_named(found.old, found.swap), found.new))
 
 
 def _named(plan: WardPlan, swap: Swap) -> str:
     """The swap as a verb with its words."""
     return f"swap {swap.one} {swap.other} {' '.join(map(plan.days.head, swap.days))}"
+
+
+def _set(store: PlanStore, event: Event) -> DaySet:
+    """What it costs, breaks, or takes back that a nurse has a shift on a day, and who could do it instead; with `do` it is written."""
+    found = events.set_day(store.fitting(), event)
+    if not event.do or found.faults:
+        return found
+    # The program has the last word on the new rosters.
+    penalties(found.new)
+    words = BACK if found.takes_back else found.now.shift if found.now else OFF
+    return _saved(found, store.save(f"set {found.place.nurse} {found.old.days.head(found.place.day)} {words}", found.new))
+
+
+def _agreed_swap(store: PlanStore, plan: WardPlan, place: NurseDay) -> Optional[Swap]:
+    """The last swap that was written for a nurse's day, by the verbs of the plans, if the plan keeps it."""
+    records = (known_record(path) for path in reversed(store.folder.all_plans())) if place in plan.state.agreed else ()
+    for record in records:
+        words = record.verb.split(" ") if record and record.days == plan.days else []
+        if words[:1] == ["swap"] and place.nurse in words[1:3]:
+            heads = f" {' '.join(words[3:])} "
+            swap = Swap(words[1], words[2], tuple(day for day in range(plan.days.total) if f" {plan.days.head(day)} " in heads))
+            if place in swap.places:
+                return swap if set(swap.places) <= set(plan.state.agreed) else None
+    return None
 
 
 def _before_swap(store: PlanStore, old: WardPlan, asked: Swap) -> Optional[State]:
@@ -238,10 +289,12 @@ def _over(store: PlanStore, event: Event) -> WeekOver:
     """The first week that is not over is over; after the last one a new period begins."""
     found = events.end_of_week(store.fitting(), event)
     worked, number = found.worked, found.old.state.open_week
+    if not event.do and any(newly_exceeded(found.old, plan) for plan in (worked, found.next) if plan):
+        return replace(found, status=Status.NOT_KEPT)
     if found.next:
         return _saved(found, store.save(f"over {number}", found.next))
     past = next_history(worked.scenario, worked.histories[number], worked.state.roster(number), new_period=True)
-    store.add("over period", first_plan(replace(worked.ward, days=worked.days.next(), credit={}), past))
+    store.add("over period", first_plan(replace(worked.ward, days=worked.days.next(), counted=Counted()), past))
     # The pages show the period that is over.
     return _saved(found, store.pages(worked.with_state(replace(worked.state, open_week=number + 1))))
 
@@ -249,7 +302,7 @@ def _over(store: PlanStore, event: Event) -> WeekOver:
 def _page(store: PlanStore, event: Event) -> Published:
     """Writes all pages and calendars. From now on the plan hangs on the wall."""
     found = events.published(store.fitting())
-    return _saved(found, store.save("page", found.plan))
+    return _saved(found, store.save(PAGE, found.plan))
 
 
 def _undoing(store: PlanStore) -> Undone:

@@ -1,28 +1,33 @@
 """What the spreadsheet of a ward says now, and a plan of it: the ward and what verbs have made of it."""
 
+import itertools
 from dataclasses import dataclass, replace
 from functools import cached_property
 from typing import Callable, Dict, FrozenSet, Iterable, List, Mapping, Optional, Sequence, Tuple
 
-from ..judging.absences import absences_of, readable
+from ..judging.absences import absences_of
 from ..judging.days_away import DaysAway
-from ..judging.given import with_given
-from ..judging.leave import credited
+from ..judging.leave import ILL, Counted, credited
+from ..judging.limits import with_given
 from ..judging.next_history import next_history
+from ..judging.odd_values import Reach
 from ..sheets.plan_sheets import NOT_EMPLOYED
 from ..sheets.ward_sheets import NIGHT
 from ..shown.roster_view import RosterView, WeekView
-from ..week.dates import Times
+from ..week.dates import PlanDays, Times
 from ..week.facts import SHIFTS, Charged, Claim
 from ..week.faults import Misuse
-from ..week.hints import plural
-from ..week.records import Absence, Cell, History, Place, Requirement, Scenario, Week, WeekData
-from .state import DayWord, NurseDay, State, in_week
+from ..week.records import WEEK_DAYS, Absence, Cell, History, NurseDay, Place, Requirement, Scenario, Week, WeekData, in_week, week_name
+from ..week.words import plural, readable
+from .state import SHEET, DayWord, State
 from .ward_sheet import WeekRow
-from .words import PERIOD_IS_OVER, WEEK_DAYS, PeriodOver, PlanDays
+from .words import PERIOD_IS_OVER, PeriodOver
 
-# The word for a day without a shift, and for one on which a nurse never works.
+# The word for a day without a shift, and for one on which a nurse never works; and for a day off that the spreadsheet promises.
 OFF = ALWAYS_OFF = "off"
+PROMISED = "promised"
+# Days off for these words are no days away.
+DAYS_OFF = (ALWAYS_OFF, PROMISED)
 # The reasons to be away that are work in a row, and those before which nobody should have a night shift.
 _TRAINING, _FREE = ("training",), ("training", "leave", "unpaid")
 
@@ -31,9 +36,10 @@ _TRAINING, _FREE = ("training",), ("training", "leave", "unpaid")
 class Ward:
     """What the spreadsheet says now, with the days away that verbs have written."""
 
-    # The texts of the ward's files by their names, for `inrc2pb` and for people; and what is odd in the spreadsheet.
+    # The texts of the ward's files by their names, for `inrc2pb` and for people; what is odd in the spreadsheet; and what plans can reach.
     texts: Mapping[str, str]
     warnings: Sequence[str]
+    reach: Reach
     days: PlanDays
     # The contracts, nurses and shift types, with the parts of contracts that count, and the history without days away.
     scenario: Scenario
@@ -42,15 +48,21 @@ class Ward:
     claims: Tuple[Claim, ...]
     weeks: Tuple[WeekData, ...]
     held: Tuple[Cell, ...]
-    # Why nurses are away, and the shifts as which days away count.
+    # Why nurses are away, the days off that were promised, and as what days away count.
     reasons: Mapping[NurseDay, str]
-    credit: Mapping[str, int]
+    promised: FrozenSet[NurseDay]
+    counted: Counted
     times: Mapping[str, Times]
     # The days whose needs have numbers of their own, as bank holidays have, and the rows of the needs that have a week.
     holidays: FrozenSet[int]
     week_rows: Sequence[WeekRow]
     # The ward of the same spreadsheet with other days away that verbs have written.
     with_absences: Callable[[Sequence[DayWord]], "Ward"]
+
+    @property
+    def credit(self) -> Mapping[str, int]:
+        """The shifts as which the days away of each nurse count in the whole period."""
+        return self.counted.shifts
 
     @cached_property
     def leaving(self) -> Dict[str, int]:
@@ -95,7 +107,7 @@ def _planned(ward: Ward, state: State, end: int) -> List[str]:
 
 def _with_more(limits: Sequence[Claim], ward: Ward, state: State, planned: Sequence[str], more: Mapping[str, int]) -> Tuple[Claim, ...]:
     """The limits, with maxima that allow nurses these planned shifts, but by no more than `more` says for each."""
-    before = credited(state.start, dict(ward.credit)).nurses
+    before = credited(state.start, ward.counted).nurses
 
     def allowing(claim: Claim) -> Claim:
         fact = claim.fact
@@ -165,17 +177,22 @@ class WardPlan:
 
     @cached_property
     def away(self) -> Dict[NurseDay, str]:
-        """The days of the weeks that are not over on which nurses are away, and why: a word of the sheet plan, or `off` for days on which
-        they are always off."""
-        always = {NurseDay(one.nurse, one.day): ALWAYS_OFF for one in self.absences if one.shift is None}
-        return {**always, **{one: word for one, word in self.ward.reasons.items() if one.day >= self.first}}
+        """The days of the weeks that are not over on which nurses are away, and why: a word of the sheet plan, `promised` for days off that
+        it promises, or `off` for days on which they are always off."""
+        off = {one: self._off_word(one) for one in (NurseDay(one.nurse, one.day) for one in self.absences if one.shift is None)}
+        return {**off, **{one: word for one, word in self.ward.reasons.items() if one.day >= self.first}}
+
+    def _off_word(self, one: NurseDay) -> str:
+        """Why a nurse has no shift on a day on which the spreadsheet says that she is off."""
+        return PROMISED if one in self.ward.promised else ALWAYS_OFF
 
     @cached_property
     def days_away(self) -> DaysAway:
         """The days away that concern the days beside them, in the weeks that are not over. Night shifts are known by their times, or else
         by their names. Here and in `shifts` days count from the first one that is not over."""
         training, free = (
-            frozenset((one.nurse, one.day - self.first) for one, word in self.away.items() if word in words) for words in (_TRAINING, _FREE)
+            frozenset(NurseDay(one.nurse, one.day - self.first) for one, word in self.away.items() if word in words)
+            for words in (_TRAINING, _FREE)
         )
         times = self.ward.times
         nights = (name for name in self.scenario.shift_types if (times[name].is_night if name in times else NIGHT.search(name)))
@@ -197,14 +214,14 @@ class WardPlan:
         return {NurseDay(cell.nurse, cell.day): cell for cell in self.ward.held if cell.day >= self.first}
 
     @cached_property
-    def shifts(self) -> Dict[Tuple[str, int], str]:
+    def shifts(self) -> Dict[NurseDay, str]:
         """The shift types of the nurses' days in the weeks that are not over."""
-        return {(nurse, day - self.first): cell.shift for (nurse, day), cell in self.works.items()}
+        return {NurseDay(nurse, day - self.first): cell.shift for (nurse, day), cell in self.works.items()}
 
     @cached_property
     def histories(self) -> List[History]:
         """The history of each week, as far as rosters are known."""
-        found = [credited(self.state.start, dict(self.ward.credit))]
+        found = [credited(self.state.start, self.ward.counted)]
         for number in range(min(self.state.planned, self.days.weeks - 1)):
             found.append(next_history(self.scenario, found[-1], self.state.roster(number)))
         return found
@@ -249,9 +266,10 @@ class WardPlan:
 
     def reasons(self, number: int) -> Dict[Tuple[str, int], str]:
         """Why nurses are away on the days of a week, also of one that is over, with the days of the week."""
-        always = {(one.nurse, one.day): ALWAYS_OFF for one in absences_of(self.data[number]) if one.shift is None}
+        days = [(one.nurse, one.day) for one in absences_of(self.data[number]) if one.shift is None]
+        off = {(nurse, day): self._off_word(NurseDay(nurse, WEEK_DAYS * number + day)) for nurse, day in days}
         own = {(nurse, day % WEEK_DAYS): word for (nurse, day), word in self.ward.reasons.items() if day // WEEK_DAYS == number}
-        return {**always, **own}
+        return {**off, **own}
 
 
 def plan_of(ward: Ward, state: State, unknown: Tuple[Cell, ...] = ()) -> WardPlan:
@@ -278,13 +296,29 @@ def _start(ward: Ward, past: Optional[History]) -> History:
 def continued(ward: Ward, state: State) -> WardPlan:
     """The plan of a folder, with what its spreadsheet says now. Raises Misuse if that is another period, or lacks a name of a week that is
     over; planned shifts whose names it lacks are left out."""
+    absences = _with_lost_shifts(ward, state)
+    if absences != state.absences:
+        return continued(ward.with_absences(absences), replace(state, absences=absences))
     _check_days(ward.days, state.days)
     _check_names(ward, [cell for cell in state.cells if cell.day < state.first])
     unknown = tuple(cell for cell in state.cells if not ward.knows(cell))
-    agreed = (one for one in state.agreed if one.nurse in ward.scenario.nurses and state.first <= one.day < ward.days.total)
     cells = tuple(cell for cell in state.cells if cell not in unknown)
-    now = replace(state, days=ward.days, start=_start(ward, state.start), cells=cells, agreed=tuple(agreed))
+    now = replace(state, days=ward.days, start=_start(ward, state.start), cells=cells)
+    now = now.keeping(lambda one: one.nurse in ward.scenario.nurses and state.first <= one.day < ward.days.total)
     return plan_of(ward, now, unknown)
+
+
+def _with_lost_shifts(ward: Ward, state: State) -> Tuple[DayWord, ...]:
+    """The words of verbs, and for an illness that only the spreadsheet has the shifts that it takes from a plan on the wall, if it takes
+    some."""
+    known, found = {(one.nurse, one.day) for one in state.absences}, list(state.absences)
+    works = {(cell.nurse, cell.day) for cell in state.cells}
+    ill = sorted(one for one, word in ward.reasons.items() if word == ILL and one not in known)
+    rows = itertools.groupby(enumerate(ill), key=lambda pair: (pair[1].nurse, pair[1].day - pair[0]))
+    for row in ([one for _, one in pairs] for _, pairs in rows if state.published):
+        if any(one in works for one in row):
+            found += [DayWord(*one, SHEET, int(one in works)) for one in row]
+    return tuple(found)
 
 
 def _check_days(now: PlanDays, before: PlanDays) -> None:
@@ -305,7 +339,7 @@ def _check_names(ward: Ward, worked: Sequence[Cell]) -> None:
         week = cell.day // WEEK_DAYS
         if cell.nurse not in ward.scenario.nurses:
             cure = "write it again, with away in the plan from her last day on"
-            raise Misuse(f"{readable(cell.nurse)} worked in week {week + 1}, and has no row in the sheet nurses: {cure}")
+            raise Misuse(f"{readable(cell.nurse)} worked in {week_name(week)}, and has no row in the sheet nurses: {cure}")
         if not ward.knows(cell):
             row = cell._replace(day=cell.day % WEEK_DAYS).row()
-            raise Misuse(f"'{row}' was worked in week {week + 1}, and the spreadsheet has no such shift type or skill: keep its old name")
+            raise Misuse(f"'{row}' was worked in {week_name(week)}, and the spreadsheet has no such shift type or skill: keep its old name")

@@ -5,12 +5,12 @@ In the next period the weeks of such rows, as those of bank holidays, count anew
 
 from typing import Iterable, List, Mapping, NamedTuple, Sequence
 
-from ..judging.absences import readable
 from ..sheets.plan_sheets import AWAY, Days, needed
 from ..sheets.sheet_files import Book
 from ..sheets.sheet_rows import SheetCell, SheetRow, tidy
 from ..sheets.ward_sheets import table_of
 from ..week.records import DAYS, Place, Requirement
+from ..week.words import readable
 from .state import BACK, SHEET, DayWord
 
 Needs = Mapping[Place, Requirement]

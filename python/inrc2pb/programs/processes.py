@@ -36,10 +36,15 @@ class Ended:
     and whether it was ended because it printed more than MAX_OUTPUT, of which nothing is kept."""
 
     status: int
-    output: str
+    data: bytes
     timed_out: bool
     errors: str = ""
     flooded: bool = False
+
+    @property
+    def output(self) -> str:
+        """The output as a text. A long one with many bytes that are no UTF-8 takes many seconds."""
+        return self.data.decode("utf-8", errors="replace")
 
     @property
     def last_error(self) -> str:
@@ -84,7 +89,7 @@ class Processes:
     def _run(self, words: Sequence[str], seconds: float, folder: Path, ending: int, hear: Optional[Callable[[bytes], None]]) -> Ended:
         with self._lock:
             if self._stopped:
-                return Ended(-signal.SIGKILL, "", True)
+                return Ended(-signal.SIGKILL, b"", True)
             process = subprocess.Popen(
                 list(words),
                 cwd=str(folder),
@@ -105,8 +110,7 @@ class Processes:
             _wait_without_reaping(process, EXIT_SECONDS)
             _signal_group(process, signal.SIGKILL)
             status = process.wait()
-        output, errors = (data.decode("utf-8", errors="replace") for data in (found.output, found.errors))
-        return Ended(status, output, found.timed_out, errors, found.flooded)
+        return Ended(status, found.output, found.timed_out, found.errors.decode("utf-8", errors="replace"), found.flooded)
 
     def open(self, words: Sequence[str], folder: Path) -> "subprocess.Popen[bytes]":
         """Starts a process that answers on its standard output until `close`. It is ended with the others. Its words see to it that it ends

@@ -2,23 +2,24 @@
 
 import functools
 import os
+import re
 import shutil
 import signal
 import subprocess
 import sys
-from dataclasses import dataclass
+from dataclasses import dataclass, replace
 from pathlib import Path
-from typing import Dict, List, Optional, Sequence, Tuple
+from typing import Callable, Dict, List, Optional, Sequence, Tuple, Union
 
 from ..week.faults import ProgramFault
+from ..week.soft_rules import SOFT_RULES
 from .processes import Processes
 
-SOFT_RULES = ("S1", "S2", "S3", "S4", "S5", "S6", "S7")
 # The exit statuses of `inrc2pb`, which README.md explains, and the one with which a shell reports that there is no program.
 FAULT, READ_OR_WRITE, OUT_OF_MEMORY, NO_ROSTER, BROKEN_RULE, NO_PROGRAM = 1, 3, 4, 5, 6, 127
 # A run takes less, also of the largest week; one that waits for a pipe that nobody writes would not end.
 LONGEST_RUN = 600.0
-_READ_OPTIONS = ("--sce", "--his", "--week", "--fix", "--from")
+_READ_OPTIONS = ("--sce", "--his", "--week", "--fix", "--from", "--answer")
 
 
 class NotInTime(ProgramFault):
@@ -41,6 +42,15 @@ class WeekFiles:
         words = ["--sce", str(self.scenario), "--his", str(self.history), "--week", str(self.week)]
         return words + (["--fix", str(self.fix)] if self.fix else []) + (["--early"] if self.early else [])
 
+    def all(self) -> Tuple[Path, ...]:
+        """All files that are read."""
+        return (self.scenario, self.history, self.week, *filter(None, (self.fix, self.given)))
+
+    def copied(self, copy: Callable[[Path], Path]) -> "WeekFiles":
+        """The same week with copies of its files."""
+        fix, given = (copy(path) if path else None for path in (self.fix, self.given))
+        return replace(self, scenario=copy(self.scenario), history=copy(self.history), week=copy(self.week), fix=fix, given=given)
+
 
 @dataclass(frozen=True)
 class Report:
@@ -56,6 +66,12 @@ class Report:
     def optimal(self) -> bool:
         """Whether the answer claims that no roster costs less."""
         return self.status == "OPTIMUM FOUND"
+
+    @property
+    def last_o(self) -> Optional[int]:
+        """The last number that the answer itself gave as its cost, if it gave one."""
+        found = re.search(r"^last o (.*)$", self.text, re.MULTILINE)
+        return int(found[1]) if found else None
 
 
 def find_program() -> Path:
@@ -122,7 +138,7 @@ def _does_not_run(program: str, fault: OSError) -> ProgramFault:
 
 
 def _check_status(status: int, errors: str, words: Sequence[str]) -> None:
-    """A status other than 0 is a ProgramFault, with the first line of standard error, and the file that cannot be read."""
+    """Raises ProgramFault if the status is not 0, with the first line of standard error, and the file that cannot be read."""
     lines = errors.strip().splitlines()
     if status == READ_OR_WRITE and lines and lines[0].endswith(": read failed"):
         _check_readable(lines[0], words)
@@ -133,7 +149,7 @@ def _check_status(status: int, errors: str, words: Sequence[str]) -> None:
 
 
 def _check_readable(line: str, words: Sequence[str]) -> None:
-    """The first file of these words that cannot be read is a ProgramFault with this line, caused by its OSError."""
+    """Raises ProgramFault with this line if a file of these words cannot be read, caused by its OSError."""
     for option, path in zip(words, words[1:]):
         if option in _READ_OPTIONS:
             try:
@@ -187,21 +203,24 @@ def encode_unless_stopped(files: WeekFiles, model: Path, processes: Processes) -
         raise _does_not_end(words) from late
 
 
-def decode(files: WeekFiles, answer: str, solution: Optional[Path] = None) -> Report:
-    """Checks a solver's answer, writes its roster to the file `solution`, and returns the report.
+def decode(files: WeekFiles, answer: Union[str, Path], solution: Optional[Path] = None) -> Report:
+    """Checks a solver's answer, a text or a file, writes its roster to the file `solution`, and returns the report.
 
-    An answer that is no roster of this week is a ProgramFault, and then `solution` is left as it was.
+    Raises ProgramFault if an answer is no roster of this week, and leaves `solution` as it was.
     """
-    return report_of(run_program("decode", *files.options(), "--sol", str(solution or os.devnull), given=answer))
+    words = ["decode", *files.options(), "--sol", str(solution or os.devnull)]
+    if isinstance(answer, Path):
+        return report_of(run_program(*words, "--answer", str(answer)))
+    return report_of(run_program(*words, given=answer))
 
 
 def answer_with(files: WeekFiles, roster: Path) -> str:
-    """The answer whose roster this is, by `extend`; a roster that breaks a hard rule is a ProgramFault."""
+    """The answer whose roster this is, by `extend`. Raises ProgramFault if it breaks a hard rule."""
     return run_program("extend", *files.options(), "--from", str(roster))
 
 
 def extend(files: WeekFiles, roster: Path) -> Tuple[str, Report]:
-    """The answer whose roster this is, and its report; a roster that breaks a hard rule is a ProgramFault."""
+    """The answer whose roster this is, and its report. Raises ProgramFault if it breaks a hard rule."""
     answer = answer_with(files, roster)
     return answer, decode(files, answer)
 

@@ -4,17 +4,18 @@ import contextlib
 import os
 import sys
 import time
-from typing import Optional, TextIO
+from typing import Callable, Optional, TextIO
 
 # The seconds between two lines that only have a higher bound.
 BOUND_SECONDS = 5.0
 
 
 class Progress:
-    """Prints each improvement: on one line that changes on a terminal, else on a line of its own."""
+    """Prints each improvement: on one line that changes on a terminal, else on a line of its own. `named` changes the text of a warning,
+    so that it names the user's files."""
 
-    def __init__(self, target: Optional[TextIO]) -> None:
-        self._target = target
+    def __init__(self, target: Optional[TextIO], named: Callable[[str], str] = str) -> None:
+        self._target, self._named = target, named
         self._began = self._printed = time.monotonic()
         self._updates = target is not None and target.isatty()
         self._width = 0
@@ -54,7 +55,7 @@ class Progress:
     def warn(self, text: str) -> None:
         """Something that the user should know."""
         self.finish()
-        self._put(f"{os.path.basename(sys.argv[0])}: {text}\n")
+        self._put(f"{os.path.basename(sys.argv[0])}: {self._named(text)}\n")
 
     def finish(self) -> None:
         """Ends the line that changes."""

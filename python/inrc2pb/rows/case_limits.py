@@ -3,8 +3,9 @@
 from typing import Dict, NamedTuple, Optional, Set, Tuple
 
 from ..week.facts import SHIFT_RUNS, AtPlace, Charged, Choice, Claim
+from ..week.records import WEEK_DAYS
 from .certificate import Case
-from .plan import STEP, WEEK_DAYS, Points, Thousandths
+from .plan import STEP, Points, Thousandths
 from .pricing import Crews, in_steps
 
 # The number of a nurse, a day of the plan, and a choice.

@@ -1,14 +1,16 @@
-"""The pricing of cases by NumPy, for all nurses at once: charges of shift runs are counted apart, so that a surcharge is one number."""
+"""The pricing of cases, for all nurses at once: charges of shift runs are counted apart, so that a surcharge is one number."""
 
+import numpy
 from typing import Any, Dict, List, NamedTuple, Optional, Set, Tuple
 
-from ..judging.rules import SHIFT_RUN
 from ..judging.runs import NEVER
+from ..week.soft_rules import SHIFT_RUN
 from .case_limits import CaseLimits
 from .certificate import Case, Certificate, Leaf
+from .compiled import priced_together
 from .plan import POINT, Plan, Points, Thousandths
-from .pricing import Crews, Prices, Pricing, NurseWeek
-from .row_arrays import Block, Member, blocks_of, numpy
+from .pricing import Crews, NurseWeek, Prices, Pricing
+from .row_arrays import Arrays, Member
 from .row_graph import Check
 
 # The points that a charge of a shift run costs in the graphs, so that the number of charges can be read from a cost.
@@ -31,28 +33,21 @@ class Found(NamedTuple):
     bound: Thousandths
 
 
-def _split(coded: int) -> Tuple[int, int]:
-    """The cost of a step without shift runs, in thousandths, and its number of charges of them."""
+def _split(coded: Any) -> Tuple[Any, Any]:
+    """The costs of steps without shift runs, in thousandths, and their numbers of charges of them."""
     runs = (coded + _CODE * POINT // 2) // (_CODE * POINT)
     return coded - runs * _CODE * POINT, runs
 
 
-class _CaseBlock:
-    """Nurses who are priced together: by day, choice and node the costs without shift runs, and the charges of these."""
-
-    def __init__(self, block: Block) -> None:
-        self.nurses, self._block = block.nurses, block
-        self._steps = []
-        for coded in block.costs:
-            never = coded >= NEVER // 2
-            costs, runs = _split(numpy.where(never, 0, coded))
-            self._steps.append((numpy.where(never, NEVER, costs), runs))
-
-    def cheapest(self, pay: Any, weight: int) -> Tuple[Any, Any]:
-        """What the cheapest row of each nurse costs, and the row, if a charge of a shift run has this weight in thousandths."""
-        steps = self._steps
-        weighted = [costs + runs * weight if weight < NEVER else numpy.where(runs > 0, NEVER, costs) for costs, runs in steps]
-        return self._block.with_costs(weighted).cheapest(pay, range(len(self.nurses)))
+def _apart(arrays: Arrays) -> Arrays:
+    """The same graph with the charges of shift runs apart."""
+    days, runs = [], []
+    for coded, heads, entered in arrays.days:
+        never = coded >= NEVER // 2
+        costs, charges = _split(numpy.where(never, 0, coded))
+        days.append((numpy.where(never, NEVER, costs), heads, entered))
+        runs.append(charges)
+    return Arrays(days, runs)
 
 
 class CasePricing:
@@ -65,9 +60,11 @@ class CasePricing:
         self.shifts = {shift: number for number, shift in enumerate(plan.scenario.shift_types, 1)}
         self._starts, self._base = pricing.starts, pricing.base
         self._graphs = pricing.graphs
+        apart = {id(graph): _apart(graph.arrays) for graph in pricing.graphs}
         graphs = zip(pricing.graphs, pricing.starts)
-        members = [Member(nurse, graph.arrays, start) for nurse, (graph, start) in enumerate(graphs) if graph.arrays]
-        self._blocks = [_CaseBlock(block) for block in blocks_of(members, plan.days)]
+        self._together = priced_together(
+            [Member(nurse, apart[id(graph)], start) for nurse, (graph, start) in enumerate(graphs)], range(plan.days)
+        )
         self.crew = numpy.array(crews.of)
         self._wishes = numpy.zeros(self.crew.shape, dtype=numpy.int64)
         for nurse, wishes in enumerate(pricing.wishes):
@@ -101,14 +98,13 @@ class CasePricing:
         weight = NEVER if limits.most and limits.most.number == 0 else SHIFT_RUN * POINT + surcharge
         total = sum(self._base) + self._places_cost(limits, prices) - surcharge * (limit.number if limit else 0)
         found: List[PricedRow] = []
-        for block in self._blocks:
-            least, rows = block.cheapest(pay, weight)
-            for nurse, value, row in zip(block.nurses, least.tolist(), rows):
-                priced = self.counted(nurse, row.tobytes()) if value < NEVER // 2 else None
-                if priced is None:
-                    return None
-                found.append(priced)
-                total += value
+        costs, rows = self._together.cheapest(pay, range(len(self.plan.nurses)), weight)
+        for nurse, (cost, row) in enumerate(zip(costs.tolist(), rows)):
+            priced = self.counted(nurse, row.tobytes()) if cost < NEVER // 2 else None
+            if priced is None:
+                return None
+            found.append(priced)
+            total += cost
         return Found(found, Thousandths(total))
 
     def _pay(self, prices: Prices, forbidden: Dict[int, Set[Tuple[int, int]]]) -> Any:

@@ -41,7 +41,7 @@ class CaseProgram:
         # The steps of the simplex method until now.
         self.iterations = 0
         self._pricing, self._crews, self._program = pricing, pricing.crews, program
-        self._limits = pricing.limits(())
+        self._limits, self._basis = pricing.limits(()), program.basis
         self._known: Set[Tuple[int, NurseWeek]] = set()
         self._numbers: List[List[int]] = [[] for _ in pricing.plan.nurses]
         nurses, places = len(pricing.plan.nurses), len(self._crews.places)
@@ -107,12 +107,12 @@ class CaseProgram:
 
     def keep_basis(self) -> None:
         """Keeps the basis of the last solution."""
-        self._program.keep_basis()
+        self._basis = self._program.basis
 
     def rise(self, limits: CaseLimits, clock: Clock, iterations: int) -> float:
         """The value in another case by the known rows, from the kept basis and after at most these steps of the dual simplex method."""
         self.take(limits)
-        self._program.take_basis()
+        self._program.take_basis(self._basis)
         found = self._program.solve(clock, DUAL, iterations, whole=False)
         self.iterations += found.iterations
         return self._value(found.value)

@@ -5,11 +5,12 @@ from typing import Dict, Iterator, List, NamedTuple, Sequence, Tuple, TypeVar
 
 from ..programs.clock import Clock
 from ..week.facts import SHIFT_RUNS, AtPlace, Charged, Choice, Claim, Fact
+from ..week.records import WEEK_DAYS
 from .case_limits import CaseLimits, NurseChoice
 from .case_pricing import CasePricing
 from .case_program import CaseProgram, CaseSolution
 from .certificate import Case
-from .plan import STEP, WEEK_DAYS, Points
+from .plan import STEP, Points
 
 _Key = TypeVar("_Key", int, NurseChoice)
 # A share this near to a whole number is one.

@@ -4,8 +4,7 @@ from dataclasses import dataclass
 from typing import Dict, Iterator, List, Sequence, Tuple, Union
 
 from ..week.facts import Claim, Fact, fact_text
-from ..week.records import Place
-from .plan import WEEK_DAYS
+from ..week.records import WEEK_DAYS, Place
 from .pricing import Prices
 
 # The most leaves of a file.

@@ -1,10 +1,10 @@
 """A first roster without any solver: a matching for each day, then the best row of one nurse after another."""
 
-from typing import Dict, List, Optional, Sequence, Set
+from typing import Dict, List, Optional, Sequence
 
-from .plan import POINT, WEEK_DAYS, Plan
-from .pricing import Crews, Pricing, NurseWeek
-from ..week.records import Place
+from ..week.records import WEEK_DAYS, Place, successions
+from .plan import POINT, Plan
+from .pricing import Crews, NurseWeek, Pricing
 from .row_graph import Check
 from .row_program import BELOW_MINIMUM
 from .skills import staffed
@@ -20,7 +20,7 @@ class _Matching:
         self._plan, self._crews = plan, crews
         types = list(plan.scenario.shift_types.values())
         self._numbers = {shift.name: number for number, shift in enumerate(types, 1)}
-        self._forbidden: List[Set[int]] = [set(), *({self._numbers[name] for name in shift.forbidden_next} for shift in types)]
+        self._forbidden = successions(types)
         pasts = [plan.history.nurses[nurse] for nurse in plan.nurses]
         self._last = [0 if past.last_shift is None else self._numbers[past.last_shift] for past in pasts]
         self._run = [past.working_days for past in pasts]

@@ -1,6 +1,8 @@
 """The search for better rows by parts of a plan: some nurses get new rows on some days beside all other choices, as a small plan of
 their own. It needs what other searches know of the whole plan, and a solver; so several can run at once, each in a process of its own."""
 
+import contextlib
+import functools
 import math
 import random
 from dataclasses import replace
@@ -8,10 +10,11 @@ from typing import Dict, List, NamedTuple, Optional, Sequence, Set, Tuple
 
 from ..programs.clock import Clock, TimeIsOver
 from ..solvers.linear_solvers import LinearSolver
-from ..week.records import Place, Requirement
-from .plan import POINT, STEP, WEEK_DAYS, Points
+from ..week.records import WEEK_DAYS, Place, Requirement
+from .plan import POINT, STEP, Points
 from .pricing import NurseWeek, Pricing
 from .row_generation import NoRow
+from .row_program import RowProgram
 from .row_search import Known, RowSearch, Take
 from .skills import staffed
 from .week_dives import WeekDives
@@ -74,14 +77,18 @@ class PartSearch:
 
     # ---- dives
 
+    @functools.cached_property
+    def _program(self) -> RowProgram:
+        """The program of the whole plan, with the basis of its last solution."""
+        assert self._known.program is not None
+        return self._known.program.open_part(self._solver.program())
+
     def dive(self, clock: Clock, take: Take, task: Dive) -> Done:
         """Fixes rows of all nurses, a few at a time."""
-        search = self._search(self._pricing, clock, take)
-        search.penalty = task.penalty
-        for nurse, rows in enumerate(self._known.rows):
-            for row in rows:
-                search.add_row(nurse, row)
-        try:
+        search, before = self._search(self._pricing, clock, take), self._program.iterations
+        search.penalty, search.program = task.penalty, self._program
+        ended = False
+        with contextlib.suppress(TimeIsOver):
             part = clock.part(clock.left() * FIXING_SHARE)
             search.generate(part)
             chance = None if task.seed is None else random.Random(task.seed)
@@ -89,11 +96,8 @@ class PartSearch:
             found = search.dive(part, task.share, chance) if is_week else search.dive_by_weeks(part, task.share, chance)
             if found:
                 search.keep(found, "fixing rows")
-            return Done(True, search.program.iterations)
-        except TimeIsOver:
-            return Done(False, search.program.iterations)
-        finally:
-            search.program.close()
+            ended = True
+        return Done(ended, self._program.iterations - before)
 
     def _search(self, pricing: Pricing, clock: Clock, take: Take) -> WeekDives:
         """A search that begins with the prices of the whole plan."""

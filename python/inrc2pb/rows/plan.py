@@ -8,12 +8,11 @@ from typing import Dict, FrozenSet, Iterable, Iterator, List, Mapping, NamedTupl
 
 from ..judging.absences import MARK, absences_of
 from ..judging.days_away import DaysAway
-from ..week.facts import SHIFTS, WEEKENDS, Charged, Choice, Claim
-from ..week.records import Absence, Cell, History, KeptLimit, Place, Request, Requirement, Scenario, WeekData
-from ..judging.rules import MISSING_NURSE, REQUEST
 from ..judging.runs import NEVER, Beside
+from ..week.facts import SHIFTS, WEEKENDS, Charged, Choice, Claim
+from ..week.records import WEEK_DAYS, Absence, Cell, History, KeptLimit, Place, Request, Requirement, Scenario, WeekData
+from ..week.soft_rules import MISSING_NURSE, REQUEST
 
-WEEK_DAYS = 7
 # The units of costs. Prices are whole numbers of thousandths of a point.
 Points = NewType("Points", int)
 Thousandths = NewType("Thousandths", int)

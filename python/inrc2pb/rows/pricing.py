@@ -1,14 +1,16 @@
 """Rows and bounds at prices: what nurses of places earn, each nurse's cheapest row, and what no roster can cost less than."""
 
 import copy
+import numpy
 from typing import Any, Dict, Iterable, List, NamedTuple, Optional, Sequence, Tuple, Union
 
-from .plan import FREE, POINT, STEP, Plan, Points, Thousandths
-from ..judging.runs import NEVER, Beside, Runs, RunState
-from ..judging.rules import SHIFT_RUN
+from ..judging.runs import NEVER, Beside, RunState, Runs
 from ..week.facts import WORK_DAYS
 from ..week.records import Place
-from .row_arrays import Member, blocks_of, numpy
+from ..week.soft_rules import SHIFT_RUN
+from .compiled import priced_together
+from .plan import FREE, POINT, STEP, Plan, Points, Thousandths
+from .row_arrays import Member
 from .row_graph import Check, Graph, Totals
 
 # The highest price in a file of prices.
@@ -134,7 +136,7 @@ class Pricing:
     def keeping(self, kept: Iterable[Tuple[int, range, Sequence[int]]]) -> "Pricing":
         """The same for rows that have these choices of nurses on these days."""
         part = copy.copy(self)
-        part.wishes = list(self.wishes)
+        part.wishes, part._batch = list(self.wishes), None
         for nurse, days, choices in kept:
             only = {day: self._only(nurse, day, choice) for day, choice in zip(days, choices)}
             part.wishes[nurse] = {**part.wishes[nurse], **only}
@@ -175,11 +177,9 @@ class Pricing:
 
     def cheapest_of(self, nurses: Sequence[int], gains: Sequence[int]) -> List[Optional[Priced]]:
         """The cheapest row of each of these nurses."""
-        if any(self.graphs[nurse].arrays is None for nurse in nurses):
-            return [self.cheapest(nurse, gains) for nurse in nurses]
         if self._batch is None:
-            self._batch = _Batch(self.graphs, self.starts, self._days, self._rows)
-        return self._batch.cheapest(nurses, gains, self)
+            self._batch = _Batch(self, self._days, self._rows)
+        return self._batch.cheapest(nurses, gains)
 
     def cost(self, nurse: int, row: NurseWeek) -> Optional[Points]:
         """What a row costs its nurse; None if a hard rule forbids it."""
@@ -200,61 +200,41 @@ class Pricing:
 
 
 class _Batch:
-    """The nurses of a pricing by NumPy: their graphs in blocks, on the days on which their rows may differ from those that they keep."""
+    """The nurses of a pricing together, on the days on which their rows may differ from those that they keep."""
 
-    def __init__(self, graphs: Sequence[Graph], starts: Sequence[int], days: range, rows: Sequence[NurseWeek]) -> None:
-        self._days, self._rows, members = days, rows, []
-        self._fixed = [0] * len(graphs)
-        for nurse, (graph, start) in enumerate(zip(graphs, starts)):
-            assert graph.arrays is not None
-            rest = None
-            if rows:
-                start, self._fixed[nurse] = graph.walked(start, rows[nurse][: days.start])
-                rest = graph.arrays.after(days.stop, rows[nurse]) if days.stop < len(graph.days) else None
-            members.append(Member(nurse, graph.arrays, start, rest))
-        self._blocks = blocks_of(members, days.stop, days.start)
-        # The wishes and the crews of each nurse, day and choice, and their sources.
-        self._wishes: Any = None
-        self._crews: Any = None
-        self._made_of: Tuple[object, object] = (None, None)
-
-    def _read(self, pricing: Pricing) -> None:
-        """Makes the arrays of the wishes and of the crews."""
-        if self._made_of == (pricing.wishes, pricing.crews) and self._made_of[0] is pricing.wishes:
-            return
-        self._made_of = pricing.wishes, pricing.crews
+    def __init__(self, pricing: Pricing, days: range, rows: Sequence[NurseWeek]) -> None:
+        self._pricing, self._days, self._rows = pricing, days, rows
+        # By nurse, day and choice.
         self._crews = numpy.array(pricing.crews.of)
         self._wishes = numpy.zeros(self._crews.shape, dtype=numpy.int64)
         for nurse, wishes in enumerate(pricing.wishes):
             for day, costs in wishes.items():
                 self._wishes[nurse, day] = costs
+        members = []
+        for nurse, (graph, start) in enumerate(zip(pricing.graphs, pricing.starts)):
+            rest = None
+            if rows:
+                start, _ = graph.walked(start, rows[nurse][: days.start])
+                rest = graph.arrays.after(days.stop, rows[nurse]) if days.stop < len(graph.days) else None
+            members.append(Member(nurse, graph.arrays, start, rest))
+        self._together = priced_together(members, days, self._wishes < NEVER // 2)
 
-    def cheapest(self, nurses: Sequence[int], gains: Sequence[int], pricing: Pricing) -> List[Optional[Priced]]:
+    def cheapest(self, nurses: Sequence[int], gains: Sequence[int]) -> List[Optional[Priced]]:
         """The cheapest row of each of these nurses."""
-        self._read(pricing)
         earned = numpy.array(gains, dtype=numpy.int64)[self._crews]
-        pay, wanted, found = self._wishes - earned, set(nurses), dict.fromkeys(nurses)
-        for block in self._blocks:
-            numbers = [number for number, nurse in enumerate(block.nurses) if nurse in wanted]
-            if numbers:
-                for number, value, row in zip(numbers, *block.cheapest(pay, numbers)):
-                    nurse = block.nurses[number]
-                    found[nurse] = self._priced(nurse, int(value), row.tobytes(), earned[nurse], pricing)
-        return [found[nurse] for nurse in nurses]
+        costs, rows = self._together.cheapest(self._wishes - earned, nurses)
+        return [self._priced(nurse, cost, row.tobytes(), earned[nurse]) for nurse, cost, row in zip(nurses, costs.tolist(), rows)]
 
-    def _priced(self, nurse: int, value: int, row: NurseWeek, earned: Any, pricing: Pricing) -> Optional[Priced]:
-        """A row with the choices that it keeps."""
-        if value >= NEVER // 2:
-            return None
+    def _priced(self, nurse: int, least: int, row: NurseWeek, earned: Any) -> Optional[Priced]:
+        """A row with the choices that it keeps, if it costs less than what is forbidden. Its cost is walked anew."""
         if self._rows:
             kept, days = self._rows[nurse], self._days
             row = kept[: days.start] + row + kept[days.stop :]
-            value += self._fixed[nurse]
-            others = (day for day in range(len(row)) if day not in days)
-            value += sum(int(self._wishes[nurse, day, row[day]] - earned[day, row[day]]) for day in others)
-        value += pricing.base[nurse]
+        cost = None if least >= NEVER // 2 else self._pricing.cost(nurse, row)
+        if cost is None:
+            return None
         income = int(earned[numpy.arange(len(row)), list(row)].sum())
-        return Priced(Thousandths(value), row, Points((value + income) // POINT))
+        return Priced(Thousandths(cost * POINT - income), row, cost)
 
 
 def plain_bound(pricing: Pricing, prices: Prices) -> Points:

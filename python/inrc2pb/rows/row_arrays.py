@@ -1,39 +1,28 @@
-"""The cheapest rows of many nurses at once by NumPy, which is not needed: without it they are priced one after another."""
+"""The cheapest rows of many nurses at once, by NumPy."""
 
-import copy
-import importlib
+import numpy
 from typing import Any, Callable, Dict, List, NamedTuple, Optional, Sequence, Tuple
 
 from ..judging.runs import NEVER
 
-INSTALL = "NumPy is not installed: with it the search is several times faster (Debian: apt-get install python3-numpy)"
 # Graphs up to this number of arcs lie side by side, one for each nurse, in blocks of about this size; others have a column for each nurse.
 SMALL, BLOCK = 6_000, 60_000
 # Above this number of values, the choices of a day are compared one after another.
 _MANY = 40_000
+# A nurse with at most this share of her choices is priced over the nodes alone that she reaches.
+NARROW = 0.45
 # The multiplier of the numbers by which equal nodes are found.
 _MULTIPLIER = 6364136223846793005
 
 
-def _numpy() -> Any:
-    """The module; None if it is not installed, or broken."""
-    try:
-        found = importlib.import_module("numpy")
-        found.array([1]).take([0], axis=0)
-        return found
-    except Exception:
-        return None
-
-
-numpy = _numpy()
-
-
 class Arrays:
-    """The days of a graph as arrays: by choice and node the costs and the nodes that are reached, and by node of the next day the choice
-    that reaches it."""
+    """The days of a graph as arrays, from the day `first` on: by choice and node the costs and the nodes that are reached, and by node of
+    the next day the choice that reaches it. `runs` has the charges of shift runs by choice and node, if the costs are without them."""
 
-    def __init__(self, days: Sequence[Tuple[Any, Any, Any]]) -> None:
-        self.days = list(days)
+    def __init__(self, days: Sequence[Tuple[Any, Any, Any]], runs: Sequence[Any] = (), first: int = 0) -> None:
+        self.days, self.runs, self.first = list(days), list(runs), first
+        # What a compiled library reads.
+        self.compiled: Any = None
         self.size = sum(costs.size for costs, _, _ in self.days)
         # The number of nodes before each day, and at the end.
         self.nodes = [*(costs.shape[1] for costs, _, _ in self.days), len(self.days[-1][2])]
@@ -63,12 +52,37 @@ class Member(NamedTuple):
     rest: Any = None
 
 
+def reached(member: Member, days: range, allowed: Any) -> Member:
+    """The same nurse on these days, with the nodes alone that she reaches by the choices that are allowed, by day and choice."""
+    nodes, found, runs = numpy.array([member.start]), [], []
+    for day in days:
+        costs, heads, entered = member.arrays.days[day]
+        costs, heads = numpy.where(allowed[day][:, None], costs[:, nodes], NEVER), heads[:, nodes]
+        runs += [member.arrays.runs[day][:, nodes]] if member.arrays.runs else []
+        there = numpy.zeros(len(entered), dtype=bool)
+        there[heads[costs < NEVER // 2]] = True
+        # A nurse without a row reaches any node at no cost that is allowed.
+        there[0] |= not there.any()
+        nodes = numpy.flatnonzero(there)
+        found.append((costs, numpy.maximum(numpy.cumsum(there) - 1, 0)[heads], entered[nodes]))
+    rest = None if member.rest is None else member.rest[nodes]
+    return Member(member.nurse, Arrays(found, runs, days.start), 0, rest)
+
+
 class _Day(NamedTuple):
-    """A day of a block: by choice and node the costs and the nodes that are reached, and the pay by which a node of the next day is."""
+    """A day of a block: by choice and node the costs, the nodes that are reached and, if they are apart, the charges of shift runs, and the
+    pay by which a node of the next day is reached."""
 
     costs: Any
     heads: Any
     paid: Any
+    runs: Any
+
+    def with_runs(self, run_cost: int) -> Any:
+        """The costs, if a charge of a shift run has this cost."""
+        if self.runs is None:
+            return self.costs
+        return self.costs + self.runs * run_cost if run_cost < NEVER else numpy.where(self.runs > 0, NEVER, self.costs)
 
 
 class Block:
@@ -79,7 +93,7 @@ class Block:
         self.nurses, self._first, self._last = [member.nurse for member in members], first, last
         self._is_one = all(member.arrays is members[0].arrays for member in members)
         graphs = [members[0].arrays] if self._is_one else [member.arrays for member in members]
-        offsets = [numpy.cumsum([0, *(graph.nodes[day] for graph in graphs)]) for day in range(first, last + 1)]
+        offsets = [numpy.cumsum([0, *(graph.nodes[day - graph.first] for graph in graphs)]) for day in range(first, last + 1)]
         self._days = [self._day(graphs, day, offsets[day - first + 1]) for day in range(first, last)]
         starts = numpy.array([member.start for member in members])
         self._starts = starts if self._is_one else starts + offsets[0][:-1]
@@ -88,28 +102,19 @@ class Block:
             rests = [member.rest for member in members]
             self._rest = numpy.stack(rests, axis=1) if self._is_one else numpy.concatenate(rests)[:, None]
 
-    @property
-    def costs(self) -> List[Any]:
-        """The costs of each day by choice and node."""
-        return [day.costs for day in self._days]
-
-    def with_costs(self, costs: Sequence[Any]) -> "Block":
-        """The same nurses, if their days have these costs."""
-        other = copy.copy(self)
-        other._days = [day._replace(costs=of_day) for day, of_day in zip(self._days, costs)]
-        return other
-
     @staticmethod
     def _day(graphs: Sequence[Arrays], day: int, offsets: Any) -> _Day:
+        days = [graph.days[day - graph.first] for graph in graphs]
+        runs = [graph.runs[day - graph.first] for graph in graphs if graph.runs]
         if len(graphs) == 1:
-            return _Day(*graphs[0].days[day])
-        days = [graph.days[day] for graph in graphs]
+            return _Day(*days[0], runs[0] if runs else None)
         choices = len(days[0][0])
         heads = [arcs[1] + offset for arcs, offset in zip(days, offsets)]
         paid = [arcs[2] + choices * owner for owner, arcs in enumerate(days)]
-        return _Day(numpy.concatenate([arcs[0] for arcs in days], axis=1), numpy.concatenate(heads, axis=1), numpy.concatenate(paid))
+        costs = numpy.concatenate([arcs[0] for arcs in days], axis=1)
+        return _Day(costs, numpy.concatenate(heads, axis=1), numpy.concatenate(paid), numpy.concatenate(runs, axis=1) if runs else None)
 
-    def cheapest(self, pay: Any, wanted: Sequence[int], starts: Optional[Sequence[int]] = None) -> Tuple[Any, Any]:
+    def cheapest(self, pay: Any, wanted: Sequence[int], starts: Optional[Sequence[int]] = None, run_cost: int = 0) -> Tuple[Any, Any]:
         """The minimum cost of a row of each of these nurses, who are numbers in the block, and the first row that has it, on the days of
         the block. `pay` has what a choice costs beside its own costs, by nurse, day and choice. `starts` has other nodes to begin at."""
         pay = pay[:, self._first : self._last]
@@ -119,31 +124,54 @@ class Block:
         else:
             pay, columns, rest = pay.take(self.nurses, axis=0), numpy.zeros(len(wanted), dtype=int), self._rest
         minimum, paid = rest, []
+        costs = [day.with_runs(run_cost) for day in self._days]
         for day, number in zip(reversed(self._days), reversed(range(len(self._days)))):
             today = pay[:, number].T if self._is_one else pay[:, number].reshape(-1, 1)
             paid.append(minimum + today.take(day.paid, axis=0))
-            minimum = _least(paid[-1], day)
+            minimum = _least(paid[-1], day.heads, costs[number])
         nodes = first = self._starts[wanted] if starts is None else numpy.array(starts)
         rows = numpy.empty((len(wanted), len(self._days)), dtype=numpy.uint8)
         for number, (day, reached) in enumerate(zip(self._days, reversed(paid))):
             heads = day.heads[:, nodes]
-            choices = (day.costs[:, nodes] + reached[heads, columns]).argmin(axis=0)
+            choices = (costs[number][:, nodes] + reached[heads, columns]).argmin(axis=0)
             rows[:, number] = choices
             nodes = heads[choices, numpy.arange(len(wanted))]
         return minimum[first, columns], rows
 
 
-def _least(reached: Any, day: _Day) -> Any:
+def _least(reached_by: Any, heads: Any, costs: Any) -> Any:
     """The minimum over the choices of a day."""
-    if day.heads.size * reached.shape[1] <= _MANY:
-        return (reached.take(day.heads, axis=0) + day.costs[:, :, None]).min(axis=0)
-    minimum = reached.take(day.heads[0], axis=0)
-    minimum += day.costs[0][:, None]
-    for heads, costs in zip(day.heads[1:], day.costs[1:]):
-        other = reached.take(heads, axis=0)
-        other += costs[:, None]
+    if heads.size * reached_by.shape[1] <= _MANY:
+        return (reached_by.take(heads, axis=0) + costs[:, :, None]).min(axis=0)
+    minimum = reached_by.take(heads[0], axis=0)
+    minimum += costs[0][:, None]
+    for to, cost in zip(heads[1:], costs[1:]):
+        other = reached_by.take(to, axis=0)
+        other += cost[:, None]
         numpy.minimum(minimum, other, out=minimum)
     return minimum
+
+
+class Blocks:
+    """Nurses who are priced by NumPy on these days. `allowed` has the choices that they may have, by nurse, day and choice, if not all."""
+
+    def __init__(self, members: Sequence[Member], days: range, allowed: Optional[Any] = None) -> None:
+        if allowed is not None:
+            narrow = {member.nurse for member in members if allowed[member.nurse, days.start : days.stop].mean() <= NARROW}
+            members = [reached(member, days, allowed[member.nurse]) if member.nurse in narrow else member for member in members]
+        self._blocks, self._days = blocks_of(members, days.stop, days.start), days
+
+    def cheapest(self, pay: Any, nurses: Sequence[int], run_cost: int = 0) -> Tuple[Any, Any]:
+        """The minimum cost of a row of each of these nurses, and the first row that has it, on these days. `pay` has what a choice costs
+        beside its own costs, by nurse, day and choice, and `run_cost` is the cost of a charge of a shift run that is counted apart."""
+        places = {nurse: place for place, nurse in enumerate(nurses)}
+        costs, rows = numpy.empty(len(places), dtype=numpy.int64), numpy.empty((len(places), len(self._days)), dtype=numpy.uint8)
+        for block in self._blocks:
+            numbers = [number for number, nurse in enumerate(block.nurses) if nurse in places]
+            if numbers:
+                found = [places[block.nurses[number]] for number in numbers]
+                costs[found], rows[found] = block.cheapest(pay, numbers, run_cost=run_cost)
+        return costs, rows
 
 
 def blocks_of(members: Sequence[Member], last: int, first: int = 0) -> List[Block]:

@@ -8,7 +8,7 @@ from typing import Callable, Dict, List, Optional, Sequence
 
 from ..programs.clock import Clock
 from ..solvers.linear_solvers import LinearSolver
-from ..solvers.resident_program import LinearProgram, no_solver
+from ..solvers.resident_program import LinearProgram
 from .plan import POINT, STEP, Points, Thousandths
 from .pricing import Priced, Prices, Pricing, NurseWeek, in_steps
 from ..week.records import Place
@@ -39,7 +39,7 @@ class RowGeneration:
     def __init__(self, pricing: Pricing, solver: Optional[LinearSolver], heard: Callable[[], None]) -> None:
         self.pricing, self.plan = pricing, pricing.plan
         self._solver, self._heard = solver, heard
-        self.program = RowProgram(self.plan, pricing.crews, solver.program() if solver else LinearProgram(None, no_solver))
+        self.program = RowProgram(self.plan, pricing.crews, self.linear_program())
         self.prices: Prices = [0] * len(pricing.crews.places)
         # No roster costs less, in thousandths.
         self.bound: Optional[Thousandths] = None
@@ -49,6 +49,10 @@ class RowGeneration:
         self.solved: Optional[Solved] = None
         # Whether nurses are missing below minimums even so.
         self.misses_minimums = False
+
+    def linear_program(self) -> LinearProgram:
+        """An empty program of its solver."""
+        return self._solver.program() if self._solver else LinearProgram(None)
 
     @property
     def lower_bound(self) -> Optional[Points]:

@@ -4,15 +4,16 @@ A row is the nurse's choice on each day. The nodes of a day are what a choice ma
 are open, and what more assignments and weekends would cost. Nodes with the same future are one node.
 """
 
+import numpy
 from operator import add, itemgetter
 from typing import Any, Callable, Dict, Iterable, Iterator, List, NamedTuple, Optional, Sequence, Tuple
 
-from .plan import POINT, WEEK_DAYS, Plan
+from ..judging.runs import NEVER, RunState, Runs
 from ..week.facts import SHIFTS, WEEKENDS
-from ..week.records import Contract, NurseHistory
-from .row_arrays import Arrays, merged, numpy
-from ..judging.rules import ASSIGNMENT_TOTAL, WEEKEND_TOTAL
-from ..judging.runs import NEVER, Runs, RunState
+from ..week.records import WEEK_DAYS, Contract, NurseHistory
+from ..week.soft_rules import ASSIGNMENT_TOTAL, WEEKEND_TOTAL
+from .plan import POINT, Plan
+from .row_arrays import Arrays, merged
 
 # From here on a cost in points has NEVER in it, perhaps less what it saves.
 FORBIDDEN = NEVER // 2
@@ -62,16 +63,6 @@ def _first_with(futures: Sequence[Tuple[int, ...]]) -> List[int]:
     return [first.setdefault(future, index) for index, future in enumerate(futures)]
 
 
-def _numbered(values: Sequence[Tuple[int, ...]]) -> Tuple[List[int], List[int]]:
-    """The number of each value, where equal values have one number, and the first index of each number."""
-    index: Dict[Tuple[int, ...], int] = {}
-    numbers = [index.setdefault(value, len(index)) for value in values]
-    kept: Dict[int, int] = {}
-    for position, number in enumerate(numbers):
-        kept.setdefault(number, position)
-    return numbers, list(kept.values())
-
-
 def _gather(indices: Sequence[int]) -> Gather:
     """Takes the values at these indices; at least two are taken."""
     return itemgetter(*indices) if len(indices) > 1 else itemgetter(indices[0], indices[0])
@@ -93,17 +84,10 @@ class Graph:
         self._runs, self._totals, self._check = runs, totals, check
         firsts = list(dict.fromkeys(states))
         self._arcs: List[Tuple[Gather, List[Tuple[Gather, List[int]]]]] = []
-        self.arrays: Optional[Arrays] = None
-        if numpy is None or runs.days == WEEK_DAYS:
-            self.days = self._forward([(state, 0, 0) for state in firsts])
-            classes = self._merged(self.days)
-            if numpy is not None:
-                self.arrays = Arrays([(numpy.array(day.costs), numpy.array(day.heads), numpy.array(day.entered)) for day in self.days])
-        else:
-            arrays = list(self._by_arrays(firsts))
-            classes = merged(arrays, self._check)
-            self.arrays = Arrays(arrays)
-            self.days = [_Day(*(array.tolist() for array in day)) for day in arrays]
+        days = list(self._reached(firsts))
+        classes = merged(days, self._check)
+        self.arrays = Arrays(days)
+        self.days = [_Day(*(array.tolist() for array in day)) for day in days]
         self.starts = {state: int(classes[index]) for index, state in enumerate(firsts)}
 
     def _same(self, day: int) -> Tuple[List[int], List[int]]:
@@ -114,8 +98,8 @@ class Graph:
         same_works = _first_with([works[total : total + left] for total in range(day + 2)])
         return same_works, _first_with([weekends[total : total + weeks] for total in range(day // WEEK_DAYS + 2)])
 
-    def _by_arrays(self, states: List[RunState]) -> Iterator[Tuple[Any, Any, Any]]:
-        """All nodes that are reached, day by day, by NumPy."""
+    def _reached(self, states: List[RunState]) -> Iterator[Tuple[Any, Any, Any]]:
+        """All nodes that are reached, day by day: the costs, the nodes that are reached, and the choice that reaches them."""
         runs, works_on = self._runs, (numpy.arange(len(self._runs.shifts)) > 0)[:, None]
         works, weekends = (numpy.array(costs, dtype=numpy.int64) for costs in self._totals)
         state, work, rest = numpy.arange(len(states)), numpy.zeros(len(states), dtype=int), numpy.zeros(len(states), dtype=int)
@@ -139,45 +123,6 @@ class Graph:
             before = numpy.array([now.choice for now in states])[state]
             yield numpy.where(never, NEVER, POINT * costs), heads, before
 
-    def _forward(self, nodes: List[Tuple[RunState, int, int]]) -> List[_Day]:
-        """All nodes that are reached, day by day."""
-        runs, (works, weekends) = self._runs, self._totals
-        found: List[_Day] = []
-        for day in range(runs.days):
-            self._check()
-            later: Dict[Tuple[RunState, int, int], int] = {}
-            same_works, same_weekends = self._same(day)
-            sunday = day % WEEK_DAYS == WEEK_DAYS - 1
-            costs: List[List[int]] = [[] for _ in runs.shifts]
-            heads: List[List[int]] = [[] for _ in runs.shifts]
-            for state, work, rest in nodes:
-                for choice, (cost, reached) in enumerate(runs.steps(day, state)):
-                    weekend = sunday and (choice > 0 or state.choice > 0)
-                    cost += (works[work] if choice else 0) + (weekends[rest] if weekend else 0)
-                    if cost >= FORBIDDEN:
-                        costs[choice].append(NEVER)
-                        heads[choice].append(0)
-                        continue
-                    costs[choice].append(POINT * cost)
-                    key = (reached, same_works[work + (choice > 0)], same_weekends[rest + weekend])
-                    heads[choice].append(later.setdefault(key, len(later)))
-            nodes = list(later)
-            found.append(_Day(costs, heads, [state.choice for state, _, _ in nodes]))
-        return found
-
-    def _merged(self, found: List[_Day]) -> List[int]:
-        """Makes one node of all that have the same choices, costs and futures. Returns the class of each first node."""
-        classes, kept = _numbered([(choice,) for choice in found[-1].entered])
-        for day in reversed(range(len(found))):
-            self._check()
-            costs, heads, entered = found[day]
-            heads = [[classes[head] for head in arcs] for arcs in heads]
-            entered = [entered[node] for node in kept]
-            before = found[day - 1].entered if day else range(len(costs[0]))
-            classes, kept = _numbered(list(zip(before, *costs, *heads)))
-            found[day] = _Day([[arcs[node] for node in kept] for arcs in costs], [[arcs[node] for node in kept] for arcs in heads], entered)
-        return classes
-
     def values(self, pay: Sequence[Sequence[int]]) -> Tuple[List[int], List[List[int]]]:
         """The minimum cost from each first node on, and for each day that from each node that it reaches on, with the cost of
         reaching it, if a choice costs this pay beside its own costs."""
@@ -193,17 +138,7 @@ class Graph:
 
     def cheapest(self, start: int, pay: Sequence[Sequence[int]]) -> Tuple[int, bytes]:
         """The minimum cost of a row from this node on, and the first row that has it. NEVER or more: there is no row."""
-        if self.arrays:
-            return self.arrays.cheapest(start, pay)
-        minimum, paid = self.values(pay)
-        node, row = start, bytearray()
-        for day, reached in zip(self.days, paid):
-            value, choice = min(
-                (costs[node] + reached[heads[node]], choice) for choice, (costs, heads) in enumerate(zip(day.costs, day.heads))
-            )
-            row.append(choice)
-            node = day.heads[choice][node]
-        return minimum[start], bytes(row)
+        return self.arrays.cheapest(start, pay)
 
     def walked(self, start: int, row: Sequence[int]) -> Tuple[int, int]:
         """The node at which these first choices of a row end, and what they cost without any pay; NEVER or more if a hard rule forbids

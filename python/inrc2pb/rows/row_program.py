@@ -1,5 +1,6 @@
 """The program that chooses one known row for each nurse: a linear program that stays in its solver, and the text of an integer one."""
 
+import copy
 import math
 from typing import Dict, Iterable, List, NamedTuple, Optional, Sequence, Tuple
 
@@ -128,6 +129,33 @@ class RowProgram:
         back = (column for column in self._shut if column not in self._dropped)
         self._program.bound_columns({self.columns[column].number: _FREE for column in back})
         self._shut.clear()
+
+    @property
+    def is_mostly_shut(self) -> bool:
+        """Whether less than half of its columns are open."""
+        return len(self.columns) < 2 * len({**self._dropped, **self._shut})
+
+    def open_part(self, program: LinearProgram) -> "RowProgram":
+        """The same in this empty linear program, without columns that are dropped or shut. It begins at the basis of the last solution."""
+        out = {self.columns[column].number for column in (*self._dropped, *self._shut)}
+        left = [number for number in range(self._program.columns) if number not in out]
+        numbers, part = {number: place for place, number in enumerate(left)}, copy.copy(self)
+        part._program, part._dropped, part._shut, part._links = self._program.part(left, program), {}, {}, dict(self._links)
+        part.columns, part._known, part._numbers = [], {}, [[] for _ in self._numbers]
+        for key, column in self._known.items():
+            known = self.columns[column]
+            if known.number in numbers:
+                part._known[key] = len(part.columns)
+                part._numbers[known.nurse].append(len(part.columns))
+                part.columns.append(known._replace(number=numbers[known.number]))
+        return part
+
+    def take_new(self, part: "RowProgram") -> None:
+        """Adds the rows that only a part of this program has got."""
+        for (nurse, row, places), column in part._known.items():
+            if (nurse, row, places) not in self._known:
+                self.add(nurse, row, part.columns[column].cost, [], [None if place < 0 else place for place in places])
+        self.iterations = part.iterations
 
     def raise_below(self, below: int) -> None:
         """Changes the cost of a nurse below a minimum."""

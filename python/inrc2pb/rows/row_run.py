@@ -5,18 +5,17 @@ import contextlib
 import time
 from typing import Callable, List, Optional, TypeVar
 
+from ..judging.runs import NEVER
+from ..programs.clock import Clock, TimeIsOver
+from ..programs.processes import processors
+from ..solvers.answers import SolverFault
+from ..solvers.linear_solvers import LinearSolver
 from .case_search import CaseSearch
 from .case_tree import CaseTree
 from .certificate import Certificate, Leaf
-from ..programs.clock import Clock, TimeIsOver
 from .first_rows import matched_rows
-from ..solvers.answers import SolverFault
-from ..solvers.linear_solvers import LinearSolver
 from .plan import POINT, STEP, Plan, Points
-from ..judging.runs import NEVER
-from .pricing import Crews, Pricing, NurseWeek
-from ..programs.processes import processors
-from .row_arrays import numpy
+from .pricing import Crews, NurseWeek, Pricing
 from .row_generation import NoRow, RowGeneration
 from .row_parts import RowParts
 from .row_search import GIVEN, Offer, RowSearch, WholeSearch
@@ -28,9 +27,9 @@ from .workers import CaseWorker, workers
 ROWS_SHARE, DIVE_SHARE, LAST_DIVE_SHARE, KNOWN_SHARE, LISTED_SHARE = 0.5, 0.5, 0.8, 0.06, 0.5
 # The most rows of an integer program.
 MOST_LISTED = 6_000
-# Up to this gap, in thousandths, a tree of cases may end soon: in a week nothing else is done for this number of seconds. In a period it is
-# worth its time up to this part of the bound.
-TREE_GAP, TREE_SECONDS, PERIOD_GAP = 4 * STEP * POINT, 1.0, 0.1
+# Up to this gap, in thousandths, a tree of cases may end soon: in a week nothing else is done for this number of seconds. It is worth its
+# time up to this part of the bound, too.
+TREE_GAP, TREE_SECONDS, TREE_PART = 4 * STEP * POINT, 1.0, 0.1
 # The share of the time that is left for a tree alone, if the gap is one step.
 LAST_SHARE = 0.5
 # The seconds that a tree has after a solver's claim of the best roster, or more if the search took longer.
@@ -57,7 +56,7 @@ class RowRun:
     ) -> None:
         self.plan = plan
         self._solver, self._clock, self._offer, self._heard, self._start = solver, clock, offer, heard, start
-        self._seed, self._splits = seed, splits and numpy is not None
+        self._seed, self._splits = seed, splits
         self.crews = Crews(plan)
         self.search: Optional[RowSearch] = None
         self._tree: Optional[CaseTree] = None
@@ -160,7 +159,7 @@ class RowRun:
     def _improve(self, search: RowSearch, solver: LinearSolver, clock: Clock, tree: "concurrent.futures.Future[None]") -> None:
         """Improves the best roster: by an integer program over all rows that a better one can have, or part by part."""
         if not self._dives_beside:
-            concurrent.futures.wait([tree], min(TREE_SECONDS, clock.left()) if self._is_narrow(search) else 0)
+            concurrent.futures.wait([tree], min(TREE_SECONDS, clock.left()) if search.gap() <= TREE_GAP else 0)
             if self._choose_among_all(search, solver, clock):
                 concurrent.futures.wait([tree], min(clock.left(), max(PROOF_SECONDS, time.monotonic() - self._clock.began)))
                 return
@@ -189,7 +188,7 @@ class RowRun:
         """Whether the gap is small enough for a tree of cases."""
         if not self._splits or search.penalty is None or search.bound is None:
             return False
-        return search.gap() <= (PERIOD_GAP * search.bound if self._dives_beside else TREE_GAP)
+        return search.gap() <= max(TREE_GAP, TREE_PART * search.bound)
 
     def _close_cases(self, search: RowSearch, solver: LinearSolver, clock: Clock) -> None:
         """Looks for cases that show that no roster costs less than the best one, and for better rosters, as soon as the gap is small. If
@@ -206,10 +205,10 @@ class RowRun:
                 solver.end_all()
 
     def _run_tree(self, search: RowSearch, solver: LinearSolver, clock: Clock) -> None:
-        """The tree that goes on from a search. In a week other processes search cases, too."""
+        """The tree that goes on from a search. With several processors other processes search cases, too."""
         count, known = processors(), search.known()
         own = CaseSearch.begin(known, search.pricing.crews, solver.beside(count), clock.check)
-        others = [] if self._dives_beside else workers(known, [solver.beside(count + number) for number in range(1, count)])
+        others = workers(known, [solver.beside(count + number) for number in range(1, count)])
 
         def best() -> Points:
             assert search.penalty is not None

@@ -16,7 +16,7 @@ from ..solvers.linear_solvers import LinearSolver
 from .plan import POINT, STEP, Plan, Points, Thousandths
 from .pricing import NurseWeek, Priced, Prices, Pricing
 from .row_generation import EXACT, WORTH, RowGeneration
-from .row_program import Solved
+from .row_program import RowProgram, Solved
 from .skills import staffed
 
 # The share of the nurses whose rows are fixed at once: at first, at least, and at most.
@@ -38,11 +38,13 @@ Take = Callable[[List[NurseWeek], str], bool]
 
 
 class Known(NamedTuple):
-    """What is known of a plan: the best prices, and rows of each nurse, those that cost the least at these prices first."""
+    """What is known of a plan: the best prices, rows of each nurse, those that cost the least at these prices first, and the program of the
+    rows, if dives are to begin with it."""
 
     plan: Plan
     prices: Prices
     rows: List[List[NurseWeek]]
+    program: Optional[RowProgram] = None
 
 
 class WrongBound(Misuse):
@@ -125,20 +127,22 @@ class RowSearch(RowGeneration):
             found = self._dive(clock, chosen, share, chance)
         except TimeIsOver:
             self.clock.check()
-            self._round(chosen)
+            self._round({**self._greatest(self.solved), **{nurse: self.program.columns[column].row for nurse, column in chosen.items()}})
             return None
         finally:
             self.program.free()
         return [self.program.columns[chosen[nurse]].row for nurse in range(len(self.plan.nurses))] if found else None
 
-    def _round(self, chosen: Dict[int, int]) -> None:
-        """Takes the chosen rows, and the others of the greatest shares in the last solution of all, made better one after another."""
-        columns, shares = self.program.columns, self.solved.shares if self.solved else {}
-        by_nurse = {columns[number].nurse: number for number in sorted(shares, key=shares.__getitem__)}
-        by_nurse.update(chosen)
-        if len(by_nurse) < len(self.plan.nurses):
+    def _greatest(self, solved: Optional[Solved]) -> Dict[int, NurseWeek]:
+        """The row of each nurse that has the greatest share in a solution."""
+        shares, columns = solved.shares if solved else {}, self.program.columns
+        return {columns[number].nurse: columns[number].row for number in sorted(shares, key=shares.__getitem__)}
+
+    def _round(self, rows: Dict[int, NurseWeek]) -> None:
+        """Takes these rows, made better one after another, if each nurse has one."""
+        if len(rows) < len(self.plan.nurses):
             return
-        descent = Descent(self.pricing, [columns[by_nurse[nurse]].row for nurse in range(len(self.plan.nurses))])
+        descent = Descent(self.pricing, [rows[nurse] for nurse in range(len(self.plan.nurses))])
         try:
             while descent.sweep(self.clock.check):
                 pass

@@ -6,10 +6,11 @@ import random
 from typing import Dict, List, NamedTuple, Optional
 
 from ..programs.clock import Clock, TimeIsOver
-from .plan import POINT, STEP, WEEK_DAYS
+from ..week.records import WEEK_DAYS
+from .plan import POINT, STEP
 from .pricing import NurseWeek
 from .row_generation import EXACT, WORTH
-from .row_program import Solved
+from .row_program import RowProgram, Solved
 from .row_search import SHORT_ROUNDS, WHOLE, RowSearch
 
 # The most rounds of new rows between two fixings, and how near the value of the program, in points, must be to what its prices prove.
@@ -43,28 +44,33 @@ class WeekDives(RowSearch):
         """Fixes this share of the open weeks of nurses at once, by chance not only those of the greatest shares. Returns a row of each
         nurse, None if they cannot be better than the best. At the end of the time the rows are those of the greatest shares, made better
         one after another."""
-        pricing = self.pricing
+        pricing, program = self.pricing, self.program
+        # The rows of the greatest shares in the last solution.
+        self._last = self._greatest(self.solved)
         try:
             return self._dive_by_weeks(clock, share, chance)
         except TimeIsOver:
             self.pricing = pricing
             self.clock.check()
-            self._round({})
+            self._round(self._last)
             return None
         finally:
+            self._leave(program)
             self.pricing = pricing
-            self.program.free()
+            program.free()
 
     def _dive_by_weeks(self, clock: Clock, share: float, chance: Optional[random.Random]) -> Optional[List[NurseWeek]]:
+        whole = self.program
         left = [_Week(nurse, number) for nurse in range(len(self.plan.nurses)) for number in range(len(self.plan.weeks))]
         fixed: Dict[_Week, NurseWeek] = {}
         last, hurry = -math.inf, 0.0
         while left:
             before = clock.left()
             nurses = sorted({week.nurse for week in left}) if fixed else []
-            now = self.solved = self._relaxed_with(nurses, last, clock, SHORT_ROUNDS if hurry > share else MOST_ROUNDS)
+            now = self._relaxed_with(nurses, last, clock, SHORT_ROUNDS if hurry > share else MOST_ROUNDS)
             if self.penalty is not None and now.value > self.penalty - STEP + EXACT:
                 return None
+            self._last = self._greatest(now)
             # So many at once that the time is enough.
             last, hurry = now.value, HURRY * (before - clock.left()) / max(EXACT, clock.left())
             new = self._chosen(now, left, max(share, hurry), chance)
@@ -73,8 +79,20 @@ class WeekDives(RowSearch):
             fixed.update(new)
             left = [week for week in left if week not in new]
             self._keep_weeks(new)
+            if self.program.is_mostly_shut:
+                # The solver looks at shut columns, too.
+                part = self.program.open_part(self.linear_program())
+                self._leave(whole)
+                self.program = part
         weeks = range(len(self.plan.weeks))
         return [b"".join(fixed[_Week(nurse, number)] for number in weeks) for nurse in range(len(self.plan.nurses))]
+
+    def _leave(self, whole: RowProgram) -> None:
+        """Goes back to the program with which the dive began, with the new rows."""
+        if self.program is not whole:
+            whole.take_new(self.program)
+            self.program.close()
+        self.program = whole
 
     def _relaxed_with(self, nurses: List[int], last: float, clock: Clock, rounds: int) -> Solved:
         """The linear program with the fixed weeks. While its value is above the last one, and above what its prices prove, these nurses get

@@ -19,7 +19,7 @@ from ..programs.clock import Clock
 from ..programs.processes import Processes
 from ..solvers.answers import MAX_FAULTS, SolverFault
 from ..solvers.clp_child import exit_without_parent
-from ..solvers.linear_solvers import LinearSolver, LinearSolvers
+from ..solvers.linear_solvers import LinearSolver
 from .case_search import CaseSearch, CaseTask, Examined
 from .part_search import Dive, Done, Part, PartSearch
 from .pricing import Crews, NurseWeek, Pricing
@@ -27,8 +27,8 @@ from .row_search import Known, Take
 
 # Seconds between two looks at the time, and those that a process has beyond the end of the time.
 PAUSE, GRACE = 0.2, 2.0
-# What a process does. Its words are the file of what is known, the names of solvers, and where its modules are.
-_START = f"import sys; sys.path[:] = sys.argv[3:]; from {__name__} import main; main(*sys.argv[1:3])"
+# What a process does. Its words are the file of what is known, and where its modules are.
+_START = f"import sys; sys.path[:] = sys.argv[2:]; from {__name__} import main; main(sys.argv[1])"
 _Answer = TypeVar("_Answer")
 
 
@@ -84,8 +84,8 @@ class Worker:
         return None
 
     def _start(self) -> _Running:
-        words = [sys.executable, *["-B"] * sys.dont_write_bytecode, "-I", "-S", "-c", _START]
-        process = self._solver.open([*words, str(self._known), " ".join(self._solver.names), *sys.path])
+        words = [sys.executable, *(["-B"] if sys.dont_write_bytecode else []), "-I", "-S", "-c", _START]
+        process = self._solver.open([*words, str(self._known), *sys.path])
         assert process.stdin and process.stdout
         tasks, answers = os.dup(process.stdin.fileno()), os.dup(process.stdout.fileno())
         return _Running(process, Connection(tasks, readable=False), Connection(answers, writable=False))
@@ -162,12 +162,12 @@ class _Tasks:
             return fault
 
 
-def main(known: str, names: str) -> None:
-    """Does the tasks that come on standard input, with solvers of these names. What they print goes to standard error."""
+def main(known: str) -> None:
+    """Does the tasks that come on standard input. What solvers print goes to standard error."""
     threading.Thread(target=exit_without_parent, args=(os.getppid(),), daemon=True).start()
     requests, answers = Connection(os.dup(0), writable=False), Connection(os.dup(1), readable=False)
     os.dup2(2, 1)
-    solver = LinearSolvers(names.split(), Processes(), Path.cwd(), lambda line: None, resident=True)
+    solver = LinearSolver(Processes(), Path.cwd(), lambda line: None)
     tasks = _Tasks(pickle.loads(Path(known).read_bytes()), solver)
 
     def take(rows: List[NurseWeek], finder: str) -> bool:

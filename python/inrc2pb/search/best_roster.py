@@ -2,37 +2,58 @@
 
 import tempfile
 from pathlib import Path
-from typing import Callable, List, Optional, Sequence, Tuple
+from typing import Callable, List, NamedTuple, Optional, Sequence, Tuple
 
 from ..judging.absences import absences_of, working_while_away
+from ..judging.breaches import explained, other_week, read_roster
 from ..judging.limits import exceeded, excess
-from ..week.faults import FileFault, ProgramFault
-from ..week.files import read_solution, write_solution
-from ..week.records import Cell, Solution, Week
-from ..judging.misfits import explained, other_week, read_roster
 from ..judging.rules import Charge
 from ..programs.program import BROKEN_RULE, Report, WeekFiles, decode, extend
+from ..week.faults import FileFault, ProgramFault
+from ..week.files import read_solution, solution_text, write_solution
+from ..week.records import Cell, Solution, Week
+from .kept_file import KeptFile
 
 # Gets the penalty of a better roster, and the name of what found it.
 Announce = Callable[[int, str], None]
 
 
+class Accepted(NamedTuple):
+    """A roster that keeps the hard rules, its text as a file, its answer and its report. A smaller rank is better: fewer broken absences,
+    less above limits, and then a smaller penalty."""
+
+    cells: Sequence[Cell]
+    text: str
+    answer: str
+    report: Report
+    rank: Tuple[int, int, int]
+
+
 class BestRoster:
     """Keeps the best roster in the file `solution`, which always has a whole roster: it breaks the fewest absences, exceeds limits the
-    least of those, and then costs the least. `proved` says whether no roster costs less."""
+    least of those, and then costs the least. `proved` says whether no roster costs less.
 
-    def __init__(self, files: WeekFiles, week: Week, solution: Path, announce: Announce) -> None:
-        self._files, self._week, self._solution, self._announce = files, week, solution, announce
+    Others may write the file, too: a better roster of theirs is kept, and anything else is replaced. `warn` gets a line about it.
+    """
+
+    def __init__(
+        self, files: WeekFiles, week: Week, solution: Path, announce: Announce, warn: Callable[[str], None] = lambda line: None
+    ) -> None:
+        self._files, self._week, self._announce, self._warn = files, week, announce, warn
+        self._file = KeptFile(solution)
         self._absences = absences_of(week.data)
-        self._report: Optional[Report] = None
-        self.cells: Sequence[Cell] = ()
-        self._answer = ""
+        self._best: Optional[Accepted] = None
         self.proved = False
+
+    @property
+    def cells(self) -> Sequence[Cell]:
+        """The assignments of the best roster; none without one."""
+        return self._best.cells if self._best else ()
 
     @property
     def penalty(self) -> Optional[int]:
         """The penalty of the best roster, if there is one."""
-        return self._report.penalty if self._report else None
+        return self._best.report.penalty if self._best else None
 
     def breaks(self) -> List[Cell]:
         """The assignments of the best roster that break an absence."""
@@ -45,32 +66,62 @@ class BestRoster:
     @property
     def keeps_all(self) -> bool:
         """Whether there is a roster, and it keeps all absences and limits."""
-        return self._report is not None and not (self.breaks() or self.exceeds())
-
-    def _rank(self, cells: Sequence[Cell], report: Report) -> Tuple[int, int, int]:
-        """A smaller rank is better."""
-        return len(working_while_away(self._absences, cells)), excess(exceeded(self._week, self._week.data.limits, cells)), report.penalty
+        return self._best is not None and not (self.breaks() or self.exceeds())
 
     def offer(self, cells: Sequence[Cell], finder: str) -> Optional[int]:
         """Keeps the roster if it is better than the best one. Returns its penalty; None if it breaks a hard rule."""
         solution = Solution(self._week.history.week, self._week.scenario.name, tuple(cells))
+        found = self._accepted(cells, solution_text(solution))
+        if found is None:
+            return None
+        if self._is_better(found) and not self._takes_others(found):
+            self._file.write(found.text)
+            self._take(found, finder)
+        return found.report.penalty
+
+    def _accepted(self, cells: Sequence[Cell], text: str) -> Optional[Accepted]:
+        """The roster with its report; None if it breaks a hard rule."""
         with tempfile.TemporaryDirectory() as folder:
             path = Path(folder, "found.txt")
-            write_solution(path, solution)
+            write_solution(path, Solution(self._week.history.week, self._week.scenario.name, tuple(cells)))
             try:
                 answer, report = extend(self._files, path)
             except ProgramFault as fault:
                 if fault.status != BROKEN_RULE:
                     raise
                 return None
-        if self._report is None or self._rank(cells, report) < self._rank(self.cells, self._report):
-            write_solution(self._solution, solution)
-            self._answer, self._report, self.cells = answer, report, cells
-            self._announce(report.penalty, finder)
-        return report.penalty
+        above = excess(exceeded(self._week, self._week.data.limits, cells))
+        return Accepted(cells, text, answer, report, (len(working_while_away(self._absences, cells)), above, report.penalty))
 
-    def start(self, path: Path, held: Sequence[Cell]) -> Sequence[Cell]:
-        """Begins with the roster of a file. One that breaks a hard rule is a ProgramFault that says why."""
+    def _is_better(self, found: Accepted) -> bool:
+        return self._best is None or found.rank < self._best.rank
+
+    def _take(self, found: Accepted, finder: str) -> None:
+        self._best = found
+        self._announce(found.report.penalty, finder)
+
+    def _others(self) -> Optional[Accepted]:
+        """The roster that the file has, if it is new to the search, of this week, and keeps the hard rules."""
+        week, text = self._week, self._file.new_text()
+        try:
+            found = read_solution(self._file.path, week.scenario, text) if text is not None else None
+        except FileFault:
+            return None
+        if text is None or not found or (found.week, found.scenario) != (week.history.week, week.scenario.name):
+            return None
+        return self._accepted(found.cells, text)
+
+    def _takes_others(self, mine: Accepted) -> bool:
+        """Whether the file has a roster of someone else that is better than this one. It is then the best one."""
+        others = self._others()
+        if others is None or others.rank >= mine.rank:
+            return False
+        self._warn(f"{self._file.path} has a better roster than this search, which is kept: its penalty is {others.report.penalty}")
+        self._take(others, "the file")
+        return True
+
+    def start(self, path: Path, held: Sequence[Cell], finder: str = "the given roster") -> Sequence[Cell]:
+        """Begins with the roster of a file. Raises ProgramFault, which says why, if it breaks a hard rule."""
         week = self._week
         cells = read_roster(path, week.scenario, week.history).cells
         try:
@@ -79,22 +130,27 @@ class BestRoster:
             found = other_week(path, week.scenario, week.history) if "roster breaks" in fault.message else ""
             said = ProgramFault(fault.status, f"{path} breaks a hard rule; {found}") if found else explained(fault, path, week, held)
             raise said from fault
-        self.offer(cells, "the given roster")
+        self.offer(cells, finder)
         return cells
 
     def resume(self) -> Optional[Sequence[Cell]]:
         """Begins with the roster that the file has, if it is one of this week and keeps the hard rules."""
-        week = self._week
-        try:
-            found = read_solution(self._solution, week.scenario) if self._solution.is_file() else None
-        except (FileFault, OSError):
+        found = self._others()
+        if found is None:
             return None
-        if not found or (found.week, found.scenario) != (week.history.week, week.scenario.name):
-            return None
-        return found.cells if self.offer(found.cells, "the earlier roster") is not None else None
+        self._take(found, "the earlier roster")
+        return found.cells
+
+    def look_again(self) -> None:
+        """Before the report: if someone else has changed the file, a better roster of theirs is kept, and anything else is replaced."""
+        best = self._best
+        if best is None or self._file.has(best.text) or self._takes_others(best):
+            return
+        self._file.write(best.text)
+        self._warn(f"{self._file.path} was changed during the search: it has the roster of the search again")
 
     def report(self) -> Optional[Report]:
         """The report of the roster in the file, if there is one; its status is OPTIMUM FOUND if it is proved."""
-        if self._report and self.proved:
-            return decode(self._files, self._answer.replace("s SATISFIABLE", "s OPTIMUM FOUND", 1))
-        return self._report
+        if self._best and self.proved:
+            return decode(self._files, self._best.answer.replace("s SATISFIABLE", "s OPTIMUM FOUND", 1))
+        return self._best.report if self._best else None

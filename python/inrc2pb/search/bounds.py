@@ -13,8 +13,6 @@ from ..programs.program import WeekFiles, find_program, run_unless_stopped
 from ..rows.case_pricing import CasePricing
 from ..rows.certificate import Certificate
 from ..rows.plan import FREE, STRICT, Calls, Keeping, Plan
-from ..rows.pricing import Pricing, plain_bound
-from ..rows.row_arrays import numpy
 from ..rows.row_run import RowRun
 from ..week.facts import Claim, facts_text
 from ..week.faults import ProgramFault
@@ -66,16 +64,17 @@ class Prover:
         """What the program prints about the weeks of these options, by a certificate, for the plans that keep the facts."""
         if self._program is None:
             return None
-        with tempfile.TemporaryDirectory(prefix=f"{PROVER}-") as folder:
-            proof, facts = Path(folder, "certificate.txt"), Path(folder, "given.txt")
-            write_text(proof, certificate.text(name))
-            write_text(facts, facts_text(name, given))
-            words = [*options, PROOF, str(proof), *(["--given", str(facts)] if given else [])]
-            try:
+        try:
+            with tempfile.TemporaryDirectory(prefix=f"{PROVER}-") as folder:
+                proof, facts = Path(folder, "certificate.txt"), Path(folder, "given.txt")
+                write_text(proof, certificate.text(name))
+                write_text(facts, facts_text(name, given))
+                words = [*options, PROOF, str(proof), *(["--given", str(facts)] if given else [])]
                 return run_unless_stopped(self._program, words, seconds, self._processes)
-            except ProgramFault as fault:
-                self.fail(str(fault))
-                return None
+        except (OSError, ProgramFault) as fault:
+            # Someone may have removed the folder: a bound that was printed is not lost.
+            self.fail(str(fault))
+            return None
 
     def stop(self) -> None:
         """Ends a proof that runs, and the next ones."""
@@ -135,14 +134,12 @@ def _only(plan: Plan, keeping: Keeping) -> str:
 
 
 def _plain_points(plan: Plan, run: RowRun, certificate: Certificate) -> int:
-    """What no roster of the plan costs less than by a certificate, by plain Python. Without NumPy only the best prices count."""
-    assert run.search is not None
-    if numpy is not None:
-        return CasePricing(plan, run.crews, lambda: None).bound_of(certificate)
-    return plain_bound(Pricing(plan, run.crews, lambda: None), run.search.prices)
+    """What no roster of the plan costs less than by a certificate, without the proved program."""
+    return CasePricing(plan, run.crews, lambda: None).bound_of(certificate)
 
 
 def week_options(files: WeekFiles) -> List[str]:
     """The options of a week's files. Weeks are counted from 1."""
     words = ["--sce", str(files.scenario), "--his", str(files.history), "--week", str(files.week)]
-    return [*words, *(["--fix", f"1={files.fix}"] if files.fix else []), *["--early"] * files.early]
+    words += ["--fix", f"1={files.fix}"] if files.fix else []
+    return [*words, "--early"] if files.early else words

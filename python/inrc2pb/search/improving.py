@@ -1,40 +1,51 @@
 """Finds the best roster for a week, or improves one, and says how much better one could be."""
 
 import os
-import shutil
 import tempfile
 from dataclasses import replace
 from pathlib import Path
-from typing import Iterator, List, Optional, Sequence
+from typing import Callable, Iterator, List, Optional, Sequence, Union
 
 from ..judging.absences import in_words, way_out
-from ..judging.given import read_given, with_given
-from ..judging.limits import limits_in_words, limits_way_out
-from .best_roster import BestRoster
-from .bounds import PROVER
+from ..judging.breaches import read_held
+from ..judging.limits import limits_in_words, limits_way_out, read_given, with_given
 from ..programs.clock import Clock
-from ..week.faults import Misuse, ProgramFault, Stopped
-from ..week.files import read_files
-from ..week.records import Cell, Week
+from ..programs.inputs import Inputs
 from ..programs.interrupts import interrupts
-from ..judging.misfits import read_held
+from ..programs.locks import locked
 from ..programs.program import NO_ROSTER, Report, WeekFiles
 from ..programs.progress import Progress, gap_share
 from ..solvers.solvers import find_solver
-from ..week.targets import check_inputs_stay, check_no_pipe_is_written, check_no_pipes, check_target
+from ..week.faults import Misuse, ProgramFault, Stopped
+from ..week.files import read_files
+from ..week.records import Cell, Week
+from ..week.writing import check_inputs_stay, check_no_pipe_is_written, check_no_pipes, check_target
+from .best_roster import BestRoster
+from .bounds import PROVER
+from .solver_run import SolverRun
 from .week_search import WeekSearch
 
 SECONDS = 120.0
+Running = Union[WeekSearch, SolverRun]
 
 
 class SearchResult:
     """The result of a search: the report of the best roster, and the lower bound or None, with what proved or computed it.
 
     `proved` says whether no roster that keeps what `bound_only` names costs less, `breaks` whether this one breaks an absence, `exceeds`
-    whether it exceeds a limit, and `stopped` whether the user stopped the search; `fault` is the fault that ended it.
+    whether it exceeds a limit, and `stopped` whether the user stopped the search; `fault` is the fault that ended it. `changes` has a
+    line for each file that was read and has something else now.
     """
 
-    def __init__(self, report: Report, search: WeekSearch, best: BestRoster, stopped: bool, fault: Optional[BaseException]) -> None:
+    def __init__(
+        self,
+        report: Report,
+        search: Running,
+        best: BestRoster,
+        stopped: bool,
+        fault: Optional[BaseException],
+        changes: Sequence[str] = (),
+    ) -> None:
         self.report = report
         self.breaks = bool(best.breaks())
         self.exceeds = bool(best.exceeds())
@@ -42,13 +53,18 @@ class SearchResult:
         self.bound_by = search.bound.by if search.bound else ""
         # The facts that the bound is about; none: it is about all rosters.
         self.bound_only = search.bound.only if search.bound else ""
-        self.claimed_by = search.claimed_by
+        self.claimed_by, self.verdict = search.claimed_by, search.verdict
         self.proved = best.proved
         self.stopped = stopped
         self.fault = fault
+        self.changes = list(changes)
 
     def lines(self) -> List[str]:
         """The lines that follow the report."""
+        return [*self._bound_lines(), *([self.verdict] if self.verdict else []), *self.changes]
+
+    def _bound_lines(self) -> List[str]:
+        """The lines about the lower bound."""
         if self.bound is None:
             return ["no lower bound"]
         only = f" with all {self.bound_only}" if self.bound_only else ""
@@ -79,7 +95,7 @@ def improve(
     week in place of the search over rows, and `proof` the file for the certificate of the bound. The `seed` begins the random choices.
     Ctrl-C, TERM or a fault end the search: the roster is written, then KeyboardInterrupt or the fault is raised.
     """
-    outcome = search(files, solution, start, seconds, solver, proof, Progress(None), seed)
+    outcome = search(files, solution, start, seconds=seconds, solver=solver, proof=proof, progress=Progress(None), seed=seed)
     if outcome.fault:
         raise outcome.fault
     if outcome.stopped:
@@ -96,43 +112,71 @@ def search(
     proof: Optional[Path],
     progress: Progress,
     seed: int = 1,
+    wait: bool = False,
 ) -> SearchResult:
-    """As `improve`, with its progress printed. A fault is raised only if there is no roster; a signal is no fault."""
-    clock = Clock(seconds)
-    inputs = (files.scenario, files.history, files.week, files.fix, files.given)
-    check_no_pipes((*inputs, start))
-    solution = Path(solution).absolute()
+    """As `improve`, with its progress printed. A fault is raised only if there is no roster; a signal is no fault.
+
+    With `wait` it begins when no other search writes `solution`. The files are read once, at the beginning.
+    """
+    check_no_pipes((*files.all(), start))
+    given, solution = solution, Path(solution).absolute()
     own = find_solver(solver) if solver else None
-    week = read_week_given(files)
-    held = held_rows(files.fix, week, progress) if files.fix else ()
+    _check_targets(files, solution, proof)
+    with interrupts() as signals, locked([solution], wait, progress.warn):
+        inputs = Inputs()
+        try:
+            with inputs.naming():
+                copies, clock = files.copied(inputs.copy), Clock(seconds)
+                week = read_week_given(copies)
+                held = held_rows(copies.fix, week, lambda line: progress.warn(inputs.named(line))) if copies.fix else ()
+                best = BestRoster(copies, week, solution, progress.improved, progress.warn)
+                parts = (copies, week, held, best, clock, progress, seed)
+                running: Running = SolverRun(own, *parts, given) if own else WeekSearch(*parts)
+                fault = _run(running, best, inputs.copy(start), held, proof)
+                progress.finish()
+                fault = fault or _fault_of(best.look_again)
+                if fault:
+                    inputs.name(fault)
+                outcome = _result(best, running, bool(signals.caught), fault=fault, seconds=seconds, changes=inputs.changes())
+        except Exception:
+            for line in inputs.changes():
+                progress.warn(line)
+            raise
+        for line in _not_kept(week, held, best):
+            progress.warn(line)
+        return outcome
+
+
+def _fault_of(work: Callable[[], None]) -> Optional[Exception]:
+    """Does the work. Returns the fault that ended it."""
+    try:
+        work()
+    except (Misuse, OSError) as fault:
+        return fault
+    return None
+
+
+def _check_targets(files: WeekFiles, solution: Path, proof: Optional[Path]) -> None:
+    """The files that are written are other files than those that are read."""
     for target, what in ((solution, "the roster"), (proof, "the certificate")):
         if target:
             check_no_pipe_is_written(target)
             check_target(target)
-            check_inputs_stay(inputs, target, what)
+            check_inputs_stay(files.all(), target, what)
     if proof and os.path.realpath(solution) == os.path.realpath(proof) != os.devnull:
         raise Misuse(f"{proof} gets the roster, so the certificate cannot be written to it: choose another file")
-    best = BestRoster(files, week, solution, progress.improved)
-    running = WeekSearch(files, week, held, best, clock, progress, seed)
-    fault: Optional[BaseException] = None
-    with interrupts() as signals:
-        folder = Path(tempfile.mkdtemp(prefix="inrc2pb-solve-"))
+
+
+def _run(running: Running, best: BestRoster, start: Optional[Path], held: Sequence[Cell], proof: Optional[Path]) -> Optional[Exception]:
+    """Runs a search. Returns the fault that ended it."""
+    with interrupts() as signals, tempfile.TemporaryDirectory(prefix="inrc2pb-solve-", ignore_cleanup_errors=True) as folder:
         try:
             rows = best.start(start, held) if start else best.resume()
             with signals.calling(running.interrupt):
-                if own:
-                    running.by_solver(own, folder)
-                else:
-                    running.over_rows(folder, rows, proof)
-        except Exception as found:
-            fault = found
-        finally:
-            progress.finish()
-            shutil.rmtree(folder, ignore_errors=True)
-        outcome = _result(best, running, bool(signals.caught), fault, seconds)
-        for line in _not_kept(week, held, best):
-            progress.warn(line)
-        return outcome
+                running.run(Path(folder), rows, proof)
+        except Exception as fault:
+            return fault
+    return None
 
 
 def read_week_given(files: WeekFiles) -> Week:
@@ -155,8 +199,15 @@ def _not_kept(week: Week, held: Sequence[Cell], best: BestRoster) -> Iterator[st
         yield limits_way_out(week, over, best.cells)
 
 
-def _result(best: BestRoster, running: WeekSearch, stopped: bool, fault: Optional[BaseException], seconds: float) -> SearchResult:
-    """The result of a search that has ended. Without a roster it is a ProgramFault that says why."""
+def _result(
+    best: BestRoster,
+    running: Running,
+    stopped: bool,
+    fault: Optional[BaseException],
+    seconds: float,
+    changes: Sequence[str],
+) -> SearchResult:
+    """The result of a search that has ended. Raises ProgramFault, which says why, if there is no roster."""
     bound = running.bound
     best.proved = best.penalty is not None and (bool(running.claimed_by) or (bound is not None and best.penalty <= bound.points))
     try:
@@ -169,9 +220,9 @@ def _result(best: BestRoster, running: WeekSearch, stopped: bool, fault: Optiona
         late = f"no roster was found in {round(seconds, 1):g} s: give it more time"
         ended = "no roster was found, and no proof that none exists: try --solver clasp"
         raise fault or ProgramFault(NO_ROSTER, ended if running.has_time else late)
-    return SearchResult(report, running, best, stopped, fault)
+    return SearchResult(report, running, best, stopped=stopped, fault=fault, changes=changes)
 
 
-def held_rows(fix: Path, week: Week, progress: Progress) -> Sequence[Cell]:
-    """The rows of the fix file. A warning is printed if it is of another ward or week."""
-    return read_held(fix, week.scenario, week.history, lambda warning: progress.warn(f"{fix}: {warning}")).cells
+def held_rows(fix: Path, week: Week, warn: Callable[[str], None]) -> Sequence[Cell]:
+    """The rows of the fix file. `warn` gets a line if it is of another ward or week."""
+    return read_held(fix, week.scenario, week.history, lambda hint: warn(f"{fix}: {hint}")).cells

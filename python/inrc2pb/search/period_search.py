@@ -4,27 +4,23 @@ import tempfile
 from pathlib import Path
 from typing import Callable, List, Optional, Sequence, Tuple
 
-from .bounds import PLAIN, PROOF_SECONDS, STOPPED_SECONDS, Bound, Bounds
-from ..programs.clock import Clock
-from ..week.faults import ProgramFault, Stopped
-from ..week.records import Cell
-from ..solvers.linear_solvers import INSTALL, LinearSolver, LinearSolvers, installed
 from ..judging.next_history import next_history
 from ..judging.runs import NEVER
-from ..rows.plan import ABSENCES_KEPT, FREE, ONLY_ABSENCES, STRICT, WEEK_DAYS, Plan, Points
-from .planned_weeks import PlannedWeeks
-from ..rows.pricing import NurseWeek
+from ..programs.clock import Clock
 from ..programs.processes import Processes
 from ..programs.program import BROKEN_RULE, NO_ROSTER, penalty_of
 from ..programs.progress import Progress, gap_share
-from ..rows.row_arrays import INSTALL as INSTALL_NUMPY
-from ..rows.row_arrays import numpy
+from ..rows.plan import ABSENCES_KEPT, FREE, ONLY_ABSENCES, STRICT, Plan, Points
+from ..rows.pricing import NurseWeek
 from ..rows.row_run import RowRun
 from ..rows.row_search import GIVEN
 from ..rows.skills import rows_of, staffed
+from ..solvers.linear_solvers import INSTALL, LinearSolver, is_installed
+from ..week.faults import ProgramFault, Stopped
+from ..week.records import Cell, in_week
+from .bounds import PLAIN, PROOF_SECONDS, STOPPED_SECONDS, Bound, Bounds
+from .planned_weeks import PlannedWeeks
 
-# The cells of a plan from which on NumPy makes a difference.
-LARGE = 400
 # The most of the time that goes to a first plan, week after week.
 FIRST_SHARE = 0.1
 # The part of the time that is kept for the proof, at most so many seconds, and the seconds of the proof beyond the end of the time.
@@ -32,12 +28,14 @@ PROOF_SHARE, MOST_KEPT, BEYOND = 0.05, 20.0, 10.0
 
 # Writes the rosters of all weeks to their places; their days count from the first week.
 Keep = Callable[[Sequence[Cell]], None]
+# The plan that someone else has put into these places since it was asked for before, if there is one.
+Others = Callable[[], Optional[Sequence[Cell]]]
 
 
 class PeriodSearch:
     """A search within the time of its clock. `keep` gets each better plan, after `inrc2pb extend` has checked its rosters; `proof` is the
     file for the certificate of the bound, and `start` the plan to begin with, if any. It may break rules: then its weeks of nurses are of
-    use. The `seed` begins the random choices of the search.
+    use. The `seed` begins the random choices of the search. A plan of `others` that is better is kept.
 
     `penalty` is that of the best plan, with the forecast of weeks that are not known; `bound` is what no plan costs less than.
     """
@@ -51,8 +49,9 @@ class PeriodSearch:
         proof: Optional[Path] = None,
         start: Optional[Sequence[Cell]] = None,
         seed: int = 1,
+        others: Others = lambda: None,
     ) -> None:
-        self._weeks, self._keep, self._whole, self._progress = weeks, keep, clock, progress
+        self._weeks, self._keep, self._whole, self._progress, self._others = weeks, keep, clock, progress, others
         self._clock = clock.part(clock.left() - min(MOST_KEPT, PROOF_SHARE * clock.left()))
         self._processes = Processes()
         self._bounds = Bounds(weeks.options(), weeks.scenario.name, proof, progress.warn)
@@ -74,7 +73,7 @@ class PeriodSearch:
             self._bounds.stop()
 
     def run(self) -> None:
-        """Searches until the time is over or the best plan is found. Without a plan it is a ProgramFault that says why.
+        """Searches until the time is over or the best plan is found. Raises ProgramFault, which says why, without a plan.
 
         Plans keep all absences and limits, unless none can.
         """
@@ -84,16 +83,16 @@ class PeriodSearch:
                 self._run(Path(folder), runs)
             finally:
                 self._progress.finish()
+                if self._rank is not None:
+                    self._takes_others(self._rank, Path(folder))
                 self._take_bound(runs)
 
     def _run(self, folder: Path, runs: List[RowRun]) -> None:
-        plan, names = self._weeks.plan(), installed()
-        if not names:
-            self._progress.warn(f"there is no cbc, clp or glpsol, so this is only a first plan: {INSTALL}")
-        elif numpy is None and len(plan.nurses) * plan.days >= LARGE:
-            self._progress.warn(INSTALL_NUMPY)
+        plan, has_solver = self._weeks.plan(), is_installed()
+        if not has_solver:
+            self._progress.warn(f"there is no cbc, so this is only a first plan: {INSTALL}")
         (folder / "trial").mkdir()
-        solver = LinearSolvers(names, self._processes, folder, self._progress.warn, resident=True) if names else None
+        solver = LinearSolver(self._processes, folder, self._progress.warn) if has_solver else None
         try:
             self._over_rows(plan, solver, folder / "trial", runs)
             for less_strict in plan.less_strict():
@@ -133,6 +132,8 @@ class PeriodSearch:
             value = run.search.value_of(rows) if counts_more and run.search and not plan.adds else None
             rank = (*self._weeks.not_kept(cells), penalty if value is None else value)
             if self._rank is None or rank < self._rank or value is not None:
+                if self._takes_others(rank, trial):
+                    return Points(penalty)
                 self._keep(cells)
                 self._cells, self._rank, self.penalty = cells, rank, rank[2]
                 given = "week after week" if self._start is None else "the earlier plan"
@@ -147,7 +148,7 @@ class PeriodSearch:
                 self._progress.bound_rose(run.lower_bound)
 
         splits, counts_more = not self._weeks.later(), bool(self._weeks.later() or plan.calls.points)
-        run = RowRun(plan, solver, self._clock, offer, heard, self._first(plan, solver), self._seed, splits)
+        run = RowRun(plan, solver, self._clock, offer=offer, heard=heard, start=self._first(plan, solver), seed=self._seed, splits=splits)
         runs.append(run)
         run.run()
 
@@ -162,14 +163,16 @@ class PeriodSearch:
         history, rows = plan.history, [b""] * len(plan.nurses)
         seconds = self._clock.left() * FIRST_SHARE / len(plan.weeks)
         for number, data in enumerate(plan.weeks):
-            held = [row._replace(day=row.day % WEEK_DAYS) for kept in plan.held.values() for row in kept if row.day // WEEK_DAYS == number]
+            held = in_week((row for kept in plan.held.values() for row in kept), number)
             found: List[List[NurseWeek]] = []
 
             def offer(better: List[NurseWeek], _finder: str) -> Optional[Points]:
                 found.append(better)
                 return run.search.value_of(better) if run.search else None
 
-            week = Plan.of(plan.scenario, history, [data], True, held, ABSENCES_KEPT if plan.keeping == STRICT else plan.keeping)
+            week = Plan.of(
+                plan.scenario, history, [data], early=True, held=held, keeping=ABSENCES_KEPT if plan.keeping == STRICT else plan.keeping
+            )
             run = RowRun(week, solver, self._clock.part(seconds), offer, lambda: None, splits=False)
             run.run()
             if not found:
@@ -178,6 +181,17 @@ class PeriodSearch:
                 history = next_history(plan.scenario, history, staffed(week, run.crews, found[-1]).cells)
             rows = [row + more for row, more in zip(rows, found[-1])]
         return rows
+
+    def _takes_others(self, rank: Tuple[int, int, int], trial: Path) -> bool:
+        """Whether someone else has put a better plan in place of the kept one. It is then the best one."""
+        cells = self._others()
+        penalty = self._checked(cells, trial) if cells else None
+        if not cells or penalty is None or (*self._weeks.not_kept(cells), penalty) >= rank:
+            return False
+        self._keep(cells)
+        self._cells, self._rank, self.penalty = cells, (*self._weeks.not_kept(cells), penalty), penalty
+        self._progress.warn(f"there is a better plan than that of this search in its folder, which is kept: its penalty is {penalty}")
+        return True
 
     def _checked(self, cells: Sequence[Cell], folder: Path) -> Optional[int]:
         """The penalty of the rosters of the known weeks, by `inrc2pb extend`; None if one breaks a hard rule."""

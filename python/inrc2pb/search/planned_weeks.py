@@ -2,19 +2,19 @@
 
 from dataclasses import dataclass, field, replace
 from pathlib import Path
-from typing import Dict, Iterator, List, NamedTuple, Optional, Sequence, Tuple
+from typing import Callable, Dict, Iterator, List, NamedTuple, Optional, Sequence, Tuple
 
 from ..judging import days_away
 from ..judging.absences import absences_of, in_words, way_out, working_while_away
+from ..judging.breaches import read_held
 from ..judging.days_away import DaysAway
-from ..judging.given import read_given, with_given
-from ..judging.limits import exceeded, excess, limits_in_words, limits_way_out
-from ..week.records import Cell, History, Scenario, Solution, Week, WeekData
-from ..week.files import check_week_number, check_weeks_left, read_history, read_scenario, read_week, write_history, write_solution
-from ..judging.misfits import read_held
+from ..judging.limits import exceeded, excess, limits_in_words, limits_way_out, read_given, with_given
 from ..judging.next_history import next_history
-from ..rows.plan import WEEK_DAYS, Calls, Plan
 from ..programs.program import WeekFiles
+from ..rows.plan import Calls, Plan
+from ..week.files import check_week_number, check_weeks_left, history_text, read_history, read_scenario, read_week, solution_text
+from ..week.records import WEEK_DAYS, Cell, History, NurseDay, Scenario, Solution, Week, WeekData, in_week, week_name
+from ..week.writing import write_text
 
 
 @dataclass(frozen=True)
@@ -35,6 +35,12 @@ class PeriodFiles:
     def all(self) -> Tuple[Path, ...]:
         """All files that are read."""
         return (self.scenario, self.history, *self.weeks, *self.fixes.values(), *([self.given] if self.given else []))
+
+    def copied(self, copy: Callable[[Path], Path]) -> "PeriodFiles":
+        """The same period with copies of its files."""
+        scenario, history, given = copy(self.scenario), copy(self.history), copy(self.given) if self.given else None
+        fixes = {index: copy(path) for index, path in self.fixes.items()}
+        return replace(self, scenario=scenario, history=history, weeks=[copy(path) for path in self.weeks], fixes=fixes, given=given)
 
 
 class WrittenWeek(NamedTuple):
@@ -83,20 +89,22 @@ class PlannedWeeks:
     def week_files(self, number: int, history: Optional[Path] = None) -> WeekFiles:
         """The files of a week. Its history is the given one of the first week, or another."""
         files, index = self.files, number - self.numbers[0]
-        return WeekFiles(files.scenario, history or files.history, files.weeks[index], files.fixes.get(index), files.early, files.given)
+        return WeekFiles(
+            files.scenario, history or files.history, files.weeks[index], fix=files.fixes.get(index), early=files.early, given=files.given
+        )
 
     def options(self) -> List[str]:
         """The files of all weeks as options of `inrc2pb-bound`, which counts them from 1."""
         files = self.files
         weeks = [word for path in files.weeks for word in ("--week", str(path))]
         fixes = [word for index, path in files.fixes.items() for word in ("--fix", f"{index + 1}={path}")]
-        return ["--sce", str(files.scenario), "--his", str(files.history), *weeks, *fixes, *["--early"] * files.early]
+        return ["--sce", str(files.scenario), "--his", str(files.history), *weeks, *fixes, *(["--early"] if files.early else [])]
 
     def each(self, cells: Sequence[Cell]) -> Iterator[Tuple[Week, Tuple[Cell, ...]]]:
         """Each week with its history after the weeks before, and its assignments."""
         history = self.history
         for index, data in enumerate(self.data):
-            of_week = _rows_of(index, cells)
+            of_week = in_week(cells, index)
             yield Week(self.scenario, history, data), of_week
             if history.week + 1 < self.scenario.weeks:
                 history = next_history(self.scenario, history, of_week)
@@ -106,7 +114,7 @@ class PlannedWeeks:
         weeks = list(self.each(cells)) if any(data.limits or absences_of(data) for data in self.data) else []
         broken = sum(len(working_while_away(absences_of(week.data), of_week)) for week, of_week in weeks)
         above = sum(excess(exceeded(week, week.data.limits, of_week)) for week, of_week in weeks)
-        shifts = {(cell.nurse, cell.day): cell.shift for cell in cells}
+        shifts = {NurseDay(cell.nurse, cell.day): cell.shift for cell in cells}
         return broken, above + days_away.excess(self.scenario, self.history, self.beside, shifts)
 
     def warnings(self, cells: Sequence[Cell]) -> Iterator[str]:
@@ -114,30 +122,36 @@ class PlannedWeeks:
         for index, (week, of_week) in enumerate(self.each(cells)):
             broken, over = working_while_away(absences_of(week.data), of_week), exceeded(week, week.data.limits, of_week)
             if broken:
-                yield f"week {week.history.week + 1}: no roster was found that keeps every absence: {in_words(broken)}"
-                yield f"week {week.history.week + 1}: {way_out(self.scenario, _rows_of(index, self.held), broken)}"
+                yield f"{week_name(week.history.week)}: no roster was found that keeps every absence: {in_words(broken)}"
+                yield f"{week_name(week.history.week)}: {way_out(self.scenario, in_week(self.held, index), broken)}"
             if over:
-                yield f"week {week.history.week + 1}: no plan was found that keeps every limit: {limits_in_words(over, of_week)}"
-                yield f"week {week.history.week + 1}: {limits_way_out(week, over, of_week)}"
+                yield f"{week_name(week.history.week)}: no plan was found that keeps every limit: {limits_in_words(over, of_week)}"
+                yield f"{week_name(week.history.week)}: {limits_way_out(week, over, of_week)}"
 
-    def write(self, cells: Sequence[Cell], folder: Path) -> List[WrittenWeek]:
-        """Writes the weeks' rosters, of assignments whose days count from the first week, and the history after each week."""
-        history, path, written = self.history, self.files.history, []
+    def texts(self, cells: Sequence[Cell]) -> Dict[str, str]:
+        """The weeks' rosters, of assignments whose days count from the first week, and the history after each week, by file names."""
+        history, found = self.history, {}
         for index, number in enumerate(self.numbers):
-            rows = _rows_of(index, cells)
-            roster = folder / roster_name(number)
-            write_solution(roster, Solution(number, self.scenario.name, rows))
-            written.append(WrittenWeek(self.week_files(number, path), roster))
+            rows = in_week(cells, index)
+            found[roster_name(number)] = solution_text(Solution(number, self.scenario.name, rows))
             if number + 1 < self.scenario.weeks:
                 history = next_history(self.scenario, history, rows)
-                path = folder / history_name(number + 1)
-                write_history(path, history)
-        return written
+                found[history_name(number + 1)] = history_text(history)
+        return found
 
+    def written(self, folder: Path) -> List[WrittenWeek]:
+        """The weeks with their rosters and histories in this folder."""
+        first = self.numbers[0]
+        histories = [self.files.history, *(folder / history_name(number) for number in self.numbers if number != first)]
+        return [
+            WrittenWeek(self.week_files(number, history), folder / roster_name(number)) for number, history in zip(self.numbers, histories)
+        ]
 
-def _rows_of(week: int, cells: Sequence[Cell]) -> Tuple[Cell, ...]:
-    """The assignments of the week at this index, with days from its Monday."""
-    return tuple(cell._replace(day=cell.day % WEEK_DAYS) for cell in cells if cell.day // WEEK_DAYS == week)
+    def write(self, cells: Sequence[Cell], folder: Path) -> List[WrittenWeek]:
+        """Writes the files of `texts`."""
+        for name, text in self.texts(cells).items():
+            write_text(folder / name, text)
+        return self.written(folder)
 
 
 def roster_name(number: int) -> str:

@@ -1,4 +1,4 @@
-"""A search for the best roster of a week: over the rows of its nurses, or by a user's own solver."""
+"""A search for the best roster of a week, over the rows of its nurses."""
 
 from pathlib import Path
 from typing import List, Optional, Sequence
@@ -6,19 +6,17 @@ from typing import List, Optional, Sequence
 from .best_roster import BestRoster
 from .bounds import PROOF_SECONDS, STOPPED_SECONDS, Bound, Bounds, week_options
 from ..programs.clock import Clock
-from ..week.faults import Misuse, ProgramFault, page
-from ..week.files import read_solution
+from ..week.faults import ProgramFault, page
 from ..week.records import Cell, Week
-from ..solvers.linear_solvers import INSTALL, LinearSolvers, installed
+from ..solvers.linear_solvers import INSTALL, LinearSolver, is_installed
 from ..rows.plan import FREE, ONLY_ABSENCES, STRICT, Plan, Points
 from ..rows.pricing import NurseWeek
 from ..programs.processes import Processes
-from ..programs.program import BROKEN_RULE, FAULT, NO_ROSTER, WeekFiles, decode
+from ..programs.program import NO_ROSTER, WeekFiles
 from ..programs.progress import Progress
 from ..rows.row_run import RowRun
 from ..judging.runs import NEVER
 from ..rows.skills import rows_of, staffed
-from ..solvers.solvers import Solver
 
 
 class WeekSearch:
@@ -30,18 +28,16 @@ class WeekSearch:
         self._files, self._week, self._held, self._best = files, week, held, best
         self._clock, self._progress, self._seed = clock, progress, seed
         self._processes = Processes()
-        self._asks = False
         self._bound: Optional[Bound] = None
         # What claims without a proof of inrc2pb-bound that no roster that keeps all absences and limits costs less.
         self.claimed_by = ""
+        # What has proved that no roster exists, and a line about the claim of a user's own solver: none judges one here.
+        self.none_by, self.verdict = "", ""
 
     def interrupt(self) -> None:
-        """Ends the search as the user asks: now, or as soon as a solver of the user has printed what it has."""
+        """Ends the search now."""
         self._clock.stop()
-        if self._asks and self._best.penalty is None:
-            self._processes.ask_to_end()
-        else:
-            self._processes.stop()
+        self._processes.stop()
 
     @property
     def bound(self) -> Optional[Bound]:
@@ -53,20 +49,18 @@ class WeekSearch:
         """Whether time is left."""
         return self._clock.left() > 0
 
-    # ---- over rows
-
-    def over_rows(self, folder: Path, start: Optional[Sequence[Cell]], proof: Optional[Path]) -> None:
-        """Searches over the rows of the nurses. `proof` is the file for the certificate of the bound. Without a roster it is a ProgramFault
+    def run(self, folder: Path, start: Optional[Sequence[Cell]], proof: Optional[Path]) -> None:
+        """Searches over the rows of the nurses. `proof` is the file for the certificate of the bound. Raises ProgramFault without a roster,
         if none exists.
 
         Rows keep all absences and limits, unless no roster can.
         """
         plan = Plan.of(self._week.scenario, self._week.history, [self._week.data], self._files.early, self._held)
         bounds = Bounds(week_options(self._files), plan.scenario.name, proof, self._progress.warn)
-        names = installed()
-        if not names:
-            self._progress.warn(f"there is no cbc, clp or glpsol, so this is only a first roster: {INSTALL}")
-        solver = LinearSolvers(names, self._processes, folder, self._progress.warn, resident=True) if names else None
+        has_solver = is_installed()
+        if not has_solver:
+            self._progress.warn(f"there is no cbc, so this is only a first roster: {INSTALL}")
+        solver = LinearSolver(self._processes, folder, self._progress.warn) if has_solver else None
         runs: List[RowRun] = []
         try:
             self._run_rows(plan, solver, runs, start)
@@ -82,7 +76,7 @@ class WeekSearch:
             self._take_bound(runs, bounds)
         self._judge(runs[-1], bounds)
 
-    def _run_rows(self, plan: Plan, solver: Optional[LinearSolvers], runs: List[RowRun], start: Optional[Sequence[Cell]]) -> None:
+    def _run_rows(self, plan: Plan, solver: Optional[LinearSolver], runs: List[RowRun], start: Optional[Sequence[Cell]]) -> None:
         """One search over the rows of the plan, which becomes the last of the runs."""
 
         def offer(rows: List[NurseWeek], finder: str) -> Optional[Points]:
@@ -93,7 +87,7 @@ class WeekSearch:
             if run.lower_bound is not None and (not plan.asks or (plan.keeping == STRICT and self._best.keeps_all)):
                 self._progress.bound_rose(run.lower_bound)
 
-        run = RowRun(plan, solver, self._clock, offer, heard, rows_of(plan, start) if start else None, self._seed)
+        run = RowRun(plan, solver, self._clock, offer=offer, heard=heard, start=rows_of(plan, start) if start else None, seed=self._seed)
         runs.append(run)
         run.run()
 
@@ -108,7 +102,7 @@ class WeekSearch:
             self._progress.warn(f"the lower bound {self._bound.points} ({self._bound.by}) is above the penalty of a roster: it is wrong")
 
     def _judge(self, run: RowRun, bounds: Bounds) -> None:
-        """A proof that no roster exists is a ProgramFault."""
+        """Raises ProgramFault if it is proved that no roster exists."""
         if self._best.penalty is not None:
             return
         held = f" and has the rows of {self._files.fix}" if self._files.fix else ""
@@ -117,31 +111,5 @@ class WeekSearch:
             raise ProgramFault(NO_ROSTER, f"no roster keeps the hard rules{held}: those of {run.without_row} contradict one another")
         by = bounds.no_roster(run.plan.hard_only(), run.minimums, PROOF_SECONDS) if run.minimums else None
         if by:
+            self.none_by = by
             raise ProgramFault(NO_ROSTER, f"no roster keeps the hard rules{held} ({by}): {why}")
-
-    # ---- by a user's own solver
-
-    def by_solver(self, solver: Solver, folder: Path) -> None:
-        """Lets a solver of the user solve the whole week once."""
-        self._asks = True
-        outcome = solver.solve(self._files, self._clock.left(), folder, self._processes)
-        if not outcome.answer:
-            if self._clock.stopped:
-                return
-            raise Misuse(f"the solver {solver.name} has no answer: {outcome.fault}; try its command by hand")
-        path = folder / "answer.txt"
-        try:
-            report = decode(self._files, outcome.answer, path)
-        except ProgramFault as fault:
-            if fault.status in (FAULT, BROKEN_RULE):
-                raise Misuse(f"the solver {solver.name}: its answer was rejected: {fault.message}") from fault
-            if fault.status != NO_ROSTER:
-                raise
-            if "UNSATISFIABLE" in fault.message and self._best.penalty is None:
-                raise ProgramFault(
-                    NO_ROSTER, f"no roster keeps the hard rules, says {solver.name}: {page('ward_reference.md')} shows how to find out why"
-                ) from fault
-            return
-        self._best.offer(read_solution(path).cells, solver.name)
-        if report.optimal and self._best.penalty == report.penalty:
-            self._bound, self.claimed_by = Bound(report.penalty, solver.name), solver.name

@@ -108,7 +108,11 @@ def _short(week: Week, cells: Sequence[Cell], place: Place) -> ShortPlace:
     there = {cell.nurse for cell in cells if Place(cell.day, cell.shift, cell.skill) == place}
     known = [nurse for nurse, of_ward in week.scenario.nurses.items() if place.skill in of_ward.skills]
     owners = tuple(
-        Owner(nurse, Absence(nurse, place.day, None) in away, hindrance(week.scenario, week.history, away, cells, nurse, place))
+        Owner(
+            nurse,
+            Absence(nurse, place.day, None) in away,
+            hindrance(week.scenario, week.history, away, cells=cells, nurse=nurse, place=place),
+        )
         for nurse in known
         if nurse not in there
     )

@@ -2,27 +2,33 @@
 
 import datetime
 import re
-from typing import Collection, Dict, Iterator, List, NamedTuple, Optional, Set, Tuple
+from typing import Dict, Iterator, List, NamedTuple, Optional, Set, Tuple
 
-from ..judging.absences import is_broken_by, readable
+from ..judging.absences import is_broken_by
+from ..week.dates import DAY, written_dates
 from ..week.faults import Gathering
-from ..week.hints import plural
 from ..week.records import DAYS, Absence, Cell, Place, Request, Requirement, Scenario
-from .head_dates import date_of, date_shown, day_of_head, week_of_head
+from ..week.slots import MAX_NUMBER
+from ..week.words import plural, readable
 from .sheet_files import Book
 from .sheet_rows import SheetCell, SheetRow, Table, about
-from ..week.slots import MAX_NUMBER
 from .ward_sheets import Ward, table_of
 
 # Reasons to be away: those that count as work, and those for which a contract does not run, as before a nurse comes or after she leaves.
 AWAY = ("away", "ill", "leave", "unpaid", "training")
 COUNTED, NOT_EMPLOYED = ("ill", "leave", "training"), ("away", "unpaid")
 _WISH, _NO_WISH = ("wish", "wish off", "off?"), ("", "-")
+# A promised day off: a plan keeps it, and it counts as any other day off.
+PROMISED_OFF = "off"
 _NO_SHIFT = re.compile(r"(not|no)[ _-]*(\S.*)", re.IGNORECASE)
 _PAIR = re.compile(r"\(?([0-9]{1,4}) ?(\+|,|\.\.) ?([0-9]{1,4})\)?")
 _RANGE = re.compile(r"([0-9]{1,4}) ?(?:[-\u2013/.,]|to) ?([0-9]{1,4})")
 # Half a nurse, or two numbers.
 _DECIMAL = re.compile(r"([0-9]{1,4})[.,]([0-9]{1,4})")
+_OTHER_DATE = re.compile(r"\b([0-9]{1,2})[/-]([0-9]{1,2})[/-]([0-9]{4})\b")
+# A date as a spreadsheet counts it, from 1954 on.
+_SERIAL = re.compile(r"\b[2-9][0-9]{4}\b")
+_FIRST_YEAR = 1954
 # What else may help if a name in the first cell of a row is not known.
 _NO_ROW = ", or delete the row"
 
@@ -35,8 +41,8 @@ class Held(NamedTuple):
 
 
 class WeekSheet:
-    """What the sheets say of one week. `reasons` has the word that says why a nurse is away on a day, and `holidays` are days with numbers
-    of their own, unlike those of all weeks."""
+    """What the sheets say of one week. `reasons` has the word that says why a nurse is away on a day, `promised` the nurses' days off that
+    were promised, and `holidays` are days with numbers of their own, unlike those of all weeks."""
 
     def __init__(self) -> None:
         self.requirements: Dict[Place, Requirement] = {}
@@ -44,6 +50,7 @@ class WeekSheet:
         self.absences: List[Absence] = []
         self.held: List[Held] = []
         self.reasons: Dict[Tuple[str, int], str] = {}
+        self.promised: Set[Tuple[str, int]] = set()
         self.holidays: Set[int] = set()
 
 
@@ -200,7 +207,7 @@ def _pair_for(text: str) -> str:
 
 
 def _read_day(cell: SheetCell, nurse: str, index: int, scenario: Scenario, weeks: List[WeekSheet]) -> None:
-    """One cell of the plan: a wish, an absence, or a shift that is held."""
+    """One cell of the plan: a wish, an absence, a promised day off, or a shift that is held."""
     week, day = weeks[index // len(DAYS)], index % len(DAYS)
     text = cell.text.casefold()
     if text in _NO_WISH:
@@ -210,6 +217,9 @@ def _read_day(cell: SheetCell, nurse: str, index: int, scenario: Scenario, weeks
     elif text in AWAY:
         week.absences.append(Absence(nurse, day, None))
         week.reasons[nurse, day] = text
+    elif text == PROMISED_OFF:
+        week.absences.append(Absence(nurse, day, None))
+        week.promised.add((nurse, day))
     elif _no_shift(cell.text, scenario):
         parts = cell._replace(text=_no_shift(cell.text, scenario)).parts()
         week.wishes += [Request(nurse, part.known("shift type", scenario.shift_types), day) for part in parts]
@@ -228,7 +238,7 @@ def _no_shift(text: str, scenario: Scenario) -> str:
 def _held(cell: SheetCell, nurse: str, day: int, week: WeekSheet, scenario: Scenario) -> Held:
     """A shift, or a shift and a skill."""
     named, _, with_skill = (part.strip() for part in cell.text.partition("/"))
-    others = ("wish", *AWAY, f"no {readable(next(iter(scenario.shift_types)))}")
+    others = ("wish", PROMISED_OFF, *AWAY, f"no {readable(next(iter(scenario.shift_types)))}")
     shift = cell._replace(text=named).known("shift type", scenario.shift_types, others)
     own = scenario.nurses[nurse].skills
     if with_skill:
@@ -254,7 +264,7 @@ def _check_held(scenario: Scenario, week: WeekSheet, held: Held, day: int, last:
     nurse, shift = held.row.nurse, held.row.shift
     before, on = last[nurse]
     last[nurse] = (shift, day)
-    if before is not None and on == day - 1 and shift in scenario.shift_types[before].forbidden_next:
+    if before is not None and on == day - 1 and scenario.forbids(before, shift):
         held.cell.fault(f"{readable(nurse)} may not work {readable(shift)} on the day after {readable(before)}: change one of the two")
     if is_broken_by(week.absences, held.row):
         held.cell.fault(
@@ -262,7 +272,50 @@ def _check_held(scenario: Scenario, week: WeekSheet, held: Held, day: int, last:
         )
 
 
-def days_away(weeks: List[WeekSheet], reasons: Collection[str]) -> Iterator[Tuple[str, int]]:
-    """The nurses who are away for one of these reasons, and on how many days."""
-    nurses = [nurse for week in weeks for (nurse, _), reason in week.reasons.items() if reason in reasons]
-    yield from ((nurse, nurses.count(nurse)) for nurse in dict.fromkeys(nurses))
+# ---- days and dates in heads
+
+
+def day_of_head(cell: SheetCell) -> int:
+    """The day of the week with which a head begins, as Wed or Wednesday 1."""
+    short = cell.text[:3].casefold()
+    for day, name in enumerate(DAYS):
+        if short == name.casefold():
+            return day
+    whole = ", or whole dates such as 2026-11-30" if re.search("[0-9]", cell.text) else ""
+    cell.fault(f"'{cell.text}' is no day of the week: write one of {','.join(DAYS)}{whole}, or begin the head with #")
+
+
+def week_of_head(cell: SheetCell) -> Optional[int]:
+    """The number with which a head such as `Wed 1` ends, if it has one."""
+    found = re.search("[0-9]{1,2}$", cell.text)
+    return int(found.group()) if found else None
+
+
+def date_of(cell: SheetCell) -> Optional[datetime.date]:
+    """The date in a head: written out, or as a number of a spreadsheet."""
+    written = next((date for date in written_dates(cell.text) if date.year is not None), None)
+    serial, other = _SERIAL.search(cell.text), _OTHER_DATE.search(cell.text)
+    if other and not written:
+        cell.fault(f"'{cell.text}' may have the day or the month first: write {_year_first(*map(int, other.groups()))}")
+    if not written:
+        return cell.book.day_zero + int(serial.group()) * DAY if serial else None
+    try:
+        date = written.date()
+    except ValueError:
+        cell.fault(f"there is no day {written.text}: write a date such as 2026-11-30")
+    if date.year < _FIRST_YEAR:
+        cell.fault(f"a spreadsheet makes {date} of the number of a day: write whole dates, such as 2026-11-30")
+    return date
+
+
+def date_shown(cell: SheetCell, date: Optional[datetime.date]) -> str:
+    """What a spreadsheet shows in a cell with this date, if it has one."""
+    return str(date) if date and cell.text.isdecimal() else cell.text
+
+
+def _year_first(first: int, second: int, year: int) -> str:
+    """The date that has its day or its month first."""
+    for month, day in ((second, first), (first, second)):
+        if month <= 12 < day:
+            return f"{year}-{month:02}-{day:02}"
+    return f"{year}-{second:02}-{first:02} or {year}-{first:02}-{second:02}"

@@ -1,12 +1,23 @@
-"""The facts of a spreadsheet: absences, maxima that are never exceeded, and why nurses are away."""
+"""The facts of a spreadsheet: absences, maxima that are never exceeded, why nurses are away, and contracts of those who are away: in
+proportion to the days on which they run, and without a limit of days off that leave exceeds. Warnings of what only the look of a cell says.
 
-from typing import List
+A ward's file has one contract for a whole period, so a nurse for whom another one counts gets a contract of her own.
+"""
 
-from ..week.facts import SHIFTS, WEEKENDS, Charged, Choice, Claim
-from ..week.reasons import DayAway, Reasons
-from ..week.records import History
-from .plan_sheets import WeekSheet
+from dataclasses import replace
+from typing import Collection, Iterator, List, Sequence, Set, Tuple
+
+from ..judging.leave import PartContract
+from ..week.facts import SHIFTS, WEEKENDS, Charged, Choice, Claim, DayAway, Reasons
+from ..week.records import WEEK_DAYS, Contract, History, Limits
+from ..week.slots import MAX_CONTRACTS, MAX_NUMBER
+from .plan_sheets import NOT_EMPLOYED, Days, WeekSheet
+from .sheet_files import Book
+from .sheet_rows import letters_of, tidy
 from .ward_sheets import Ward
+
+# The word for days before a nurse comes or after she leaves.
+_AWAY = "away"
 
 
 def absence_reasons(weeks: List[WeekSheet]) -> Reasons:
@@ -26,3 +37,75 @@ def claims_of(ward: Ward, history: History, weeks: List[WeekSheet]) -> List[Clai
         over = {SHIFTS: past.assignments - contract.assignments.maximum, WEEKENDS: past.weekends - contract.max_weekends}
         found += [Claim(Charged(kind, nurse, max(0, over.get(kind, 0)))) for kind in sorted(ward.kept[contract.name])]
     return found
+
+
+def with_part_contracts(ward: Ward, weeks: Sequence[WeekSheet]) -> Ward:
+    """The ward with a contract of its own for each nurse who is not employed on some days of the plan, or who is away for more days in a
+    row than her contract has days off in a row, or comes or leaves. A ward that has the most contracts already keeps these."""
+    contracts, nurses, kept = dict(ward.scenario.contracts), dict(ward.scenario.nurses), dict(ward.kept)
+    for name, nurse in ward.scenario.nurses.items():
+        own = _own_contract(ward, name, weeks)
+        while contracts.get(own.name, own) != own:
+            own = replace(own, name=f"{own.name}_")
+        if own.name in contracts or len(contracts) < MAX_CONTRACTS:
+            contracts[own.name], kept[own.name] = own, ward.kept[nurse.contract]
+            nurses[name] = replace(nurse, contract=own.name)
+    return ward._replace(scenario=replace(ward.scenario, contracts=contracts, nurses=nurses), kept=kept)
+
+
+def _own_contract(ward: Ward, nurse: str, weeks: Sequence[WeekSheet]) -> Contract:
+    """The contract that counts for a nurse. One that differs has a name that says so."""
+    contract = ward.scenario.contract_of(nurse)
+    total = WEEK_DAYS * ward.scenario.weeks
+    gone = sum(word in NOT_EMPLOYED for week in weeks for (who, _), word in week.reasons.items() if who == nurse)
+    part = PartContract(contract.name)
+    if gone:
+        minimum, maximum = contract.assignments
+        most = maximum if maximum >= min(total, MAX_NUMBER) else -(-maximum * (total - gone) // total)
+        contract = replace(contract, assignments=Limits(minimum * (total - gone) // total, most))
+        part = part._replace(days=total - gone, total=total)
+    if _longest_absence(ward, nurse, weeks) > contract.days_off.maximum or _comes_or_leaves(nurse, weeks):
+        contract = replace(contract, days_off=Limits(contract.days_off.minimum, MAX_NUMBER))
+        part = part._replace(any_days_off=True)
+    return replace(contract, name=part.name)
+
+
+def _comes_or_leaves(nurse: str, weeks: Sequence[WeekSheet]) -> bool:
+    """Whether the nurse is away on the first or on the last day of the plan: her days off beside these days are no row."""
+    return _AWAY in (weeks[0].reasons.get((nurse, 0)), weeks[-1].reasons.get((nurse, WEEK_DAYS - 1)))
+
+
+def _longest_absence(ward: Ward, nurse: str, weeks: Sequence[WeekSheet]) -> int:
+    """The most days in a row on which a nurse is away, with the days off before the plan."""
+    away = [(number, one) for number, week in enumerate(weeks) for one in week.absences if (one.nurse, one.shift) == (nurse, None)]
+    days: Set[int] = {WEEK_DAYS * number + one.day for number, one in away}
+    longest, run = 0, ward.history.nurses[nurse].days_off
+    for day in range(WEEK_DAYS * len(weeks)):
+        run = run + 1 if day in days else 0
+        longest = max(longest, run)
+    return longest
+
+
+def look_warnings(book: Book, days: Days) -> Iterator[str]:
+    """The warnings of a spreadsheet. Colors that most nurses of a day or most days of a nurse have are for the eye only."""
+    for sheet, marks in book.marks.items():
+        for row, column in sorted(marks.struck):
+            text = tidy(book.sheets[sheet][row][column])
+            yield f"sheet {sheet}, row {row + 1}, column {letters_of(column)}: '{text}' is struck through, and counts: delete it"
+    colored = book.marks["plan"].colored if "plan" in book.marks else ()
+    for row, columns in _colored_alone(days, colored):
+        where = ", ".join(map(letters_of, columns))
+        yield f"sheet plan, row {row + 1}, column {where}: a color without a word counts for nothing: write leave or wish, for example"
+
+
+def _colored_alone(days: Days, colored: Collection[Tuple[int, int]]) -> Iterator[Tuple[int, List[int]]]:
+    """The rows of nurses, and the columns of their empty cells that have a color, unlike most cells beside and above them."""
+    rows, columns = [row.number - 1 for row in days.plan.rows], [head.column for head in days.columns]
+    by_row = {row: sum((row, column) in colored for column in columns) for row in rows}
+    by_column = {column: sum((row, column) in colored for row in rows) for column in columns}
+    for nurse in days.plan.rows:
+        row = nurse.number - 1
+        marked = [column for column in columns if (row, column) in colored and not nurse.at(column).text]
+        alone = [column for column in marked if 2 * by_row[row] <= len(columns) and 2 * by_column[column] <= len(rows)]
+        if alone:
+            yield row, alone

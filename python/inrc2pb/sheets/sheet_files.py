@@ -25,10 +25,18 @@ _SEPARATORS = (";", ",", "\t")
 _OLD_EXCEL, _ZIP = b"\xd0\xcf\x11\xe0", b"PK"
 # The errors of the library for wrong bytes, and for elements that are nested too deep. OSError is for a place before the file's begin.
 _DAMAGED = (
-    zipfile.BadZipFile, zlib.error, struct.error, ElementTree.ParseError, expat.ExpatError, LookupError, ValueError, EOFError,
+    zipfile.BadZipFile,
+    zlib.error,
+    struct.error,
+    ElementTree.ParseError,
+    expat.ExpatError,
+    LookupError,
+    ValueError,
+    EOFError,
     NotImplementedError,
-    RecursionError, OSError,
-)  # fmt: skip
+    RecursionError,
+    OSError,
+)
 
 
 class Book(NamedTuple):

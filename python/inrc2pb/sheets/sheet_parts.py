@@ -10,6 +10,11 @@ from xml.parsers import expat
 from ..week.faults import FileFault
 
 MAX_BYTES = 33_554_432
+# The most elements of a part, with their attributes: the largest ward has two elements for each day of 1000 nurses in 52 weeks. A small
+# file can have so many that are empty that they need all memory.
+MAX_ELEMENTS = 2_000_000
+# A tag, or a text, of more bytes than a program writes: all attributes of a tag are read before they can be counted.
+_LONG = re.compile(rb"<[^<]{1000000}")
 MAX_ROWS, MAX_COLUMNS = 5000, 1000
 # The sheets of a ward. Others are not read.
 SHEETS = ("shifts", "contracts", "nurses", "needs", "plan")
@@ -57,10 +62,25 @@ class Parts:
             data = part.read(MAX_BYTES + 1)
         if len(data) > MAX_BYTES:
             raise FileFault(self._path, 0, f"the spreadsheet has more than {MAX_BYTES} bytes of XML: delete what is no part of the ward")
-        checking = expat.ParserCreate()
-        checking.StartDoctypeDeclHandler = self._refuse
-        checking.Parse(data, True)
+        self._check(data)
         return ElementTree.fromstring(data)
+
+    def _check(self, data: bytes) -> None:
+        """The part has no document type, and not too many elements."""
+        left = MAX_ELEMENTS
+        many = f"the spreadsheet has more than {MAX_ELEMENTS} elements of XML: delete what is no part of the ward"
+
+        def count(_name: str, attributes: Dict[str, str]) -> None:
+            nonlocal left
+            left -= 1 + len(attributes)
+            if left < 0:
+                raise FileFault(self._path, 0, many)
+
+        if _LONG.search(data):
+            raise FileFault(self._path, 0, many)
+        checking = expat.ParserCreate()
+        checking.StartDoctypeDeclHandler, checking.StartElementHandler = self._refuse, count
+        checking.Parse(data, True)
 
     def _refuse(self, *_words: object) -> None:
         raise FileFault(

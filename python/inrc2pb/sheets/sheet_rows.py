@@ -4,12 +4,11 @@ import re
 import unicodedata
 from typing import Collection, Dict, Iterator, List, NamedTuple, NoReturn, Optional, Sequence, Tuple
 
-from ..judging.absences import readable
 from ..week.faults import FileFault, Gathering
-from ..week.hints import quoted
+from ..week.slots import MAX_NUMBER, SIGNS, closest, did_you_mean
+from ..week.words import quoted, readable
 from .sheet_files import Book
 from .sheet_parts import Rows
-from ..week.slots import MAX_NUMBER, SIGNS, closest, did_you_mean
 
 _SEVERAL = re.compile(r"[,;/]")
 # Signs without a width, which a text from a page or a message may have.
@@ -74,9 +73,8 @@ class SheetCell(NamedTuple):
             return self._replace(text=str(total)).number(default, most)
         digits = re.sub(r"[.,](?!000$)0*$", "", self.text)
         if not re.fullmatch("[0-9]{1,9}", digits):
-            if not self.text:
-                self.fault("the cell is empty: write a whole number")
-            self.fault(f"'{self.text}' is no whole number: {self._advice(pair, ', or leave the cell empty' * (default is not None))}")
+            otherwise = ", or leave the cell empty" if default is not None else ""
+            self.fault(f"'{self.text}' is no whole number: {self._advice(pair, otherwise)}")
         if int(digits) > MAX_NUMBER:
             self.fault(f"{digits} is more than {most}: a spreadsheet makes such a number of 2-3 or 2/3, so write {pair or 'one number'}")
         if int(digits) > most:

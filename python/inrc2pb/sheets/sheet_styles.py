@@ -37,9 +37,8 @@ def xlsx_looks(parts: Parts) -> List[Look]:
     styles = parts.read("xl/styles.xml")
     struck = [is_struck_in_xlsx(font) for font in _children(styles, "fonts", "font")]
     colored = [any(_is_solid(part) for part in fill) for fill in _children(styles, "fills", "fill")]
-    return [
-        Look(_at(struck, one.get("fontId", "")), _at(colored, one.get("fillId", ""))) for one in _children(styles, "cellXfs", "xf")
-    ]  # fmt: skip
+    formats = _children(styles, "cellXfs", "xf")
+    return [Look(_at(struck, of_cell.get("fontId", "")), _at(colored, of_cell.get("fillId", ""))) for of_cell in formats]
 
 
 def is_struck_in_xlsx(text: Element) -> bool:

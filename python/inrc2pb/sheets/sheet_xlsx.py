@@ -9,8 +9,9 @@ from .sheet_parts import MAIN_SPACES, SHEETS, Grid, Marks, Parts, Rows, formula_
 from .sheet_styles import Look, is_struck_in_xlsx, xlsx_looks
 
 _LINK = (
-    "{http://schemas.openxmlformats.org/officeDocument/2006/relationships}id", "{http://purl.oclc.org/ooxml/officeDocument/relationships}id"
-)  # fmt: skip
+    "{http://schemas.openxmlformats.org/officeDocument/2006/relationships}id",
+    "{http://purl.oclc.org/ooxml/officeDocument/relationships}id",
+)
 _RANGE = re.compile("([A-Z]{1,3})([0-9]{1,7}):([A-Z]{1,3})([0-9]{1,7})")
 _DAY_ZERO, _DAY_ZERO_1904 = datetime.date(1899, 12, 30), datetime.date(1904, 1, 1)
 

@@ -3,14 +3,14 @@
 import re
 from typing import Collection, Dict, Iterator, List, NamedTuple, Optional, Set, Tuple
 
-from ..judging.absences import readable
-from ..week.facts import SHIFTS, WEEKENDS, WORK_DAYS
 from ..week.dates import Times, times_of
+from ..week.facts import SHIFTS, WEEKENDS, WORK_DAYS
 from ..week.faults import Gathering, Misuse
 from ..week.records import DAYS, Contract, History, Limits, Nurse, NurseHistory, Scenario, ShiftType
+from ..week.slots import MAX_CONTRACTS, MAX_NUMBER, MAX_NURSES, MAX_SHIFTS, MAX_SKILLS, closest
+from ..week.words import readable
 from .sheet_files import Book
 from .sheet_rows import KEPT, SheetCell, SheetRow, Table
-from ..week.slots import MAX_CONTRACTS, MAX_NUMBER, MAX_NURSES, MAX_SHIFTS, MAX_SKILLS, closest
 
 _WEEKDAYS = ("Monday", "Tuesday", "Wednesday", "Thursday", "Friday", "Saturday", "Sunday")
 NIGHT = re.compile("night|nacht|nuit|noche|notte|noite", re.IGNORECASE)
@@ -18,14 +18,15 @@ _YES, _NO = ("1", "yes", "x", "true"), ("", "0", "no", "-", "false")
 _HEADS = {
     "shifts": (("shift",), ("min in a row", "max in a row", "not followed by", "times")),
     "contracts": (
-        ("contract",), ("shifts min", "shifts max", "work min", "work max", "off min", "off max", "weekends", "complete weekends"),
+        ("contract",),
+        tuple("shifts min,shifts max,work min,work max,off min,off max,weekends,complete weekends".split(",")),
     ),
     "nurses": (
-        ("nurse", "contract", "skills"), ("never", "always off", "worked", "worked weekends", "last shift", "days on it", "days of work",
-        "days off"),
+        ("nurse", "contract", "skills"),
+        tuple("never,always off,worked,worked weekends,last shift,days on it,days of work,days off".split(",")),
     ),
     "needs": (("shift", "skill", *(day.casefold() for day in DAYS)), ("week",)),
-}  # fmt: skip
+}
 
 
 # Words with a meaning of their own in cells and files, so no shift type has such a name.
@@ -66,7 +67,7 @@ def read_ward(book: Book, name: str, weeks: int) -> Ward:
                     [part.known("shift type", shift_types) for part in row.of("never").parts()],
                     _days_off(row.of("always off")),
                 )
-    scenario = Scenario(name, weeks, tuple(skills.cells), shift_types, contracts, nurses)
+    scenario = Scenario(name, weeks, tuple(skills.cells), shift_types=shift_types, contracts=contracts, nurses=nurses)
     _check_number(book, "nurses", "nurses", len(nurses), MAX_NURSES)
     _check_number(book, "nurses", "skills", len(skills.cells), MAX_SKILLS)
     return Ward(scenario, History(0, name, past), never, kept, skills.cells)
@@ -152,9 +153,9 @@ def _contract(row: SheetRow, name: str) -> Contract:
         name,
         _limits(row, "shifts min", "shifts max"),
         _limits(row, "work min", "work max"),
-        _limits(row, "off min", "off max"),
-        _maximum(row, "weekends"),
-        _is_yes(row.of("complete weekends")),
+        days_off=_limits(row, "off min", "off max"),
+        max_weekends=_maximum(row, "weekends"),
+        complete_weekends=_is_yes(row.of("complete weekends")),
     )
 
 
@@ -173,7 +174,7 @@ def _limits(row: SheetRow, least: str, most: str) -> Limits:
     """A minimum and a maximum; empty cells set no limit."""
     limits = Limits(row.of(least).number(0), _maximum(row, most))
     if limits.minimum > limits.maximum:
-        empty = "; for no limit leave the cell empty" * (limits.maximum == 0)
+        empty = "; for no limit leave the cell empty" if limits.maximum == 0 else ""
         row.of(least).fault(f"the minimum {limits.minimum} is above the maximum {limits.maximum}: correct one of the two{empty}")
     return limits
 
@@ -209,7 +210,7 @@ class _Skills:
 
 
 def skill_warnings(ward: Ward, asked: Collection[str]) -> Iterator[str]:
-    """Warnings of skills for which the needs have no row. One with a name like a skill that they ask for is a fault."""
+    """Warnings of skills for which the needs have no row. Raises FileFault if one has a name like a skill that they ask for."""
     with Gathering() as faults:
         for name, cell in ward.skills.items():
             if name in asked:
@@ -242,7 +243,7 @@ def ward_warnings(ward: Ward) -> Iterator[str]:
         if set(shifts) == set(types) or set(weekdays) == set(range(len(DAYS))):
             yield f"sheet nurses: {nurse} never works: correct what she never works, or when she is always off"
     for name, shift in types.items():
-        later = [other for other in types if name in types[other].forbidden_next]
+        later = [other for other in types if ward.scenario.forbids(other, name)]
         if NIGHT.search(name) and later and not shift.forbidden_next:
             turned = "is 'not followed by' the other way round?"
             yield f"sheet shifts: {name} may not follow {later[0]}, and each shift type may follow {name}: {turned}"

@@ -7,7 +7,7 @@ from xml.sax.saxutils import escape, quoteattr
 
 from ..week.faults import Misuse
 from ..week.records import DAYS
-from ..week.targets import check_target
+from ..week.writing import check_target
 
 Rows = Sequence[Sequence[object]]
 
@@ -82,7 +82,7 @@ def write_template(path: Path) -> None:
     """Writes the example; a file of this name is not replaced, since a ward may have changed it."""
     if path.suffix.lower() != ".ods":
         raise Misuse(f"--template {path}: the example is an .ods file, which Excel opens too: end its name with .ods")
-    if path.exists():
+    if path.exists() or path.is_symlink():
         raise Misuse(f"--template {path}: there is such a file, perhaps with your ward: give another name")
     check_target(path)
     manifest = f'<manifest:file-entry manifest:full-path="/" manifest:media-type="{_TYPE}"/>'
@@ -90,7 +90,7 @@ def write_template(path: Path) -> None:
     sheets = "".join(_sheet(name, rows) for name, rows in EXAMPLE.items())
     content = f"<office:body><office:spreadsheet>{sheets}</office:spreadsheet></office:body>"
     try:
-        with zipfile.ZipFile(path, "w", zipfile.ZIP_DEFLATED) as archive:
+        with open(path, "xb") as file, zipfile.ZipFile(file, "w", zipfile.ZIP_DEFLATED) as archive:
             archive.writestr(zipfile.ZipInfo("mimetype"), _TYPE)
             archive.writestr(
                 "META-INF/manifest.xml", f'{_HEAD}<manifest:manifest {_SPACES} manifest:version="1.3">{manifest}</manifest:manifest>'
@@ -98,6 +98,8 @@ def write_template(path: Path) -> None:
             archive.writestr(
                 "content.xml", f'{_HEAD}<office:document-content {_SPACES} office:version="1.3">{content}</office:document-content>'
             )
+    except FileExistsError:
+        raise
     except BaseException:
         path.unlink()
         raise

@@ -10,7 +10,7 @@ from typing import Collection, Dict, Iterable, Iterator, List, Mapping, NamedTup
 from ..week.dates import DAY, Times
 from .markup import allowed
 from .roster_view import ShownCell, RosterView
-from ..week.writing import write_text
+from ..week.writing import write_own_text
 
 # The maximum number of bytes of a line.
 _LINE = 75
@@ -94,7 +94,7 @@ def calendar(view: RosterView, nurse: str, monday: datetime.date, times: Mapping
         for index, cell in enumerate(view.cells(week, nurse, day))
     ]
     for date, index, cell in shifts:
-        names = [ward, allowed(nurse), _day(date), *[str(index)] * bool(index)]
+        names = [ward, allowed(nurse), _day(date), *([str(index)] if index else [])]
         lines += _event(names, stamp, f"{cell.shift} {cell.skill}".replace("_", " "), _when(date, cell.shift, times))
     dates = {date for date, _, _ in shifts}
     for date in sorted(set(issue.before.get(nurse, ())) - dates) if issue else ():
@@ -103,7 +103,7 @@ def calendar(view: RosterView, nurse: str, monday: datetime.date, times: Mapping
     if not shifts:
         end = monday + 7 * len(view.weeks) * DAY
         days = [f"DTSTART;VALUE=DATE:{_day(monday)}", f"DTEND;VALUE=DATE:{_day(end)}"]
-        when = [*days, "TRANSP:TRANSPARENT", *["STATUS:CANCELLED"] * bool(issue)]
+        when = [*days, "TRANSP:TRANSPARENT", *(["STATUS:CANCELLED"] if issue else [])]
         lines += _event([ward, allowed(nurse), _day(monday), "none"], stamp, "no shift", when)
     return "".join(f"{_folded(line)}\r\n" for line in [*lines, "END:VCALENDAR"])
 
@@ -131,4 +131,4 @@ def write_calendars(
     texts = {name: calendar(view, nurse, monday, times, issue) for nurse, name in file_names(nurses).items()}
     folder.mkdir(parents=True, exist_ok=True)
     for name, text in texts.items():
-        write_text(folder / name, text)
+        write_own_text(folder / name, text)

@@ -4,10 +4,10 @@ from dataclasses import replace
 from typing import Iterator, List, NamedTuple, Sequence, Tuple
 
 from ..week.faults import Misuse
-from ..week.hints import quoted
-from ..week.records import DAYS
-from .roster_view import ShownCell, RosterView
+from ..week.records import DAYS, NurseDay, exchanged
 from ..week.slots import did_you_mean
+from ..week.words import quoted
+from .roster_view import RosterView, ShownCell
 
 
 class Change(NamedTuple):
@@ -61,12 +61,10 @@ def swapped(view: RosterView, swaps: Sequence[Tuple[str, str]]) -> RosterView:
         raise Misuse("swap is for one roster: change a copy of one of these, and give the others to why, with --old")
     cells = list(view.weeks[0].cells)
     for pair in swaps:
-        one, two = (_place(view, text) for text in pair)
-        if one == two:
+        first, second = (_place(view, text) for text in pair)
+        if first == second:
             raise Misuse(f"swap {_quoted(pair)}: these are one cell: give two")
-        others = {one: two, two: one}
-        places = [others.get((cell.nurse, cell.day), (cell.nurse, cell.day)) for cell in cells]
-        cells = [cell._replace(nurse=nurse, day=day) for cell, (nurse, day) in zip(cells, places)]
+        cells = exchanged(cells, {first: second, second: first})
     return replace(view, weeks=[replace(view.weeks[0], cells=cells)])
 
 
@@ -74,7 +72,7 @@ def _quoted(pair: Tuple[str, str]) -> str:
     return " ".join(f'"{text}"' for text in pair)
 
 
-def _place(view: RosterView, text: str) -> Tuple[str, int]:
+def _place(view: RosterView, text: str) -> NurseDay:
     """The nurse and the day that a text names."""
     *names, day = text.split() or [""]
     if not names:
@@ -84,4 +82,4 @@ def _place(view: RosterView, text: str) -> Tuple[str, int]:
         if word not in known:
             advice = did_you_mean(word, known, f"give one of {quoted(known)}")
             raise Misuse(f"swap \"{text}\": '{word}' is no {what}: {advice}")
-    return nurse, DAYS.index(day)
+    return NurseDay(nurse, DAYS.index(day))

@@ -2,15 +2,15 @@
 
 from typing import Dict, Iterator, List, Optional
 
-from .charge_words import costs_text, in_words
-from ..week.dates import date_text
-from ..week.hints import plural
-from .markup import Markup, element, joined
-from .page_lists import changes_table, wishes_table
-from .page_tables import Content, RosterTable, coverage_tables, plain, totals_table
-from .roster_text import COLORS, ink_on
 from ..judging.rules import Charge, cost_by_rule
-from .why import breach_lines, plain_breach_lines
+from ..week.dates import date_text
+from ..week.soft_rules import RULES
+from ..week.words import plural
+from .markup import Markup, element, joined
+from .page_tables import Content, RosterTable, column, coverage_tables, first, plain, sums_table, table, totals_table
+from .roster_text import COLORS, ink_on
+from .totals import Wish, totals
+from .why import breach_lines, costs_text, in_words, plain_breach_lines
 
 STYLE = """
 :root { color-scheme: light }
@@ -68,17 +68,14 @@ section { overflow: visible }
 thead { display: table-header-group }
 .many { line-height: 1.15; margin: .2em 0 .4em }
 .many td, .many tbody th { padding-top: .02em; padding-bottom: .02em }
+.roster.many thead tr > :first-child { width: 10.5em }
+.many tbody th { white-space: nowrap; font-size: 7.5pt; overflow: hidden }
 .roomy td, .roomy tbody th { padding-top: .3em; padding-bottom: .3em }
 tr, caption, li, .words, .totals, .coverage, .changes { break-inside: avoid }
 caption, h2, summary, .charges p { break-after: avoid }
 .sheet { break-before: page }
 }
 """
-RULES = {
-    "S1": "fewer nurses than best", "S2": "days in a row with work or on one shift type", "S3": "days in a row off",
-    "S4": "a wish that is not granted",
-    "S5": "half a weekend", "S6": "shifts in the period", "S7": "weekends in the period",
-}  # fmt: skip
 
 
 def page_style() -> Markup:
@@ -91,11 +88,11 @@ def title(page: Content) -> str:
     """The ward and its weeks, with their dates if they are known."""
     view = page.view
     if page.monday is None:
-        return f"{plain(view.name)}, {view.weeks_text}"
+        return f"{plain(page.name or view.name)}, {view.weeks_text}"
     last = page.monday + (7 * len(view.weeks) - 1) * (page.monday.resolution)
     year = f" {page.monday.year}" if page.monday.year != last.year else ""
     number = f" (calendar week {last.isocalendar()[1]})" if len(view.weeks) == 1 else ""
-    return f"{plain(view.name)}, {date_text(page.monday)}{year} to {date_text(last)} {last.year}{number}"
+    return f"{plain(page.name or view.name)}, {date_text(page.monday)}{year} to {date_text(last)} {last.year}{number}"
 
 
 def _summary(page: Content) -> Iterator[str]:
@@ -157,8 +154,10 @@ def charges_section(page: Content) -> Markup:
     free = [plain(nurse) for nurse in view.nurses if nurse not in charged]
     rules = sorted({charge.rule for of_nurse in charged.values() for charge in of_nurse})
     lines = [element("p", line) for line in view.without_costs()]
-    lines += [element("p", f"Nothing is charged to {', '.join(free)}.")] * (bool(free) and view.has_costs)
-    lines += [element("p", "; ".join(f"{rule}: {RULES[rule]}" for rule in rules))] * bool(rules)
+    if free and view.has_costs:
+        lines.append(element("p", f"Nothing is charged to {', '.join(free)}."))
+    if rules:
+        lines.append(element("p", "; ".join(f"{rule}: {RULES[rule].words}" for rule in rules)))
     heading = f"Cost: {view.penalty} points" if view.penalty is not None else "Cost"
     return section(heading, *lines, element("div", *folds, class_="folds"), class_="charges")
 
@@ -167,10 +166,10 @@ def _details(page: Content) -> List[Markup]:
     """The sections below the roster. In print the first of them begins a page."""
     changed, counted, wished, parts = changes_table(page), totals_table(page), wishes_table(page), []
     if page.old:
-        nothing = element("p", "Nothing is changed since the older roster.")
+        nothing = element("p", f"Nothing is {page.changed}.")
         parts.append(section("Changes", changed or nothing, class_="changes sheet"))
     if counted:
-        parts.append(section("Totals", counted, wished or "", class_=None if page.old else "sheet"))
+        parts.append(section("Totals", counted, sums_table(page) or "", wished or "", class_=None if page.old else "sheet"))
     covered = list(coverage_tables(page))
     if covered:
         parts.append(section("Coverage", *covered))
@@ -182,10 +181,34 @@ def _details(page: Content) -> List[Markup]:
 def page_text(page: Content) -> str:
     """The page: well-formed XML, and HTML."""
     parts = [_roster(page), *([] if page.only_table else _details(page))]
-    head = element(
-        "head", element("meta", charset="utf-8"), element("meta", name="viewport", content="width=device-width"),
-        *[element("meta", name="plan", content=page.plan)] * bool(page.plan), element("title", title(page)),
-        element("style", page_style()),
-    )  # fmt: skip
+    meta = [element("meta", charset="utf-8"), element("meta", name="viewport", content="width=device-width")]
+    if page.plan:
+        meta.append(element("meta", name="plan", content=page.plan))
+    head = element("head", *meta, element("title", title(page)), element("style", page_style()))
     body = element("body", element("main", *(joined(part, Markup("\n")) for part in parts)))
     return f"<!DOCTYPE html>\n{element('html', head, Markup(chr(10)), body, lang='en')}\n"
+
+
+def _wish(page: Content, wish: Wish) -> str:
+    asked = f"no {plain(wish.request.shift)}" if wish.request.shift else "off"
+    return f"{page.days(wish.week)[wish.request.day]} {asked}"
+
+
+def wishes_table(page: Content) -> Optional[Markup]:
+    """The wishes of each nurse who has some."""
+    rows = []
+    for nurse, total in (totals(page.view) or {}).items():
+        if total.wishes:
+            texts = [", ".join(_wish(page, wish) for wish in total.wishes if wish.granted == granted) for granted in (True, False)]
+            rows.append([first(plain(nurse)), *(element("td", text) for text in texts)])
+    return table("Wishes", [joined(*map(column, ("nurse", "granted", "missed")))], rows, "words") if rows else None
+
+
+def changes_table(page: Content) -> Optional[Markup]:
+    """The changes since the older roster."""
+    rows = []
+    for change in page.changes:
+        texts = page.days(change.week)[change.day], plain(change.before_text), plain(change.now_text)
+        rows.append([first(plain(change.nurse)), *(element("td", text) for text in texts)])
+    heads = joined(*map(column, ("nurse", "day", "before", "now")))
+    return table(f"{len(rows)} changes since {page.since}", [heads], rows, "words") if rows else None

@@ -4,21 +4,31 @@ import datetime
 from dataclasses import dataclass, field
 from typing import Callable, Collection, Dict, Iterator, List, Mapping, Optional, Sequence, Tuple
 
-from .changes import Change, cells_text, changes
-from ..judging.coverage import Covered, coverage
 from ..week.dates import DAY, Times, day_names
 from ..week.records import DAYS
+from .changes import Change, cells_text, changes
 from .markup import Markup, element, hidden, joined, shown
 from .roster_text import COLORS, cuts
-from .roster_view import AWAY, MEANINGS, ShownCell, RosterView
-from .totals import Totals, totals, worked
+from .roster_view import AWAY, MEANINGS, Covered, RosterView, ShownCell, coverage
+from .totals import Sums, Totals, sum_heads, totals, worked
 
 # Weeks next to one another in a table of the roster and of the coverage, so that it fits a page.
 WEEKS_OF_ROSTER, WEEKS_OF_COVERAGE = 4, 2
 # The most nurses whose rows are high in print, so that a table fits one page.
 MOST_ROOMY = 25
-CHANGED, CHANGED_MEANING = "\u0394", "changed since the older roster"
+CHANGED = "\u0394"
+# The reasons for days off that are none to be away: those on which a nurse never works, and promised ones.
+_DAYS_OFF = ("off", "promised")
 WEEKENDS = "WE"
+# The short heads of sums on a wall, and what they mean.
+SUM_HEADS = {"shifts": "\u03a3", "hours": "h", "nights": "N", "weekends": WEEKENDS, "wishes granted": "W"}
+MEANINGS_OF_SUMS = {
+    "shifts": "shifts in the period",
+    "hours": "hours",
+    "nights": "nights",
+    "weekends": "weekends with work",
+    "wishes granted": "wishes granted, of all",
+}
 HOLIDAY, HOLIDAY_MEANING = "\u2022", "other numbers of nurses are needed, as on a bank holiday"
 SWAPPED, SWAPPED_MEANING = "\u21c4", "a swap that was written"
 MINUS = "\u2212"
@@ -34,9 +44,11 @@ class Content:
     """What a page shows: the roster, an older one, the date of the first Monday, and the times of shift types, as far as they are known.
 
     `only_table` is for a wall: nothing on what the roster costs, nor on wishes and held shifts. `link` has the address of a nurse's day
-    in a week of the table, if its cells are links. `holidays` are days from the first Monday on with numbers of their own, as bank holidays
-    have, `as_of` says when the page was made, `notes` are lines on what to look at, `swapped` has the weeks of the table, nurses and
-    days of swaps that were written, and `plan` is the name of the plan of a ward's folder that the page shows.
+    in a week of the table, if its cells are links. `name` is that of the ward for people, if the roster's own one is not, and `since`
+    says which the older roster is. `holidays` are days from the first Monday on with numbers of their own, as bank holidays have, `as_of`
+    says when the page was made, `notes` are lines on what to look at, `swapped` has the weeks of the table, nurses and days of swaps that
+    were written, and `plan` is the name of the plan of a ward's folder that the page shows. `sums` has what each nurse has in the whole
+    period, and `all_sums` in that and all earlier ones of the folder, if there are some.
     """
 
     view: RosterView
@@ -45,11 +57,15 @@ class Content:
     times: Mapping[str, Times] = field(default_factory=dict)
     only_table: bool = False
     link: Optional[Callable[[int, str, int], str]] = None
+    name: str = ""
+    since: str = "the older roster"
     holidays: Collection[int] = ()
     as_of: Optional[datetime.datetime] = None
     notes: Sequence[str] = ()
     swapped: Collection[Tuple[int, str, int]] = ()
     plan: str = ""
+    sums: Mapping[str, Sums] = field(default_factory=dict)
+    all_sums: Mapping[str, Sums] = field(default_factory=dict)
 
     def week_name(self, week: int) -> str:
         """The name of a week: its number, and that of the calendar if its dates are known."""
@@ -73,6 +89,11 @@ class Content:
     def marks(self, marks: str) -> str:
         """Those marks of a cell that the page shows."""
         return "".join(mark for mark in marks if mark == AWAY or not self.only_table)
+
+    @property
+    def changed(self) -> str:
+        """The meaning of the sign of a changed day."""
+        return f"changed since {self.since}"
 
     @property
     def changes(self) -> List[Change]:
@@ -111,8 +132,8 @@ def day_heads(page: Content, weeks: Sequence[int], corner: str) -> List[Markup]:
     for week in weeks:
         for day, name in enumerate(page.days(week)):
             word, _, date = name.partition(" ")
-            sign = [joined(shown(HOLIDAY, class_="mark"), hidden(f", {HOLIDAY_MEANING}"))] * page.is_holiday(week, day)
-            days.append(column(joined(word, *sign, *[element("span", f" {date}", class_="date")] * bool(date)), _weekend(day)))
+            sign = [joined(shown(HOLIDAY, class_="mark"), hidden(f", {HOLIDAY_MEANING}"))] if page.is_holiday(week, day) else []
+            days.append(column(joined(word, *sign, *([element("span", f" {date}", class_="date")] if date else [])), _weekend(day)))
     row = joined(column(corner), *days)
     if len(page.view.weeks) == 1:
         return [row]
@@ -139,44 +160,63 @@ class RosterTable:
         self.changed = {(change.week, change.nurse, change.day): change for change in page.changes}
 
     def tables(self) -> Iterator[Markup]:
-        """A table for each four weeks. On a wall the last one has the shifts of each type and the weekends of each nurse beside it."""
+        """A table for each four weeks. On a wall the last one has the sums of each nurse in the period beside it, or, if they are not
+        known, her shifts of each type and her weekends in these weeks."""
         groups = _groups(len(self.view.weeks), WEEKS_OF_ROSTER)
-        counts = worked(self.view) if self.page.only_table else {}
+        counts = self._counts() if self.page.only_table else {}
         for weeks in groups:
             beside = counts if weeks == groups[-1] else {}
             rows = [
                 [
-                    first(plain(nurse)),
+                    self._name(nurse, weeks[0]),
                     *(self._cell(week, nurse, day) for week in weeks for day in range(7)),
-                    *(element("td", str(number), class_="sum") for number in beside.get(nurse, ())),
+                    *(element("td", number, class_="sum") for number in beside.get(nurse, ())),
                 ]
                 for nurse in self.view.nurses
             ]
             *above, days = day_heads(self.page, weeks, "nurse")
             if beside:
-                summed = element("th", self.view.weeks_text, scope="colgroup", colspan=str(len(self._sums())))
+                text = "period" if self.page.sums else self.view.weeks_text
+                summed = element("th", text, scope="colgroup", colspan=str(len(self._sums())))
                 above = [joined(head, summed) for head in above]
                 days = joined(days, *(column(name, "sum") for name in self._sums()))
-            room = " roomy" * (self.page.only_table and len(groups) == 1 and len(rows) <= MOST_ROOMY)
+            room = " roomy" if self.page.only_table and len(groups) == 1 and len(rows) <= MOST_ROOMY else ""
             yield table("Shifts of each nurse", [*above, days], rows, ("roster" if self.single else "roster many") + room)
 
     def _sums(self) -> List[str]:
-        """The heads of the columns with sums: names of shift types, as in the cells, and that of weekends."""
+        """The heads of the columns with sums: short ones of those of the period, or names of shift types, as in the cells, and that of
+        weekends."""
+        if self.page.sums:
+            return [SUM_HEADS[head] for head in sum_heads(bool(self.page.times))]
         return [*(plain(shift) if self.single else self.short[shift] for shift in self.view.shifts), WEEKENDS]
+
+    def _counts(self) -> Mapping[str, Sequence[str]]:
+        """The sums of each nurse."""
+        if self.page.sums:
+            return {nurse: sums.texts(bool(self.page.times)) for nurse, sums in self.page.sums.items()}
+        return {nurse: list(map(str, numbers)) for nurse, numbers in worked(self.view).items()}
+
+    def _name(self, nurse: str, week: int) -> Markup:
+        """The head of a nurse's row. By keyboard one goes from name to name, and not from cell to cell."""
+        if not self.page.link:
+            return first(plain(nurse))
+        return element("th", element("a", plain(nurse), href=self.page.link(week, nurse, 0)), scope="row")
 
     def _cell(self, week: int, nurse: str, day: int) -> Markup:
         cells = self.view.cells(week, nurse, day)
         change = self.changed.get((week, nurse, day))
         parts = [self._shift(cell) for cell in cells]
         if not cells and self.view.is_away(week, nurse, day):
-            # On a wall nobody reads why.
-            why = "away" if self.page.only_table else self.view.reason(week, nurse, day)
+            # On a wall nobody reads why, and a day off is one for whatever reason.
+            why = self.view.reason(week, nurse, day)
+            if self.page.only_table:
+                why = "" if why in _DAYS_OFF else "away"
             parts.append(element("span", why, class_="away"))
         elif not cells and change:
             parts.append(element("span", "off", class_="away"))
         if change:
             before = cells_text(change.before) if self.page.only_table else change.before_text
-            older = f" {CHANGED_MEANING}, instead of {plain(before)}"
+            older = f" {self.page.changed}, instead of {plain(before)}"
             parts.append(joined(shown(CHANGED, class_="mark"), hidden(older)))
         if self.page.is_swapped(week, nurse, day):
             parts.append(joined(shown(SWAPPED, class_="mark"), hidden(f", {SWAPPED_MEANING}")))
@@ -184,7 +224,7 @@ class RosterTable:
         kinds = [_weekend(day), f"s{number}" if cells else None, "changed" if change else None]
         if self.page.link:
             named = hidden(f"{plain(nurse)}, {self.page.days(week)[day]}: ")
-            parts = [element("a", named, *(parts or [shown("\u00b7")]), href=self.page.link(week, nurse, day))]
+            parts = [element("a", named, *(parts or [shown("\u00b7")]), href=self.page.link(week, nurse, day), tabindex="-1")]
         return element("td", *parts, class_=" ".join(kind for kind in kinds if kind) or None)
 
     def _shift(self, cell: ShownCell) -> Markup:
@@ -192,7 +232,9 @@ class RosterTable:
         marks = [joined(shown(mark, class_="mark"), hidden(f", {MEANINGS[mark]}")) for mark in self.page.marks(cell.marks)]
         if self.single:
             return joined(element("b", shift), " ", element("small", skill), *marks)
-        short = joined(element("b", self.short[cell.shift]), *[element("small", self.skills[cell.skill])] * (len(self.skills) > 1))
+        short = element("b", self.short[cell.shift])
+        if len(self.skills) > 1:
+            short = joined(short, element("small", self.skills[cell.skill]))
         return joined(shown(short), hidden(f"{shift} {skill}"), *marks)
 
     def legend(self) -> List[str]:
@@ -201,15 +243,20 @@ class RosterTable:
         for shift in self.view.shifts:
             short = "" if self.single or self.short[shift] == shift else f"{self.short[shift]} = "
             times = f", {self.page.times[shift]}" if shift in self.page.times else ""
-            lines += [f"{short}{plain(shift)}{times}"] * bool(short or times)
+            if short or times:
+                lines.append(f"{short}{plain(shift)}{times}")
         if not self.single and len(self.skills) > 1:
             lines += [f"{short} = {plain(skill)}" for skill, short in self.skills.items() if short != skill]
         marks = {mark for week in self.view.weeks for row in week.cells for mark in self.page.marks(week.marks(row))}
-        meanings = {**MEANINGS, CHANGED: CHANGED_MEANING}
+        meanings = {**MEANINGS, CHANGED: self.page.changed}
         lines += [f"{mark} = {meaning}" for mark, meaning in meanings.items() if mark in marks or mark == CHANGED and self.changed]
-        lines += [f"{SWAPPED} = {SWAPPED_MEANING}"] * any(self.page.is_swapped(*one) for one in self.page.swapped)
-        lines += [f"{HOLIDAY} = {HOLIDAY_MEANING}"] * bool(self.page.holidays)
-        return lines + [f"{WEEKENDS} = weekends with work"] * self.page.only_table
+        if any(self.page.is_swapped(*one) for one in self.page.swapped):
+            lines.append(f"{SWAPPED} = {SWAPPED_MEANING}")
+        if self.page.holidays:
+            lines.append(f"{HOLIDAY} = {HOLIDAY_MEANING}")
+        if self.page.only_table and self.page.sums:
+            return lines + [f"{SUM_HEADS[head]} = {MEANINGS_OF_SUMS[head]}" for head in sum_heads(bool(self.page.times))]
+        return lines + ([f"{WEEKENDS} = weekends with work"] if self.page.only_table else [])
 
 
 # ---- totals
@@ -232,14 +279,14 @@ def totals_table(page: Content) -> Optional[Markup]:
         return None
     is_last = any(week.week and week.week.is_last for week in view.weeks[-1:])
     some_away = any(total.away for total in found.values())
-    heads = ["nurse", "shifts", *["of them for days away"] * some_away, "contract", "difference", *map(plain, view.shifts)]
+    heads = ["nurse", "shifts", *(["of them for days away"] if some_away else []), "contract", "difference", *map(plain, view.shifts)]
     heads += ["weekends", "at most", "wishes", "granted", "missed"]
     rows = []
     for nurse, total in found.items():
         over = total.weekends - total.max_weekends
         numbers = [
             str(total.shifts),
-            *[str(total.away)] * some_away,
+            *([str(total.away)] if some_away else []),
             f"{total.contract.minimum} to {total.contract.maximum}",
             _left(total, is_last),
             *map(str, total.by_shift.values()),
@@ -249,9 +296,23 @@ def totals_table(page: Content) -> Optional[Markup]:
         if view.has_costs:
             numbers.append(str(sum(view.costs[nurse].values())))
         rows.append([first(plain(nurse)), *(element("td", number) for number in numbers)])
-    head = joined(*map(column, [*heads, *["cost"] * view.has_costs]))
+    head = joined(*map(column, [*heads, *(["cost"] if view.has_costs else [])]))
     caption = "Totals: shifts and weekends in the period until now, shifts of each type and wishes in these weeks"
     return table(caption, [head], rows, "totals")
+
+
+def sums_table(page: Content) -> Optional[Markup]:
+    """What each nurse has in the period, and beside it in this and all earlier periods, if they are known."""
+    if not page.sums:
+        return None
+    has_times, groups = bool(page.times), [page.sums, *([page.all_sums] if page.all_sums else [])]
+    heads = sum_heads(has_times)
+    names = ["this period", "all periods"][: len(groups)]
+    above = joined(element("td"), *(element("th", name, scope="colgroup", colspan=str(len(heads))) for name in names))
+    head = joined(column("nurse"), *(column(name) for _ in groups for name in heads))
+    numbers = {nurse: [number for sums in groups for number in sums.get(nurse, Sums()).texts(has_times)] for nurse in page.view.nurses}
+    rows = [[first(plain(nurse)), *(element("td", number) for number in own)] for nurse, own in numbers.items()]
+    return table("Shifts, nights, weekends and wishes of each nurse", [above, head], rows, "totals")
 
 
 # ---- coverage
@@ -263,16 +324,17 @@ def _covered(place: Covered, day: int) -> Markup:
     if place.number < place.wanted:
         low = place.number < place.minimum
         words = f"{place.wanted - place.number} too few{', below the minimum' if low else ''}"
-        sign = f"{MINUS}{place.wanted - place.number}{'!' * low}"
+        sign = f"{MINUS}{place.wanted - place.number}{'!' if low else ''}"
     elif place.number > place.wanted:
         words, sign = f"{place.number - place.wanted} too many", f"+{place.number - place.wanted}"
     range_ = f"{place.minimum}\u2013{place.optimal}" if any(place[1:]) else ""
     kinds = [_weekend(day), "few" if sign.startswith(MINUS) else "more" if sign else None]
-    return element(
-        "td", element("b", str(place.number)) if any(place) else "", *[joined(" ", shown(sign, class_="mark"), hidden(words))] * bool(sign),
-        *[joined(" ", element("small", shown(range_), hidden(f"minimum {place.minimum}, best {place.optimal}")))] * bool(range_),
-        class_=" ".join(kind for kind in kinds if kind) or None,
-    )  # fmt: skip
+    parts = [element("b", str(place.number))] if any(place) else []
+    if sign:
+        parts.append(joined(" ", shown(sign, class_="mark"), hidden(words)))
+    if range_:
+        parts.append(joined(" ", element("small", shown(range_), hidden(f"minimum {place.minimum}, best {place.optimal}"))))
+    return element("td", *parts, class_=" ".join(kind for kind in kinds if kind) or None)
 
 
 def coverage_tables(page: Content) -> Iterator[Markup]:

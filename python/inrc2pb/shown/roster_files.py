@@ -4,16 +4,16 @@ from dataclasses import dataclass, field, replace
 from pathlib import Path
 from typing import Dict, Iterable, Iterator, List, Mapping, Optional, Sequence
 
+from ..judging.breaches import other_week
+from ..judging.limits import read_given, with_given
+from ..judging.next_history import next_history
+from ..week.facts import read_reasons
 from ..week.faults import Misuse
 from ..week.files import check_week_number, read_history, read_scenario, read_solution, read_week
-from ..week.records import History, Scenario, Solution, Week
-from ..week.hints import plural
-from ..judging.given import read_given, with_given
-from ..judging.misfits import other_week
-from ..judging.next_history import next_history
-from .roster_view import RosterView, WeekView
-from ..week.reasons import read_reasons
+from ..week.records import History, Scenario, Solution, Week, week_name
 from ..week.slots import text_of
+from ..week.words import plural
+from .roster_view import RosterView, WeekView
 
 
 @dataclass(frozen=True)
@@ -52,17 +52,19 @@ def read_view(files: RosterFiles) -> RosterView:
         week = Week(scenario, histories[index], data) if scenario and histories and data else None
         number = histories[index].week if week else solution.week
         of_week = {(away.nurse, away.day): word for away, word in reasons.items() if away.week == number + 1}
-        views.append(WeekView(number, solution.cells, data, week, held, files.early, of_week))
+        views.append(WeekView(number, solution.cells, data, week=week, held=held, early=files.early, reasons=of_week))
     if scenario:
         warnings = [*_other_weeks(files.rosters, texts, scenario, histories), *_other_weeks(fixes, texts, scenario, histories)]
-        return RosterView(scenario.name, list(scenario.nurses), list(scenario.shift_types), list(scenario.skills), views, warnings)
+        return RosterView(
+            scenario.name, list(scenario.nurses), list(scenario.shift_types), skills=list(scenario.skills), weeks=views, warnings=warnings
+        )
     shown = [cell for view in views for cell in view.cells]
     nurses, shifts, skills = (row.nurse for row in shown), (row.shift for row in shown), (row.skill for row in shown)
     return RosterView(solutions[0].scenario, _each_once(nurses), _each_once(shifts), _each_once(skills), views)
 
 
 def read_old(files: RosterFiles, rosters: Sequence[Path]) -> RosterView:
-    """Reads the older rosters of the same weeks and ward; that they are of others is a Misuse."""
+    """Reads the older rosters of the same weeks and ward. Raises Misuse if they are of others."""
     if len(rosters) != len(files.rosters):
         raise Misuse(
             f"--old has {plural(len(rosters), 'file')} for {plural(len(files.rosters), 'roster')}: " "give one for each, in their order"
@@ -108,7 +110,7 @@ def _histories(files: RosterFiles, scenario: Scenario, solutions: Sequence[Solut
         last = len(histories) - 1
         if histories[last].week + 1 >= scenario.weeks:
             raise Misuse(
-                f"{files.rosters[last]}: week {histories[last].week + 1} is the last of {scenario.weeks}: give --his for each roster"
+                f"{files.rosters[last]}: {week_name(histories[last].week)} is the last of {scenario.weeks}: give --his for each roster"
             )
         try:
             histories.append(next_history(scenario, histories[last], solutions[last].cells))

@@ -3,10 +3,11 @@
 import unicodedata
 from typing import Dict, Iterator, List, Sequence
 
-from .charge_words import costs_text
+from ..week.faults import not_obeyed
 from ..week.records import DAYS
 from .roster_view import RosterView
 from .totals import HEADS, LEGEND, totals
+from .why import costs_text
 
 # Colors that color-blind eyes distinguish (Okabe and Ito), and their numbers in a terminal. Shift types from the ninth on have them again.
 COLORS = ("#e69f00", "#56b4e9", "#0072b2", "#009e73", "#f0e442", "#cc79a7", "#d55e00", "#999999")
@@ -43,7 +44,7 @@ def cuts(names: Sequence[str], minimum: int) -> Dict[str, str]:
 def abbreviations(*shortened: Dict[str, str]) -> List[str]:
     """A line with the meaning of each name that was cut, if one was."""
     cut = dict.fromkeys(f"{short} = {name}" for names in shortened for name, short in names.items() if short != name)
-    return ["  ".join(cut)] * bool(cut)
+    return ["  ".join(cut)] if cut else []
 
 
 def in_color(text: str, number: int) -> str:
@@ -58,21 +59,28 @@ def _with_weekend_apart(cells: Sequence[str], gap: str) -> str:
 
 
 class TextTable:
-    """The table of a roster. Several weeks stand next to one another, with shift types only, as short as they differ."""
+    """The table of a roster. Several weeks stand next to one another, with shift types only, as short as they differ. With colors it is
+    for a terminal, so names have codes in place of signs that a terminal would obey."""
 
     def __init__(self, view: RosterView, colored: bool = False) -> None:
         self.view, self.colored = view, colored
         self.single = len(view.weeks) == 1
-        self.nurses = cuts(view.nurses, 12)
-        self.shifts = cuts(view.shifts, 5 if self.single else 1)
-        self.skills = cuts(view.skills, 2)
+        self.nurses = self._cuts(view.nurses, 12)
+        self.shifts = self._cuts(view.shifts, 5 if self.single else 1)
+        self.skills = self._cuts(view.skills, 2)
         self.gap = "  " if self.single else " "
         cells = [self.text(week, nurse, day) for week in range(len(view.weeks)) for nurse in view.nurses for day in range(7)]
         self.width = max([3 if self.single else 2, *map(columns, cells)])
         self.has_away = AWAY in cells
         self.first = max([columns(name) for name in self.nurses.values()], default=0)
-        self.types = cuts(view.shifts, 1)
+        self.types = self._cuts(view.shifts, 1)
         self.right = self._right()
+
+    def _harmless(self, text: str) -> str:
+        return not_obeyed(text) if self.colored else text
+
+    def _cuts(self, names: Sequence[str], minimum: int) -> Dict[str, str]:
+        return {name: self._harmless(cut) for name, cut in cuts(names, minimum).items()}
 
     def _right(self) -> List[List[str]]:
         """The columns right of the days, each with its head and a text for each nurse: totals and costs, if they are known."""
@@ -94,7 +102,7 @@ class TextTable:
         """The text of one nurse and day."""
         cells = self.view.cells(week, nurse, day)
         if not cells and self.view.is_away(week, nurse, day):
-            return self.view.reason(week, nurse, day) if self.single else AWAY
+            return self._harmless(self.view.reason(week, nurse, day)) if self.single else AWAY
         skills = [f" {self.skills[cell.skill]}" if self.single else "" for cell in cells]
         return "+".join(f"{self.shifts[cell.shift]}{skill}{cell.marks}" for cell, skill in zip(cells, skills)) or "."
 
@@ -117,15 +125,18 @@ class TextTable:
 
     def lines(self) -> List[str]:
         """The whole table."""
-        view, lines = self.view, self.head()
+        view, lines = self.view, list(map(self._harmless, self.head()))
         for row, (nurse, name) in enumerate(self.nurses.items(), 1):
             weeks = [_with_weekend_apart([self.shown(week, nurse, day) for day in range(7)], self.gap) for week in range(len(view.weeks))]
             lines.append("  ".join([_filled(name, self.first), "  ||  ".join(weeks), *(column[row] for column in self.right)]).rstrip())
-        names = [self.nurses, self.shifts] + [self.skills] * self.single + [self.types] * bool(self.right)
-        below = (
-            abbreviations(*names) + [LEGEND] * bool(totals(view)) + [f"{AWAY} = away"] * self.has_away + view.legend() + view.misfilled()
-        )
-        return lines + [""] * bool(below) + below
+        names = [self.nurses, self.shifts, self.skills if self.single else {}, self.types if self.right else {}]
+        below = abbreviations(*names)
+        if totals(view):
+            below.append(LEGEND)
+        if self.has_away:
+            below.append(f"{AWAY} = away")
+        below += [*view.legend(), *view.misfilled()]
+        return [*lines, "", *map(self._harmless, below)] if below else lines
 
 
 def spreadsheet(view: RosterView) -> Iterator[List[object]]:
@@ -133,7 +144,7 @@ def spreadsheet(view: RosterView) -> Iterator[List[object]]:
     single, counted = len(view.weeks) == 1, totals(view)
     days = [day if single else f"{week.name} {day}" for week in view.weeks for day in DAYS]
     heads = ["shifts", "minimum", "maximum", "weekends", "most weekends", "wishes", "granted", *view.shifts] if counted else []
-    yield ["nurse", *days, *["cost", "rules"] * view.has_costs, *heads]
+    yield ["nurse", *days, *(["cost", "rules"] if view.has_costs else []), *heads]
     for nurse in view.nurses:
         of_days = [view.cells(week, nurse, day) for week in range(len(view.weeks)) for day in range(7)]
         shown = [" + ".join(" ".join([cell.shift, cell.skill, *cell.marks]) for cell in cells) for cells in of_days]

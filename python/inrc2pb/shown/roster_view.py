@@ -1,20 +1,23 @@
 """A roster of one or more weeks, ready to be shown: cells with marks, charges, and lines that go below."""
 
+import itertools
 from dataclasses import dataclass, field
 from functools import cached_property
-from typing import Callable, Dict, FrozenSet, Iterator, List, Mapping, NamedTuple, Optional, Sequence, Tuple
+from typing import Callable, Dict, FrozenSet, Iterable, Iterator, List, Mapping, NamedTuple, Optional, Sequence, Tuple
 
 from ..judging import rules
 from ..judging.absences import absences_of, is_broken_by
 from ..judging.breaches import Breach, breaches
-from ..judging.coverage import missing_nurses, spare_nurses
 from ..judging.limits import exceeded, limits_in_words
-from ..week.records import Absence, Cell, Week, WeekData
+from ..week.records import DAYS, Absence, Cell, Place, Requirement, Week, WeekData, week_name
+from ..week.soft_rules import SOFT_RULES
 
 HELD, REFUSED, AWAY = "*", "!", "#"
 MEANINGS = {
-    HELD: "held", REFUSED: "a request to be off was not granted", AWAY: "on duty while away, or on a shift type that she never works",
-}  # fmt: skip
+    HELD: "held",
+    REFUSED: "a request to be off was not granted",
+    AWAY: "on duty while away, or on a shift type that she never works",
+}
 
 
 class ShownCell(NamedTuple):
@@ -42,12 +45,13 @@ class WeekView:
     @property
     def name(self) -> str:
         """The week of the period, from 1, such as `week 1`: the history counts from 0."""
-        return f"week {self.number + 1}"
+        return week_name(self.number)
 
     def marks(self, cell: Cell) -> str:
         """The marks of an assignment."""
         away = is_broken_by(self.absences, cell)
-        return HELD * (cell in self._held) + AWAY * away + REFUSED * (not away and self._is_refused(cell))
+        wish = AWAY if away else REFUSED if self._is_refused(cell) else ""
+        return f"{HELD if cell in self._held else ''}{wish}"
 
     @cached_property
     def _held(self) -> FrozenSet[Cell]:
@@ -104,7 +108,7 @@ class WeekView:
         if self.charges is not None:
             places = sum(charge.cost for charge in self.charges if charge.nurse is None)
             whole, away = sum(charge.cost for charge in self.charges), sum(map(self.for_absence, self.charges))
-            absent = f", {away} of it for absences" * bool(away)
+            absent = f", {away} of it for absences" if away else ""
             lines.append(f"cost: of the nurses {whole - places}{absent}, of places not filled (S1) {places}; penalty {whole}")
         return lines + [f"above a limit that holds: {limits_in_words([charge], self.cells)}" for charge in self.above]
 
@@ -171,13 +175,13 @@ class RosterView:
     def without_costs(self) -> Iterator[str]:
         """A line for each week that has no cost, since its roster breaks a hard rule."""
         for week in (week for week in self.weeks if week.breaches):
-            others = ": the sums on this page are without it" * (len(self.weeks) > 1)
+            others = ": the sums on this page are without it" if len(self.weeks) > 1 else ""
             yield f"{week.name.capitalize()} has no cost, since it breaks rule {week.breaches[0].rule}{others}."
 
     @cached_property
     def costs(self) -> Dict[str, Dict[str, int]]:
         """The cost of each nurse in all weeks, by rule."""
-        paid = {nurse: dict.fromkeys(rules.SOFT_RULES, 0) for nurse in self.nurses}
+        paid = {nurse: dict.fromkeys(SOFT_RULES, 0) for nurse in self.nurses}
         for charge in (charge for week in self.weeks for charge in week.charges or ()):
             if charge.nurse is not None:
                 paid[charge.nurse][charge.rule] += charge.cost
@@ -214,3 +218,57 @@ class RosterView:
     def prefix(self, week: WeekView) -> str:
         """The beginning of a line on this week, if there are several."""
         return f"{week.name}: " if len(self.weeks) > 1 else ""
+
+
+class Covered(NamedTuple):
+    """How many nurses a place has, its minimum, and the number that is best."""
+
+    number: int
+    minimum: int
+    optimal: int
+
+    @property
+    def wanted(self) -> int:
+        """The number above which a nurse is too many."""
+        return max(self.minimum, self.optimal)
+
+
+def coverage(week: Week, cells: Iterable[Cell]) -> List[Tuple[str, str, List[Covered]]]:
+    """The shift types and skills that are needed or filled, each with its seven days."""
+    number, found = rules.numbers(cells), []
+    for shift, skill in itertools.product(week.scenario.shift_types, week.scenario.skills):
+        places = [Place(day, shift, skill) for day in range(7)]
+        needs = [week.data.requirements.get(place, Requirement(0, 0)) for place in places]
+        days = [Covered(number[place], need.minimum, need.optimal) for place, need in zip(places, needs)]
+        if any(any(day) for day in days):
+            found.append((shift, skill, days))
+    return found
+
+
+def missing_nurses(week: Week, cells: Iterable[Cell]) -> Iterator[str]:
+    """A line for each day on which a place has fewer nurses than it asks for."""
+    number = rules.numbers(cells)
+    for day, name in enumerate(DAYS):
+        places = []
+        for place, required in week.data.requirements.items():
+            wanted = max(required.minimum, required.optimal)
+            if place.day == day and number[place] < wanted:
+                minimum = f", at least {required.minimum}" if number[place] < required.minimum else ""
+                places.append(f"{place.shift} {place.skill} ({number[place]} of {wanted}{minimum})")
+        if places:
+            yield f"missing on {name}: {', '.join(places)}"
+
+
+def spare_nurses(week: Week, cells: Iterable[Cell]) -> Iterator[str]:
+    """A line for each day on which a place has more nurses than are best, also one that asks for none. They cost nothing."""
+    number = rules.numbers(cells)
+    for day, name in enumerate(DAYS):
+        places = []
+        for shift, skill in itertools.product(week.scenario.shift_types, week.scenario.skills):
+            place = Place(day, shift, skill)
+            required = week.data.requirements.get(place, Requirement(0, 0))
+            wanted = max(required.minimum, required.optimal)
+            if number[place] > wanted:
+                places.append(f"{shift} {skill} ({number[place]} of {wanted})")
+        if places:
+            yield f"too many on {name}: {', '.join(places)}"

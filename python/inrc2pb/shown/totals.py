@@ -1,12 +1,14 @@
 """What each nurse works in the weeks of a table: shifts and weekends beside her contract, shifts of each type, and wishes."""
 
 import collections
-from typing import Dict, List, NamedTuple, Optional, Sequence, Tuple
+import datetime
+from typing import Collection, Dict, Iterable, List, Mapping, NamedTuple, Optional, Sequence, Tuple
 
 from ..judging.absences import wishes_of
-from ..week.records import Limits, Request
-from .roster_view import RosterView, WeekView
 from ..judging.rules import SATURDAY, SUNDAY
+from ..week.dates import Times
+from ..week.records import DAYS, Cell, Limits, Request
+from .roster_view import RosterView, WeekView
 
 
 class Wish(NamedTuple):
@@ -72,10 +74,10 @@ def totals(view: RosterView) -> Optional[Dict[str, Totals]]:
             past.assignments + len(mine),
             contract.assignments,
             past.weekends + (SATURDAY in mine or SUNDAY in mine),
-            contract.max_weekends,
-            {shift: number[nurse, shift] for shift in view.shifts},
-            [wish for of_week in wishes for wish in of_week.get(nurse, ())],
-            view.credit.get(nurse, 0),
+            max_weekends=contract.max_weekends,
+            by_shift={shift: number[nurse, shift] for shift in view.shifts},
+            wishes=[wish for of_week in wishes for wish in of_week.get(nurse, ())],
+            away=view.credit.get(nurse, 0),
         )
     return found
 
@@ -86,3 +88,60 @@ def worked(view: RosterView) -> Dict[str, List[int]]:
     weekends = {(index, row.nurse) for index, week in enumerate(view.weeks) for row in week.cells if row.day in (SATURDAY, SUNDAY)}
     on_weekends = collections.Counter(nurse for _, nurse in weekends)
     return {nurse: [*(number[nurse, shift] for shift in view.shifts), on_weekends[nurse]] for nurse in view.nurses}
+
+
+class Sums(NamedTuple):
+    """What a nurse has in one or more periods: her shifts, their hours, which are none if their times are not known, her nights, her
+    weekends with work, her wishes, and how many of these are granted."""
+
+    shifts: int = 0
+    hours: datetime.timedelta = datetime.timedelta()
+    nights: int = 0
+    weekends: int = 0
+    wishes: int = 0
+    granted: int = 0
+
+    def plus(self, other: "Sums") -> "Sums":
+        """Both together."""
+        return Sums(
+            shifts=self.shifts + other.shifts,
+            hours=self.hours + other.hours,
+            nights=self.nights + other.nights,
+            weekends=self.weekends + other.weekends,
+            wishes=self.wishes + other.wishes,
+            granted=self.granted + other.granted,
+        )
+
+    def texts(self, has_times: bool) -> List[str]:
+        """The numbers as they stand in a table, hours rounded."""
+        hours = [f"{self.hours / datetime.timedelta(hours=1):.0f}"] if has_times else []
+        return [str(self.shifts), *hours, str(self.nights), str(self.weekends), f"{self.granted}/{self.wishes}" if self.wishes else "-"]
+
+
+def sum_heads(has_times: bool) -> List[str]:
+    """The heads of these numbers."""
+    return ["shifts", *(["hours"] if has_times else []), "nights", "weekends", "wishes granted"]
+
+
+def sums_of(
+    nurses: Iterable[str], cells: Iterable[Cell], wishes: Iterable[Request], nights: Collection[str], times: Mapping[str, Times]
+) -> Dict[str, Sums]:
+    """The sums of nurses with these shifts and wishes of a period, both with its days; `nights` has the shift types of the night."""
+    rows: Dict[str, Dict[int, str]] = {nurse: {} for nurse in nurses}
+    for cell in cells:
+        rows.setdefault(cell.nurse, {})[cell.day] = cell.shift
+    asked: Dict[str, List[Request]] = {}
+    for wish in dict.fromkeys(wishes):
+        asked.setdefault(wish.nurse, []).append(wish)
+    found = {}
+    for nurse, row in rows.items():
+        own = asked.get(nurse, [])
+        found[nurse] = Sums(
+            shifts=len(row),
+            hours=sum((times[shift].length for shift in row.values() if shift in times), datetime.timedelta()),
+            nights=sum(shift in nights for shift in row.values()),
+            weekends=len({day // len(DAYS) for day in row if day % len(DAYS) >= SATURDAY}),
+            wishes=len(own),
+            granted=sum(row.get(wish.day) is None or wish.shift not in (None, row[wish.day]) for wish in own),
+        )
+    return found

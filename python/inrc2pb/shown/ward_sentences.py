@@ -1,13 +1,12 @@
 """A ward and its history in sentences, to be read by whoever knows the ward. Nurses with the same numbers share a sentence."""
 
-from typing import Dict, Iterable, Iterator, List, Mapping, Optional, Tuple, TypeVar
+from typing import Dict, Iterable, Iterator, List, Optional, Tuple, TypeVar
 
-from ..judging.absences import joined
 from ..judging.demand import Paid, asked_shifts, supplied_shifts
+from ..judging.leave import Counted, PartContract, part_contract
 from ..week.facts import SHIFTS, WEEKENDS, WORK_DAYS
-from ..week.hints import plural
-from ..week.part_contracts import PartContract, part_contract
 from ..week.records import DAYS, Contract, History, Limits, NurseHistory, Scenario, WeekData
+from ..week.words import joined, plural
 
 _LIMITS = {SHIFTS: "shift", WORK_DAYS: "working day", WEEKENDS: "weekend"}
 _Key = TypeVar("_Key")
@@ -36,7 +35,7 @@ def scenario_sentences(scenario: Scenario) -> Iterator[str]:
     alike = together((_contract_text(scenario.contracts[name], scenario), name) for name in owners)
     for text, names in alike.items():
         named = joined(f"{name} ({joined(owners[name]) if owners[name] else 'nobody'})" for name in names)
-        yield f"Contract{'s' * (len(names) > 1)} {named}: {text}."
+        yield f"Contract{'s' if len(names) > 1 else ''} {named}: {text}."
     yield from part_sentences(scenario, scenario.nurses)
     for skill in scenario.skills:
         skilled = [nurse.name for nurse in scenario.nurses.values() if skill in nurse.skills]
@@ -59,11 +58,10 @@ def _owners(scenario: Scenario) -> Dict[str, List[str]]:
 def _contract_text(contract: Contract, scenario: Scenario) -> str:
     """The limits of a contract."""
     days = f"{_in_a_row(contract.working_days)} of work in a row, {_in_a_row(contract.days_off)} off"
-    weekends = (
-        f"at most {plural(contract.max_weekends, 'weekend')} with work" if contract.max_weekends < scenario.weeks
-        else "any number of weekends with work"
-    )  # fmt: skip
-    both = ", on both days or none" * contract.complete_weekends
+    weekends = "any number of weekends with work"
+    if contract.max_weekends < scenario.weeks:
+        weekends = f"at most {plural(contract.max_weekends, 'weekend')} with work"
+    both = ", on both days or none" if contract.complete_weekends else ""
     return f"{_shifts(contract.assignments, scenario)} in {plural(scenario.weeks, 'week')}; {days}; {weekends}{both}"
 
 
@@ -81,7 +79,7 @@ def part_sentences(scenario: Scenario, nurses: Iterable[str]) -> Iterator[str]:
             yield f"{nurse} is away or unpaid on {gone} of {part.total} days: contract {part.whole} counts in proportion, {instead}."
     long_away = [nurse for nurse in nurses for part in [_part(scenario, nurse)] if part and part.any_days_off]
     if long_away:
-        yield f"Off or away for longer than the contract's most days off in a row, so without such a maximum: {joined(long_away)}."
+        yield f"No maximum of days off in a row, since they are away for longer, or come or leave: {joined(long_away)}."
 
 
 def _range(limits: Limits, no_limit: int) -> str:
@@ -108,19 +106,20 @@ def limit_sentences(scenario: Scenario, data: WeekData) -> Iterator[str]:
     for name, owners in _owners(scenario).items():
         said = together((_limits_text(scenario, data, nurse), nurse) for nurse in owners)
         for text, nurses in said.items():
-            yield from [f"{name if nurses == owners else joined(nurses)}: never more than {text}."] * bool(text)
+            if text:
+                yield f"{name if nurses == owners else joined(nurses)}: never more than {text}."
 
 
 def _limits_text(scenario: Scenario, data: WeekData, nurse: str) -> str:
     """The maxima that a nurse never exceeds; nothing if she has none."""
     contract, kinds = scenario.contract_of(nurse), {limit.kind for limit in data.limits if limit.nurse == nurse}
     most = {SHIFTS: contract.assignments.maximum, WORK_DAYS: contract.working_days.maximum, WEEKENDS: contract.max_weekends}
-    words = [f"{plural(most[kind], what)}{' in a row' * (kind == WORK_DAYS)}" for kind, what in _LIMITS.items() if kind in kinds]
+    words = [f"{plural(most[kind], what)}{' in a row' if kind == WORK_DAYS else ''}" for kind, what in _LIMITS.items() if kind in kinds]
     return joined(words) if words else ""
 
 
-def history_sentences(history: History, credit: Mapping[str, int] = {}) -> Iterator[str]:
-    """A history in sentences: the last days, and the totals of the period, with the shifts as which days away count."""
+def history_sentences(history: History, counted: Counted = Counted()) -> Iterator[str]:
+    """A history in sentences: the last days, the totals of the period, and apart from them as what days away count in the whole of it."""
     if history.week:
         yield f"{plural(history.week, 'week')} of the period {'is' if history.week == 1 else 'are'} over."
     past = list(history.nurses.values())
@@ -128,9 +127,12 @@ def history_sentences(history: History, credit: Mapping[str, int] = {}) -> Itera
     for shift, nurses in lasts.items():
         rows = together((_row_text(one), one.nurse) for one in nurses)
         yield f"{shift or 'Off'} on Sunday: {'; '.join(f'{joined(names)} {text}' for text, names in rows.items())}."
-    totals = together((_total_text(one, credit.get(one.nurse, 0)), one.nurse) for one in past if one.assignments or one.weekends)
-    if totals:
-        yield f"In the period until now: {'; '.join(f'{joined(names)} {text}' for text, names in totals.items())}."
+    days_away = {one.nurse: (counted.shifts.get(one.nurse, 0), counted.weekends.get(one.nurse, 0)) for one in past}
+    worked = {one.nurse: (one.assignments - days_away[one.nurse][0], one.weekends - days_away[one.nurse][1]) for one in past}
+    for label, numbers in (("In the period until now", worked), ("For days away in the whole period", days_away)):
+        totals = together((_total_text(*both), nurse) for nurse, both in numbers.items() if any(both))
+        if totals:
+            yield f"{label}: {'; '.join(f'{joined(names)} {text}' for text, names in totals.items())}."
 
 
 def _row_text(past: NurseHistory) -> str:
@@ -140,10 +142,9 @@ def _row_text(past: NurseHistory) -> str:
     return f"for {plural(past.consecutive_shifts, 'day')} in a row, with {plural(past.working_days, 'day')} of work"
 
 
-def _total_text(past: NurseHistory, away: int) -> str:
-    """A nurse's shifts and weekends in the period. `away` of the shifts are days away that count as work."""
-    counted = f" ({away} for days away)" * bool(away)
-    return f"{plural(past.assignments, 'shift')}{counted} and {plural(past.weekends, 'weekend')}"
+def _total_text(shifts: int, weekends: int) -> str:
+    """A nurse's shifts and weekends in the period."""
+    return f"{plural(shifts, 'shift')} and {plural(weekends, 'weekend')}"
 
 
 def supply_text(scenario: Scenario, history: Optional[History], data: WeekData, paid: Paid = ()) -> str:

@@ -2,14 +2,21 @@
 
 from typing import Callable, Collection, Iterable, Iterator, Mapping, NamedTuple, Sequence, Tuple
 
-from ..judging.absences import absences_of, joined, wishes_of
-from ..week.records import DAYS, Cell, Place, Requirement, Scenario, WeekData
+from ..judging.absences import absences_of, wishes_of
+from ..week.records import DAYS, WEEK_DAYS, Cell, Place, Requirement, Scenario, WeekData
+from ..week.words import joined
 from .ward_sentences import together
 
-_WEEK = len(DAYS)
 # The reason of nurses who are away without one, that of days on which they are always off, and how sentences on the others begin.
 _AWAY, _ALWAYS = "away", "off"
-_REASONS = {"ill": "Ill", "leave": "Leave", "training": "Training", "unpaid": "Unpaid", _AWAY: "Away"}
+_REASONS = {
+    "ill": "Ill",
+    "leave": "Leave",
+    "training": "Training",
+    "unpaid": "Unpaid",
+    _AWAY: "Away",
+    "promised": "Promised days off",
+}
 # Days of some weeks in words.
 DaysText = Callable[[Collection[int]], str]
 
@@ -26,7 +33,7 @@ class DescribedWeek(NamedTuple):
 def days_of_week(days: Collection[int]) -> str:
     """Days of a week in words: `all days`, `Mon to Fri`, `Sat and Sun`."""
     ordered = sorted(days)
-    if len(ordered) == _WEEK:
+    if len(ordered) == WEEK_DAYS:
         return "all days"
     if len(ordered) > 2 and ordered[-1] - ordered[0] == len(ordered) - 1:
         return f"{DAYS[ordered[0]]} to {DAYS[ordered[-1]]}"
@@ -37,17 +44,17 @@ def weeks_sentences(scenario: Scenario, weeks: Sequence[DescribedWeek], days_tex
     """Weeks in sentences. Their days count from the Monday of the first one, and have these texts."""
     yield from _needs_sentences(weeks)
     order = {nurse: number for number, nurse in enumerate(scenario.nurses)}
-    away = [(one.nurse, _WEEK * index + one.day, one.shift) for index, week in enumerate(weeks) for one in absences_of(week.data)]
+    away = [(one.nurse, WEEK_DAYS * index + one.day, one.shift) for index, week in enumerate(weeks) for one in absences_of(week.data)]
     away.sort(key=lambda one: (order[one[0]], one[1]))
     for shift in scenario.shift_types:
         never = ((nurse, day) for nurse, day, one in away if one == shift)
-        yield from _sentence(f"Never {shift}", never, lambda days: "" if len(days) == _WEEK * len(weeks) else days_text(days))
+        yield from _sentence(f"Never {shift}", never, lambda days: "" if len(days) == WEEK_DAYS * len(weeks) else days_text(days))
     whole = together((_reason(weeks, nurse, day), (nurse, day)) for nurse, day, shift in away if shift is None)
-    yield from _sentence("Always off", whole.get(_ALWAYS, ()), lambda days: days_of_week({day % _WEEK for day in days}))
+    yield from _sentence("Always off", whole.get(_ALWAYS, ()), lambda days: days_of_week({day % WEEK_DAYS for day in days}))
     for reason, label in _REASONS.items():
         yield from _sentence(label, whole.get(reason, ()), days_text)
     yield from _wishes_sentences(scenario, weeks, days_text)
-    held = [cell._replace(day=_WEEK * index + cell.day) for index, week in enumerate(weeks) for cell in week.held]
+    held = [cell._replace(day=WEEK_DAYS * index + cell.day) for index, week in enumerate(weeks) for cell in week.held]
     yield from held_sentences(held, days_text)
 
 
@@ -60,19 +67,22 @@ def _sentence(label: str, pairs: Iterable[Tuple[str, int]], days_text: DaysText)
     """A sentence on who has what on which days, if anybody has; those with the same days are joined."""
     alike = together((days_text(days), name) for name, days in together(pairs).items())
     words = (f"{joined(names)}{f' on {days}' if days else ''}" for days, names in alike.items())
-    yield from [f"{label}: {'; '.join(words)}."] * bool(alike)
+    if alike:
+        yield f"{label}: {'; '.join(words)}."
 
 
 def _reason(weeks: Sequence[DescribedWeek], nurse: str, day: int) -> str:
-    return weeks[day // _WEEK].reasons.get((nurse, day % _WEEK), _AWAY)
+    return weeks[day // WEEK_DAYS].reasons.get((nurse, day % WEEK_DAYS), _AWAY)
 
 
 def _wishes_sentences(scenario: Scenario, weeks: Sequence[DescribedWeek], days_text: DaysText) -> Iterator[str]:
     """Wishes, and how many equal requests of a file they are."""
-    wishes = [(one.nurse, one.shift, _WEEK * index + one.day) for index, week in enumerate(weeks) for one in wishes_of(week.data)]
+    wishes = [(one.nurse, one.shift, WEEK_DAYS * index + one.day) for index, week in enumerate(weeks) for one in wishes_of(week.data)]
 
     def days_and_requests(days: Collection[int]) -> str:
-        return f"{days_text(set(days))}{f' ({len(days)} requests)' * (len(days) > len(set(days)))}"
+        times = f" ({len(days)} requests)" if len(days) > len(set(days)) else ""
+
+        return f"{days_text(set(days))}{times}"
 
     for shift in (None, *scenario.shift_types):
         pairs = [(nurse, day) for nurse in scenario.nurses for who, what, day in wishes if (who, what) == (nurse, shift)]
@@ -82,10 +92,10 @@ def _wishes_sentences(scenario: Scenario, weeks: Sequence[DescribedWeek], days_t
 def _needs_sentences(weeks: Sequence[DescribedWeek]) -> Iterator[str]:
     """The numbers of each shift type and skill, those of most weeks first."""
     for shift, skill in dict.fromkeys((place.shift, place.skill) for week in weeks for place in week.data.requirements):
-        numbers = [[week.data.requirements.get(Place(day, shift, skill), Requirement(0, 0)) for day in range(_WEEK)] for week in weeks]
+        numbers = [[week.data.requirements.get(Place(day, shift, skill), Requirement(0, 0)) for day in range(WEEK_DAYS)] for week in weeks]
         usual = max(numbers, key=numbers.count)
         others = together((_other_numbers(of_week, usual), week.number + 1) for week, of_week in zip(weeks, numbers) if of_week != usual)
-        words = [f"; week{'s' * (len(some) > 1)} {joined(map(str, some))}: {text}" for text, some in others.items()]
+        words = [f"; week{'s' if len(some) > 1 else ''} {joined(map(str, some))}: {text}" for text, some in others.items()]
         yield f"{shift} {skill}: {_numbers_by_day(enumerate(usual))}{''.join(words)}."
 
 

@@ -1,12 +1,16 @@
-"""Why rosters cost what they cost: each charge in words, and the charges that a change saves or adds."""
+"""Why rosters cost what they cost: each charge and each broken rule in words, and the charges that a change saves or adds."""
 
-from typing import Iterator, List, Tuple
+import collections
+from typing import Dict, Iterable, Iterator, List, Sequence, Tuple, TypeVar
 
-from .changes import changed_lines
+from ..judging.absences import MARK
 from ..judging.limits import limits_in_words
-from .charge_words import costs_text, difference, in_words
+from ..judging.rules import Charge, cost_by_rule
+from ..week.records import DAYS
+from ..week.soft_rules import RULES, SOFT_RULES, Form
+from ..week.words import plural
+from .changes import changed_lines
 from .roster_view import RosterView
-from ..judging.rules import SOFT_RULES, Charge, cost_by_rule
 
 
 def _charges(view: RosterView) -> List[Tuple[str, Charge]]:
@@ -34,7 +38,7 @@ def why_lines(view: RosterView) -> Iterator[str]:
     for shown in view.weeks:
         for charge in shown.charges or ():
             away = shown.for_absence(charge)
-            absent = f" ({away} for absences)" * bool(away)
+            absent = f" ({away} for absences)" if away else ""
             yield f"{charge.cost:5}  {charge.rule}  {view.prefix(shown)}{in_words(charge)}{absent}"
     if view.penalty is not None:
         rules = costs_text(cost_by_rule(charge for _, charge in _charges(view)))
@@ -56,3 +60,70 @@ def change_lines(old: RosterView, new: RosterView) -> Iterator[str]:
     by_rule = [f"{rule} {now[rule] - before[rule]:+}" for rule in SOFT_RULES if now[rule] != before[rule]]
     rules = f": {' '.join(by_rule)}" if by_rule else ""
     yield f"{new.penalty - old.penalty:+5}  in all{rules}; penalty {new.penalty} instead of {old.penalty}"
+
+
+def days_text(days: Tuple[int, int], names: Sequence[str] = DAYS) -> str:
+    """The first and the last day, as `Mon to Thu`."""
+    first, last = days
+    return names[first] if first == last else f"{names[first]} to {names[last]}"
+
+
+def _in_a_row(charge: Charge, what: str, monday: str) -> str:
+    """A run that is too long or too short."""
+    run = f"{plural(charge.number, 'day')} {what}"
+    before = f" ({charge.before} before {monday})" if charge.before and charge.days else ""
+    if charge.what.endswith("above"):
+        return f"{run} in a row{before}, at most {charge.limit}"
+    return f"only {run}{' in a row' if charge.number > 1 else ''}{before}, at least {charge.limit}"
+
+
+def _in_the_period(charge: Charge, what: str, monday: str) -> str:
+    """A total of the period that is too large or too small."""
+    side = "at least" if charge.what == "below" else "at most"
+    return f"{plural(charge.number, what)} in the period ({charge.before} before {monday}), {side} {charge.limit}"
+
+
+def _not_granted(charge: Charge) -> str:
+    """The requests of a charge."""
+    times = f" ({charge.number} requests)" if charge.number > 1 else ""
+    if charge.number >= MARK:
+        return f"while away{times}"
+    asked = "to be off" if charge.what == "Any" else f"for no {charge.subject}"
+    return f"and asked {asked}{times}"
+
+
+def reason(charge: Charge, monday: str) -> str:
+    """What is charged, without the nurse or place and the days."""
+    rule = RULES[charge.rule]
+    if rule.form is Form.PLACE:
+        return f"{charge.number} of {plural(charge.limit, rule.counts)}"
+    if rule.form is Form.RUN:
+        return _in_a_row(charge, f"on {charge.subject}" if charge.subject else rule.counts, monday)
+    if rule.form is Form.REQUEST:
+        return f"on {charge.subject}, {_not_granted(charge)}"
+    if rule.form is Form.TOTAL:
+        return _in_the_period(charge, rule.counts, monday)
+    return rule.words
+
+
+def in_words(charge: Charge, with_nurse: bool = True, names: Sequence[str] = DAYS) -> str:
+    """A charge in words, as `Chen, Mon to Thu: 4 days off in a row, at most 3`, with these names of days."""
+    monday = "Monday" if names is DAYS else names[0]
+    days = days_text(charge.days, names) if charge.days else "" if RULES[charge.rule].form is Form.TOTAL else f"before {monday}"
+    who = charge.subject if charge.nurse is None else charge.nurse if with_nurse else ""
+    named = ", ".join(filter(None, (who, days)))
+    return f"{named}: {reason(charge, monday)}" if named else reason(charge, monday)
+
+
+def costs_text(costs: Dict[str, int]) -> str:
+    """The rules and what they charge, as `S2 30 + S4 10`."""
+    return " + ".join(f"{rule} {cost}" for rule, cost in costs.items() if cost)
+
+
+T = TypeVar("T")
+
+
+def difference(old: Iterable[T], new: Iterable[T]) -> Tuple[List[T], List[T]]:
+    """Those that only the old ones have, and those that only the new ones have."""
+    before, now = collections.Counter(old), collections.Counter(new)
+    return list((before - now).elements()), list((now - before).elements())

@@ -1,6 +1,6 @@
 """What solvers of linear and integer programs answer."""
 
-from typing import Dict, List, NamedTuple, Optional
+from typing import List, NamedTuple, Optional
 
 from ..week.faults import Misuse
 
@@ -12,20 +12,6 @@ MAX_VALUE = 1e15
 
 class SolverFault(Misuse):
     """A solver that crashed, or whose answer cannot be read."""
-
-
-class NoSolution(SolverFault):
-    """A linear program that has no solution, as its solver says."""
-
-
-class Relaxed(NamedTuple):
-    """An optimal solution of a linear program: its value, and by name the values that are not 0, the prices of the rows, and by how much
-    one of each other row of a nurse would raise the value."""
-
-    value: float
-    taken: Dict[str, float]
-    prices: Dict[str, float]
-    rises: Dict[str, float]
 
 
 class Chosen(NamedTuple):

@@ -1,22 +1,17 @@
-"""A process that keeps linear programs in Clp's library: it reads requests from its standard input and answers on its standard output.
-
-A request is a list of operations, marshalled, after its length. Each `solve` has an answer: HEAD, then, if it is asked for, the rows'
-prices, the columns' values and what one of each column would add. It imports nothing of the package, and so starts fast.
+"""A process that keeps linear programs in Clp's library: it gets lists of operations from its standard input, and each `solve` has an
+answer on its standard output, both as a Connection sends them. It imports nothing of the package, and so starts fast.
 """
 
 import array
+import contextlib
 import ctypes
-import marshal
 import os
-import struct
 import sys
 import threading
 import time
-from typing import Any, BinaryIO, Dict, List, Tuple
+from multiprocessing.connection import Connection
+from typing import Any, Dict, Optional, Tuple
 
-LENGTH = struct.Struct("<q")
-# The status of Clp, the iterations, the value, and the numbers of rows and of columns that follow.
-HEAD = struct.Struct("<iidii")
 OPTIMAL, INFEASIBLE, STOPPED = 0, 1, 3
 LIBRARY = "libClp.so.1"
 # The exit status without the library.
@@ -26,8 +21,11 @@ DUAL, PRIMAL = "dual", "primal"
 LOOK_SECONDS = 0.5
 _MOST_ITERATIONS = 2**31 - 1
 # Clp's statuses of a basis for a new column and a new row.
-_AT_LOWER, _BASIC = b"\3", b"\1"
+AT_LOWER, _BASIC = b"\3", b"\1"
 _DOUBLE, _INT, _POINTER = ctypes.c_double, ctypes.c_int, ctypes.c_void_p
+# The status of Clp, the iterations, the value, and, if they are asked for, the rows' prices, the columns' values, what one of each column
+# would add, and the statuses of the columns and of the rows in the basis.
+Answer = Tuple[int, int, float, bytes, bytes, bytes, bytes, bytes]
 
 
 def load() -> Any:
@@ -70,8 +68,6 @@ class Program:
     def __init__(self, clp: Any) -> None:
         self._clp, self._model = clp, _POINTER(clp.Clp_newModel())
         self._rows = self._columns = 0
-        # The statuses of the columns and of the rows of each kept basis.
-        self._kept: Dict[int, Tuple[bytes, bytes]] = {}
         clp.Clp_setLogLevel(self._model, 0)
 
     def delete(self) -> None:
@@ -112,28 +108,32 @@ class Program:
             of_all[number] = value
         put(self._model, of_all)
 
-    def keep_basis(self, name: int) -> None:
-        """Keeps the basis under a name."""
+    def _statuses(self) -> Tuple[bytes, bytes]:
         statuses = ctypes.string_at(self._clp.Clp_statusArray(self._model), self._columns + self._rows)
-        self._kept[name] = statuses[: self._columns], statuses[self._columns :]
+        return statuses[: self._columns], statuses[self._columns :]
 
-    def take_basis(self, name: int) -> None:
-        """Goes on with a basis, if it was kept; columns and rows that are newer are not in it."""
-        columns, rows = self._kept.get(name, (b"", b""))
-        statuses = columns.ljust(self._columns, _AT_LOWER) + rows.ljust(self._rows, _BASIC)
+    def begin_at(self, columns: bytes, rows: bytes) -> None:
+        """Goes on with the basis of these statuses of the first columns and rows."""
+        statuses = columns.ljust(self._columns, AT_LOWER) + rows.ljust(self._rows, _BASIC)
         self._clp.Clp_copyinStatus(self._model, (ctypes.c_ubyte * len(statuses)).from_buffer_copy(statuses))
 
-    def solve(self, how: str, iterations: int, seconds: float, whole: bool) -> List[bytes]:
-        """Solves it, from the basis at which it is; the answer."""
+    def solve(self, how: str, iterations: int, seconds: float, whole: bool) -> Answer:
+        """Solves it, from the basis at which it is."""
         clp, model = self._clp, self._model
         clp.Clp_setMaximumIterations(model, iterations or _MOST_ITERATIONS)
         # These do not count while it waits for a processor: then the parent ends this process.
         clp.Clp_setMaximumSeconds(model, seconds)
         (clp.Clp_dual if how == DUAL else clp.Clp_primal)(model, 0)
-        rows, columns = (self._rows, self._columns) if whole else (0, 0)
-        head = HEAD.pack(clp.Clp_status(model), clp.Clp_numberIterations(model), clp.Clp_objectiveValue(model), rows, columns)
-        found = [(clp.Clp_dualRowSolution, rows), (clp.Clp_primalColumnSolution, columns), (clp.Clp_dualColumnSolution, columns)]
-        return [head, *(ctypes.string_at(get(model), 8 * number) for get, number in found if number)]
+        head = clp.Clp_status(model), clp.Clp_numberIterations(model), clp.Clp_objectiveValue(model)
+        if not whole:
+            return (*head, b"", b"", b"", b"", b"")
+        found = (
+            (clp.Clp_dualRowSolution, self._rows),
+            (clp.Clp_primalColumnSolution, self._columns),
+            (clp.Clp_dualColumnSolution, self._columns),
+        )
+        prices, columns, rises = (ctypes.string_at(get(model), 8 * number) if number else b"" for get, number in found)
+        return (*head, prices, columns, rises, *self._statuses())
 
 
 class Child:
@@ -143,15 +143,16 @@ class Child:
         self._clp = clp
         self._programs: Dict[int, Program] = {}
 
-    def do(self, number: int, name: str, *words: Any) -> List[bytes]:
+    def do(self, number: int, name: str, *words: Any) -> Optional[Answer]:
         """Does one operation; a solution is its answer."""
         if name == "delete":
             if number in self._programs:
                 self._programs.pop(number).delete()
-            return []
+            return None
         if number not in self._programs:
             self._programs[number] = Program(self._clp)
-        return getattr(self._programs[number], name)(*words) or []
+        found: Optional[Answer] = getattr(self._programs[number], name)(*words)
+        return found
 
 
 def exit_without_parent(parent: int) -> None:
@@ -161,29 +162,21 @@ def exit_without_parent(parent: int) -> None:
     os._exit(1)
 
 
-def serve(requests: BinaryIO, answers: BinaryIO, child: Child) -> None:
-    """Answers requests until there are no more."""
-    while True:
-        head = requests.read(LENGTH.size)
-        if len(head) < LENGTH.size:
-            return
-        for operation in marshal.loads(requests.read(LENGTH.unpack(head)[0])):
-            found = child.do(*operation)
-            if found:
-                answers.write(b"".join(found))
-                answers.flush()
-
-
 def main() -> None:
-    """Serves the parent. What Clp prints goes to standard error."""
+    """Serves the parent until there are no more requests. What Clp prints goes to standard error."""
     threading.Thread(target=exit_without_parent, args=(os.getppid(),), daemon=True).start()
-    answers = os.fdopen(os.dup(1), "wb")
+    requests, answers = Connection(os.dup(0), writable=False), Connection(os.dup(1), readable=False)
     os.dup2(2, 1)
     try:
-        clp = load()
+        child = Child(load())
     except OSError:
         sys.exit(NO_LIBRARY)
-    serve(sys.stdin.buffer, answers, Child(clp))
+    with contextlib.suppress(EOFError):
+        while True:
+            for operation in requests.recv():
+                found = child.do(*operation)
+                if found:
+                    answers.send(found)
 
 
 if __name__ == "__main__":

@@ -1,6 +1,6 @@
-"""Reads the result files of MIP solvers, as answers that `inrc2pb decode` reads.
+"""Reads the results of solvers, as answers that `inrc2pb decode` reads.
 
-Known are the files of cbc, glpsol and HiGHS, and Gurobi's list of names and values.
+Known are the files of cbc, glpsol and HiGHS, Gurobi's list of names and values, and what SYMPHONY and toulbar2 print.
 """
 
 import os
@@ -20,6 +20,7 @@ TOLERANCE = 1e-6 * (1 + 1e-9)
 SOLVER_TOLERANCE = 1e-3
 # A larger file is no result of a model: the longest one has some megabytes.
 MAX_BYTES = 1 << 28
+MAX_LINE = 1 << 26
 # An objective of more than 17 digits is not kept.
 MAX_OBJECTIVE = 1e17
 LITERALS_PER_LINE = 20
@@ -57,15 +58,14 @@ class Answer:
 
 
 def check_size(path: PathLike) -> None:
-    """A file that is too long for an answer is a SolutionFault before it is read."""
+    """Raises SolutionFault if a file is too long for an answer, before it is read."""
     if os.path.isfile(path) and os.path.getsize(path) > MAX_BYTES:
         raise SolutionFault(f"{path} has more than {MAX_BYTES >> 20} MiB: this is no answer")
 
 
 def read_answer(solution: TextIO, ended: Optional[str] = None) -> Answer:
     """The answer in a result file. `ended`, a key of STATUSES, counts if the file does not say how the solver ended."""
-    lines = ((number, line.strip()) for number, line in enumerate(solution, 1))
-    lines = ((number, line) for number, line in lines if line)
+    lines = ((number, line) for number, line in enumerate(map(str.strip, _limited(solution)), 1) if line)
     first = next(lines, None)
     if first is None:
         return Answer(STATUSES[ended or "unknown"]) if ended in (None, "infeasible", "unknown") else _no_values()
@@ -78,6 +78,16 @@ def read_answer(solution: TextIO, ended: Optional[str] = None) -> Answer:
     if answer.status in ("OPTIMUM FOUND", "SATISFIABLE") and not answer.variables:
         _no_values()
     return answer
+
+
+def _limited(solution: TextIO) -> Iterator[str]:
+    """The lines of a file. Raises SolutionFault if a line or the file is too long for an answer: a pipe or a device may be endless."""
+    left = MAX_BYTES
+    while line := solution.readline(MAX_LINE + 1):
+        left -= len(line)
+        if left < 0 or len(line) > MAX_LINE:
+            raise SolutionFault(f"a line or the file is longer than {MAX_LINE >> 20} or {MAX_BYTES >> 20} MiB: this is no answer")
+        yield line
 
 
 def _no_values() -> Answer:
@@ -217,9 +227,47 @@ def _of_list(first: Line, lines: Iterator[Line], ended: str) -> Answer:
     return Answer(STATUSES[ended], objective, _values(_words(line for part in (rows, lines) for line in part)))
 
 
+def _of_symphony(_first: Line, lines: Iterator[Line], _ended: str) -> Answer:
+    """What `symphony -L week.lp` prints: how it ended, between lines of stars, and the values that are not 0."""
+    says, objective, rows = "", None, []
+    for number, line in lines:
+        words = line.split()
+        if line.startswith("* ") and not line.startswith("* Now "):
+            says = line.strip("* ")
+        elif line.startswith("Solution Cost:"):
+            objective = _objective(words[-1])
+        elif len(words) == 2 and _VARIABLE.fullmatch(words[0]):
+            rows.append((number, words))
+    if "Infeasible" in says:
+        return Answer("UNSATISFIABLE")
+    status = STATUSES["optimal" if says == "Optimal Solution Found" else "stopped"]
+    return Answer(status, objective, _values(rows)) if rows else Answer("UNKNOWN")
+
+
+def _of_toulbar2(_first: Line, lines: Iterator[Line], _ended: str) -> Answer:
+    """What `toulbar2 week.opb -s=3` prints: after each `New solution: 320 (..)` a line `x1=v0 x2=v1 ..`, of which the last one counts."""
+    says, objective, last = "stopped", None, (0, "")
+    for number, line in lines:
+        if line.startswith("New solution: "):
+            objective = _objective(line.split()[2])
+        elif line.startswith("Optimum: "):
+            says = "optimal"
+        elif line.startswith("No solution"):
+            says = "infeasible"
+        elif re.match("x[0-9]+=v", line):
+            last = (number, line)
+    if objective is not None and not last[1]:
+        raise SolutionFault("toulbar2 printed no names of variables: give it the option -s=3")
+    if not last[1]:
+        return Answer(STATUSES["infeasible" if says == "infeasible" else "unknown"])
+    return Answer(STATUSES[says], objective, _values((last[0], word.split("=v")) for word in last[1].split()))
+
+
 _READERS: List[Tuple["re.Pattern[str]", Callable[[Line, Iterator[Line], str], Answer]]] = [
     (re.compile(r"Model status$"), _of_highs),
     (re.compile(r"Problem:"), _of_glpsol),
     (re.compile(r".* - objective value"), _of_cbc),
+    (re.compile(r"==  Welcome to the SYMPHONY"), _of_symphony),
+    (re.compile(r"c .*\btoulbar2\b"), _of_toulbar2),
     (re.compile(r"#|x[0-9]+\s"), _of_list),
 ]

@@ -1,36 +1,35 @@
 """Linear programs that stay in a solver: columns are added to a warm basis, and bounds and costs change.
 
-A child process keeps them in Clp's library. If it is not installed or fails, a solver that reads files solves the same programs anew.
-Nothing depends on a right answer.
+A child process keeps them in Clp's library. Nothing depends on a right answer.
 """
 
-import marshal
+import contextlib
 import math
 import os
-import selectors
 import subprocess
 import sys
 import time
 from array import array
+from multiprocessing.connection import Connection
 from pathlib import Path
-from typing import Callable, Dict, Iterable, List, Mapping, NamedTuple, Optional, Sequence, Tuple
+from typing import Dict, Iterable, List, Mapping, NamedTuple, Optional, Sequence, Tuple
 
-from . import clp_child
-from .answers import MAX_FAULTS, MAX_VALUE, NoSolution, Relaxed, SolverFault
-from .clp_child import DUAL, HEAD, INFEASIBLE, LENGTH, NO_LIBRARY, OPTIMAL, PRIMAL, STOPPED
 from ..programs.clock import Clock, TimeIsOver
-from ..programs.processes import MAX_WAIT, PIECE, Processes
+from ..programs.processes import MAX_WAIT, Processes
+from . import clp_child
+from .answers import MAX_FAULTS, MAX_VALUE, SolverFault
+from .clp_child import AT_LOWER, DUAL, INFEASIBLE, LIBRARY, NO_LIBRARY, OPTIMAL, PRIMAL, STOPPED
 
 # Seconds that a child has beyond the end of the time to say so.
 GRACE = 1.0
+# Seconds that a child has to end by itself after a fault.
+END_SECONDS = 1.0
 # What Clp takes for infinity.
 _INFINITE = 1e30
 # The line before and after columns that are integers.
 _MARK = "    MARKER                 'MARKER'                 'INT{}'\n"
 # An operation on a program: a name and words.
 _Operation = Tuple[object, ...]
-# Solves the text of a program; the flag says whether the last solution is a start.
-Relax = Callable[[str, Clock, bool], Relaxed]
 NAME = "Clp's library"
 
 __all__ = ["DUAL", "INFEASIBLE", "OPTIMAL", "PRIMAL", "STOPPED", "Child", "Column", "LinearProgram", "Solution"]
@@ -47,7 +46,8 @@ class Column(NamedTuple):
 
 class Solution(NamedTuple):
     """The answer of a linear program: whether it is OPTIMAL, INFEASIBLE or STOPPED at the limit of its iterations, its value, the prices of
-    its rows, the values of its columns, by how much one of each column would raise the value, and the number of iterations."""
+    its rows, the values of its columns, by how much one of each column would raise the value, the number of iterations, and the statuses of
+    columns and rows in its basis, if they are known."""
 
     status: int
     value: float
@@ -55,6 +55,7 @@ class Solution(NamedTuple):
     columns: "Sequence[float]" = ()
     rises: "Sequence[float]" = ()
     iterations: int = 0
+    basis: Tuple[bytes, bytes] = (b"", b"")
 
 
 class Child:
@@ -63,10 +64,11 @@ class Child:
     def __init__(self, processes: Processes, folder: Path) -> None:
         self._processes, self._folder = processes, folder
         self._process: "Optional[subprocess.Popen[bytes]]" = None
+        self._pipes: Optional[Tuple[Connection, Connection]] = None
         self._faults = self._programs = self.starts = 0
         self._forgotten: List[int] = []
-        # Whether it still gets requests.
-        self.works = True
+        # Why it gets no more requests, if it does not.
+        self.broken = ""
 
     def number(self) -> int:
         """A number for a new program."""
@@ -85,104 +87,104 @@ class Child:
     def start(self) -> None:
         """Starts a new process, which has no programs."""
         self.end()
-        self._process = self._processes.open([sys.executable, "-I", "-S", clp_child.__file__], self._folder)
+        process = self._process = self._processes.open([sys.executable, "-I", "-S", clp_child.__file__], self._folder)
+        assert process.stdin and process.stdout
+        requests, answers = os.dup(process.stdin.fileno()), os.dup(process.stdout.fileno())
+        self._pipes = Connection(requests, readable=False), Connection(answers, writable=False)
         self.starts += 1
         self._forgotten.clear()
 
     def end(self) -> None:
         """Ends the process."""
+        for pipe in self._pipes or ():
+            pipe.close()
         if self._process:
             self._processes.close(self._process)
-            self._process = None
+        self._process = self._pipes = None
 
-    def fail(self) -> None:
+    def fail(self, fault: SolverFault) -> None:
         """After some faults in a row it gets no more requests."""
-        ended = self._process.poll() if self._process else None
+        ended = None
+        with contextlib.suppress(subprocess.TimeoutExpired):
+            # A process without the library ends at once.
+            ended = self._process.wait(END_SECONDS) if self._process else None
         self.end()
         self._faults += 1
-        self.works = self._faults < MAX_FAULTS and ended != NO_LIBRARY
+        if ended == NO_LIBRARY:
+            self.broken = f"{LIBRARY} is missing: install it (Debian: apt-get install coinor-cbc)"
+        elif self._faults >= MAX_FAULTS:
+            self.broken = str(fault)
 
     def ask(self, operations: Sequence[_Operation], clock: Clock, rows: int, columns: int) -> Solution:
         """Does the operations, of which the last one solves; so many numbers belong to the answer."""
         if self._processes.stopped:
             raise TimeIsOver
+        assert self._pipes
+        requests, answers = self._pipes
         limit = time.monotonic() + min(MAX_WAIT, clock.left() + GRACE)
-        request = marshal.dumps([*((number, "delete") for number in self._forgotten), *operations])
-        self._forgotten.clear()
-        size = HEAD.size + 8 * (rows + 2 * columns)
         try:
-            data = self._exchange(LENGTH.pack(len(request)) + request, size, limit)
-        except (OSError, TimeIsOver) as late:
-            self.end()
-            if self._processes.stopped or isinstance(late, TimeIsOver):
+            requests.send([*((number, "delete") for number in self._forgotten), *operations])
+            self._forgotten.clear()
+            answer = answers.recv() if answers.poll(max(0.0, limit - time.monotonic())) else None
+        except (OSError, EOFError) as late:
+            if self._processes.stopped:
+                self.end()
                 raise TimeIsOver from late
-            raise SolverFault(f"{NAME} ended: {late}") from late
-        found = _solution(data, rows, columns)
+            raise SolverFault(f"{NAME} ended") from late
+        if answer is None:
+            self.end()
+            raise TimeIsOver
+        found = _solution(answer, rows, columns)
         self._faults = 0
         return found
 
-    def _exchange(self, request: bytes, size: int, limit: float) -> bytes:
-        """Writes a request and reads an answer of this size, or only its head if it says that there is no more."""
-        assert self._process is not None and self._process.stdin is not None and self._process.stdout is not None
-        target, source = self._process.stdin.fileno(), self._process.stdout.fileno()
-        left, parts, need = memoryview(request), [b""], size
-        with selectors.DefaultSelector() as streams:
-            streams.register(source, selectors.EVENT_READ)
-            streams.register(target, selectors.EVENT_WRITE)
-            while need > 0:
-                ready = [key.fd for key, _ in streams.select(max(0.0, limit - time.monotonic()))]
-                if not ready:
-                    raise TimeIsOver
-                if target in ready:
-                    left = left[os.write(target, left[:PIECE]) :]
-                    if not left:
-                        streams.unregister(target)
-                if source in ready:
-                    parts.append(os.read(source, min(need, 1 << 20)))
-                    if not parts[-1]:
-                        self._process.wait()
-                        raise OSError(f"status {self._process.returncode}")
-                    need -= len(parts[-1])
-        return b"".join(parts)
 
-
-def _solution(data: bytes, rows: int, columns: int) -> Solution:
+def _solution(answer: clp_child.Answer, rows: int, columns: int) -> Solution:
     """The solution of an answer. Numbers that are none are a SolverFault."""
-    status, iterations, value, *sizes = HEAD.unpack_from(data)
-    numbers = array("d", data[HEAD.size :])
-    if sizes != [rows, columns] or status not in (OPTIMAL, INFEASIBLE, STOPPED):
+    status, iterations, value, *found, of_columns, of_rows = answer
+    prices, values, rises = (array("d", part) for part in found)
+    if [len(prices), len(values), len(rises)] != [rows, columns, columns] or status not in (OPTIMAL, INFEASIBLE, STOPPED):
         raise SolverFault(f"{NAME} ended with status {status}")
     if status == INFEASIBLE:
         value = math.inf
-    elif not (abs(value) < MAX_VALUE and abs(sum(numbers)) < MAX_VALUE):
+    elif not (abs(value) < MAX_VALUE and abs(sum(prices) + sum(values) + sum(rises)) < MAX_VALUE):
         raise SolverFault(f"{NAME} answered with numbers that are none")
-    return Solution(status, value, numbers[:rows], numbers[rows : rows + columns], numbers[rows + columns :], iterations)
+    return Solution(status, value, prices, values, rises, iterations, (of_columns, of_rows))
 
 
 def _finite(value: float) -> float:
     return max(-_INFINITE, min(_INFINITE, value))
 
 
-def no_solver(text: str, clock: Clock, goes_on: bool) -> Relaxed:
-    """Solves nothing, for programs that are never solved."""
-    raise SolverFault("there is no solver of linear programs")
-
-
 class LinearProgram:
-    """A linear program. It is a copy of what a child keeps: a new child gets it from here, and so does a solver that reads files.
+    """A linear program. It is a copy of what a child keeps: a new child gets it from here. Without a child it is not solved.
 
     A row is Σ entries between its bounds. All changes count from the next `solve` on.
     """
 
-    def __init__(self, child: Optional[Child], relax: Relax) -> None:
-        self._child, self._relax = child, relax
+    def __init__(self, child: Optional[Child]) -> None:
+        self._child = child
         self._number = child.number() if child else 0
         self._lower, self._upper = array("d"), array("d")
         self._columns: List[Column] = []
         # The operations that the child has not done yet, and the start of the child that has done the others.
         self._pending: List[_Operation] = []
         self._start = 0
-        self._goes_on = False
+        # The statuses of the columns and rows in the basis of the last whole solution.
+        self.basis = (b"", b"")
+
+    def __getstate__(self) -> Dict[str, object]:
+        """Without its solver: only `part` is of use in another process."""
+        return {**self.__dict__, "_child": None, "_pending": []}
+
+    def part(self, columns: Sequence[int], target: "LinearProgram") -> "LinearProgram":
+        """Makes an empty program one with all rows and these columns, which begins at the basis of the last whole solution."""
+        of_columns, of_rows = self.basis
+        target.add_rows(zip(self._lower, self._upper))
+        target.add_columns([self._columns[number] for number in columns])
+        statuses = of_columns.ljust(len(self._columns), AT_LOWER)
+        target.basis = bytes(statuses[number] for number in columns), of_rows
+        return target
 
     @property
     def rows(self) -> int:
@@ -235,13 +237,9 @@ class LinearProgram:
             numbers = array("i", values).tobytes()
             self._pending.append((name, numbers, *(array("d", map(_finite, part)).tobytes() for part in zip(*values.values()))))
 
-    def keep_basis(self, name: int = 0) -> None:
-        """Keeps the basis of the last solution under this name, if the child has one."""
-        self._pending.append(("keep_basis", name))
-
-    def take_basis(self, name: int = 0) -> None:
-        """Goes on with a basis that was kept."""
-        self._pending.append(("take_basis", name))
+    def take_basis(self, basis: Tuple[bytes, bytes]) -> None:
+        """Goes on with the basis of an earlier solution."""
+        self._pending.append(("begin_at", *basis))
 
     def close(self) -> None:
         """Frees it in the child."""
@@ -252,16 +250,16 @@ class LinearProgram:
 
     def solve(self, clock: Clock, how: str = PRIMAL, iterations: int = 0, whole: bool = True) -> Solution:
         """Solves it by the dual or the primal simplex method, in at most these iterations (0: any number). Only a whole solution has
-        prices, values and rises. The end of the clock's time is a TimeIsOver; if no solver works, this is a SolverFault."""
+        prices, values and rises. The end of the clock's time is a TimeIsOver; if the child does not work, this is a SolverFault."""
         clock.check()
-        while self._child and self._child.works:
+        while self._child and not self._child.broken:
             try:
                 return self._by_child(self._child, clock, (how, iterations, clock.left(), whole))
-            except SolverFault:
-                self._child.fail()
+            except SolverFault as fault:
+                self._child.fail(fault)
             finally:
                 clock.check()
-        return self._by_files(clock)
+        raise SolverFault(self._child.broken if self._child else "there is no solver of linear programs")
 
     def _by_child(self, child: Child, clock: Clock, words: Tuple[object, ...]) -> Solution:
         if not child.is_alive:
@@ -269,31 +267,16 @@ class LinearProgram:
         if self._start != child.starts:
             self._start = child.starts
             self._pending = [("add_rows", self._lower.tobytes(), self._upper.tobytes()), ("add_columns", *_as_arrays(self._columns))]
+            self._pending.append(("begin_at", *self.basis))
         operations, self._pending = [*self._pending, ("solve", *words)], []
         sizes = (self.rows, self.columns) if words[-1] else (0, 0)
-        return child.ask([(self._number, *operation) for operation in operations], clock, *sizes)
+        found = child.ask([(self._number, *operation) for operation in operations], clock, *sizes)
+        self.basis = found.basis if words[-1] else self.basis
+        return found
 
-    def _by_files(self, clock: Clock) -> Solution:
-        """The solution of a solver that reads files."""
-        self._pending = []
-        try:
-            found = self._relax(self.text(), clock, self._goes_on)
-        except NoSolution:
-            return Solution(INFEASIBLE, math.inf)
-        self._goes_on = True
-        prices, columns, rises = array("d", bytes(8 * self.rows)), array("d", bytes(8 * self.columns)), array("d", bytes(8 * self.columns))
-        for target, values in ((prices, found.prices), (columns, found.taken), (rises, found.rises)):
-            for name, value in values.items():
-                if not (name[1:].isdigit() and int(name[1:]) < len(target)):
-                    raise SolverFault(f"the answer has an unknown column {name[:40]}")
-                target[int(name[1:])] = value
-        # The number of iterations is unknown; the number of rows is a guess.
-        return Solution(OPTIMAL, found.value, prices, columns, rises, self.rows)
-
-    def text(self, names: Optional[Sequence[str]] = None, whole: str = "") -> str:
-        """The program in the MPS format: row N is cN. Column N is vN, or has one of the names; an empty name leaves it out, and names with
-        the letter of `whole` are those of columns that are 0 or 1."""
-        names = names or [f"v{number}" for number in range(len(self._columns))]
+    def text(self, names: Sequence[str], whole: str) -> str:
+        """The program in the MPS format: row N is cN. Each column has its name; an empty one leaves it out, and names with the letter of
+        `whole` are those of columns that are 0 or 1."""
         kinds, right, ranges = [], [], []
         for number, (lower, upper) in enumerate(zip(self._lower, self._upper)):
             kind = "E" if lower == upper else "N" if upper - lower >= 2 * _INFINITE else "G" if upper >= _INFINITE else "L"
@@ -308,16 +291,22 @@ class LinearProgram:
             if not name or lower == upper == 0:
                 continue
             is_whole = name[0] == whole
-            lines += [_MARK.format("END" if marks % 2 else "ORG")] * (is_whole == (marks % 2 == 0))
-            marks += is_whole == (marks % 2 == 0)
-            lines += [_entry(name, "obj", cost)] * (cost != 0) + [_entry(name, f"c{row}", value) for row, value in entries]
+            if is_whole == (marks % 2 == 0):
+                lines.append(_MARK.format("END" if marks % 2 else "ORG"))
+                marks += 1
+            if cost:
+                lines.append(_entry(name, "obj", cost))
+            lines += [_entry(name, f"c{row}", value) for row, value in entries]
             if is_whole:
                 limits.append(f" BV BND       {name}\n")
             else:
-                limits += [_bound("LO" if lower > -_INFINITE else "MI", name, _finite(lower))] * (lower != 0)
+                if lower:
+                    limits.append(_bound("LO" if lower > -_INFINITE else "MI", name, _finite(lower)))
                 limits.append(_bound("UP", name, upper) if upper < _INFINITE else f" PL BND       {name}\n")
-        lines += [_MARK.format("END")] * (marks % 2)
-        return "".join([*lines, "RHS\n", *right, *["RANGES\n"] * bool(ranges), *ranges, "BOUNDS\n", *limits, "ENDATA\n"])
+        if marks % 2:
+            lines.append(_MARK.format("END"))
+        ranges[:0] = ["RANGES\n"] if ranges else []
+        return "".join([*lines, "RHS\n", *right, *ranges, "BOUNDS\n", *limits, "ENDATA\n"])
 
 
 def _as_arrays(columns: Sequence[Column]) -> Tuple[bytes, ...]:

@@ -30,6 +30,8 @@ _COMMANDS = {
     "clasp": "clasp --time-limit={seconds} {opb}",
     "cbc": "cbc {lp} sec {seconds} timem elapsed solve solution {sol}",
 }
+# A status at the beginning of the output, or of a later line.
+_STATUS, _LATER_STATUS = re.compile(rb"s(?:[ \t\r\n]|$)"), re.compile(rb"\ns(?:[ \t\r\n]|$)")
 
 
 @dataclass(frozen=True)
@@ -85,13 +87,18 @@ class Solver:
     def _outcome(self, ended: Ended, result: Optional[Path]) -> Outcome:
         if result is not None and result.exists():
             return answer_of(result)
-        if result is None and re.search(r"^s(?:[ \t\r]|$)", ended.output, re.MULTILINE):
+        if result is None and _has_status(ended.data):
             return Outcome(ended.output)
         if ended.flooded:
             return Outcome("", f"it printed more than {MAX_OUTPUT >> 20} MiB, too much for an answer")
         if ended.timed_out:
             return NONE_IN_TIME
         return Outcome("", f"it {'printed no answer' if result is None else 'wrote no result file'} and {_ending(ended)}")
+
+
+def _has_status(printed: bytes) -> bool:
+    """Whether one of the lines is a status. Nothing else is done with output that has none: it may be hundreds of megabytes."""
+    return bool(_STATUS.match(printed[:2]) or _LATER_STATUS.search(printed))
 
 
 def answer_of(solution: Path, ended: Optional[str] = None) -> Outcome:

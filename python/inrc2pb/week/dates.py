@@ -1,19 +1,23 @@
-"""The dates of a table's days, and the times of shift types."""
+"""The days of a plan and their dates, with the one grammar in which users write them, and the times of shift types."""
 
 import datetime
+import itertools
 import re
-from typing import Collection, Dict, NamedTuple, Optional, Sequence
+from typing import Collection, Dict, Iterator, NamedTuple, Optional, Sequence
 
 from .faults import Misuse
-from .hints import quoted
-from .records import DAYS
+from .records import DAYS, WEEK_DAYS
 from .slots import did_you_mean
+from .words import joined, quoted
 
 MONTHS = ("Jan", "Feb", "Mar", "Apr", "May", "Jun", "Jul", "Aug", "Sep", "Oct", "Nov", "Dec")
 DAY = datetime.timedelta(days=1)
 # A shift that lasts longer than this after midnight is a night shift.
 _NIGHT_ENDS = datetime.timedelta(hours=3)
 _TIMES = re.compile("([0-9]{1,2}:[0-9]{2}) ?[-\u2013] ?([0-9]{1,2}:[0-9]{2})")
+_WEEKDAY = re.compile("(mon|tue|wed|thu|fri|sat|sun)[a-z]* ?([0-9]{1,2})?", re.IGNORECASE)
+_IN_WORDS = re.compile(f"(?:(mon|tue|wed|thu|fri|sat|sun)[a-z]* )?([0-9]{{1,2}}) ({'|'.join(MONTHS)})", re.IGNORECASE)
+_DATE = re.compile(r"([0-9]{4})-([0-9]{1,2})-([0-9]{1,2})|([0-9]{1,2})\.([0-9]{1,2})\.?([0-9]{4})?")
 
 
 class Times(NamedTuple):
@@ -38,12 +42,37 @@ def date_text(date: datetime.date) -> str:
     return f"{date.day} {MONTHS[date.month - 1]}"
 
 
+class WrittenDate(NamedTuple):
+    """A date as it is written: its text, and its year, if it has one, month and day."""
+
+    text: str
+    year: Optional[int]
+    month: int
+    day: int
+
+    def date(self, year: int = 0) -> datetime.date:
+        """The date, of this year if the text has none. Raises ValueError if there is no such day."""
+        return datetime.date(year if self.year is None else self.year, self.month, self.day)
+
+
+def written_dates(text: str) -> Iterator[WrittenDate]:
+    """The dates in a text, each written as `2026-11-30`, `30.11.2026`, or `30.11.` without its year."""
+    for found in _DATE.finditer(text):
+        year, month, day = found.groups()[:3] if found[1] else (found[6], found[5], found[4])
+        yield WrittenDate(found[0], int(year) if year else None, int(month), int(day))
+
+
+def written_date(text: str) -> Optional[WrittenDate]:
+    """The date that the whole text is, if it is one."""
+    return next((found for found in written_dates(text) if found.text == text), None)
+
+
 def read_monday(text: str, weeks: int) -> datetime.date:
     """The Monday with which so many weeks begin."""
     try:
-        if not re.fullmatch("[0-9]{4}-[0-9]{2}-[0-9]{2}", text):
-            raise ValueError
         date = datetime.date.fromisoformat(text)
+        if str(date) != text:
+            raise ValueError
     except ValueError:
         raise Misuse(f"--monday {text}: this is no date: give year, month and day, such as 2026-11-30") from None
     try:
@@ -98,3 +127,84 @@ def _minutes(where: str, time: str) -> int:
     if minutes > 59 or hours * 60 + minutes > 24 * 60:
         raise Misuse(f"{where}: {time} is no time of a day: give hours from 0 to 24 and minutes from 00 to 59")
     return hours * 60 + minutes
+
+
+# ---- days of a plan
+
+
+class OtherPlan(Misuse):
+    """A day that the plan does not have."""
+
+
+def is_day(word: str) -> bool:
+    """Whether the word is a day, such as `Fri`, `Fri 2`, `2026-12-04` or `4.12.`."""
+    return bool(_WEEKDAY.fullmatch(word) or written_date(word))
+
+
+class PlanDays(NamedTuple):
+    """The days of some weeks, counted from 0; in words weeks count from 1. The date of the first Monday is None if the sheet has no
+    dates."""
+
+    monday: Optional[datetime.date]
+    weeks: int
+
+    @property
+    def total(self) -> int:
+        """The number of days."""
+        return WEEK_DAYS * self.weeks
+
+    def next(self) -> "PlanDays":
+        """Those of the period after this one, whose number of weeks is not known."""
+        return PlanDays(None if self.monday is None else self.monday + self.total * DAY, 0)
+
+    def date(self, day: int) -> datetime.date:
+        """The date of a day of a plan with dates."""
+        assert self.monday is not None
+        return self.monday + day * DAY
+
+    def text(self, day: int) -> str:
+        """A day in a sentence, as `Fri 4 Dec`, or `Fri of week 1`."""
+        name = DAYS[day % WEEK_DAYS]
+        return f"{name} of week {day // WEEK_DAYS + 1}" if self.monday is None else f"{name} {date_text(self.date(day))}"
+
+    def span(self, days: Sequence[int]) -> str:
+        """The first and the last of these days, as `Fri 4 Dec to Sun 6 Dec`."""
+        return self.text(days[0]) if days[0] == days[-1] else f"{self.text(days[0])} to {self.text(days[-1])}"
+
+    def spans(self, days: Collection[int]) -> str:
+        """Days in a sentence, those in a row together."""
+        rows = itertools.groupby(enumerate(sorted(days)), key=lambda pair: pair[1] - pair[0])
+        return joined(self.span([day for _, day in row]) for _, row in rows)
+
+    def head(self, day: int) -> str:
+        """The day as the head of a column, as `2026-12-04` or `Fri 1`."""
+        return f"{DAYS[day % WEEK_DAYS]} {day // WEEK_DAYS + 1}" if self.monday is None else str(self.date(day))
+
+    def number(self, text: str, near: int) -> int:
+        """The day that a text names. A day of the week is the first one from the day `near` on."""
+        weekday, date, in_words = _WEEKDAY.fullmatch(text), written_date(text), _IN_WORDS.fullmatch(text)
+        if in_words:
+            found = self.number(f"{in_words[2]}.{MONTHS.index(in_words[3].title()) + 1}.", near)
+            if in_words[1] and in_words[1].title() != DAYS[found % WEEK_DAYS]:
+                raise Misuse(f"'{text}' is a {DAYS[found % WEEK_DAYS]}: write {self.head(found)}, if you mean this day")
+        elif weekday:
+            day = DAYS.index(weekday[1].title())
+            found = day + WEEK_DAYS * (int(weekday[2]) - 1) if weekday[2] else near + (day - near) % WEEK_DAYS
+        elif date:
+            found = self._of_date(text, date)
+        else:
+            raise Misuse(f"'{text}' is no day: write a day such as {self.head(near)}, or Fri for the next Friday of the plan")
+        if not 0 <= found < self.total:
+            raise OtherPlan(f"'{text}' is not in this plan: it has the days {self.head(0)} to {self.head(self.total - 1)}")
+        return found
+
+    def _of_date(self, text: str, written: WrittenDate) -> int:
+        if self.monday is None:
+            raise Misuse(f"'{text}': the sheet plan has no dates: write a day such as {self.head(0)}, or dates into its heads")
+        try:
+            date = written.date(self.monday.year)
+            if date < self.monday and written.year is None:
+                date = date.replace(year=date.year + 1)
+        except ValueError:
+            raise Misuse(f"there is no day '{text}': write a date such as {self.head(0)}") from None
+        return (date - self.monday).days

@@ -1,4 +1,4 @@
-"""Facts about a plan of several weeks, and the file of those that plans are asked to keep.
+"""Facts about a plan of several weeks, the file of those that plans are asked to keep, and the file of reasons of days away beside it.
 
 The layout of docs/formats.md has them as `HOLDS fact` or `NOT fact`. A week's number is counted from 1.
 """
@@ -111,8 +111,11 @@ def _charged(slots: Slots, scenario: Scenario, _weeks: int) -> Charged:
 
 
 _READERS: Dict[str, Callable[[Slots, Scenario, int], Fact]] = {
-    "CHOICE": _choice, "PLACE": _place, "CHARGES": _charged, "EVEN": lambda slots, scenario, weeks: Even()
-}  # fmt: skip
+    "CHOICE": _choice,
+    "PLACE": _place,
+    "CHARGES": _charged,
+    "EVEN": lambda slots, scenario, weeks: Even(),
+}
 
 
 def _week(slots: Slots, weeks: int) -> int:
@@ -137,3 +140,40 @@ def of_weeks(claims: Iterable[Claim], first: int, count: int) -> Tuple[Claim, ..
             fact = fact._replace(week=fact.week - first)
         found.append(Claim(fact, holds))
     return tuple(found)
+
+
+class DayAway(NamedTuple):
+    """A nurse on a day of a week; weeks are counted from 1 in their period, as in the facts."""
+
+    week: int
+    nurse: str
+    day: int
+
+
+# The word for each day away, such as `leave`.
+Reasons = Dict[DayAway, str]
+
+
+def reasons_text(name: str, reasons: Reasons) -> str:
+    """The text of a file of reasons of the ward with this name."""
+    rows = "".join(f"{away.week} {away.nurse} {DAYS[away.day]} {word}\n" for away, word in reasons.items())
+    return f"REASONS\n{name}\n\nROWS = {len(reasons)}\n{rows}"
+
+
+def read_reasons(path: PathLike, scenario: Scenario, text: Optional[str] = None) -> Reasons:
+    """Reads a file of reasons of this ward."""
+    slots = Slots(path, text)
+    slots.words("REASONS")
+    slots.any_word("the scenario's name")
+    slots.words("ROWS", "=")
+    found: Reasons = {}
+    for _ in range(slots.number("the number of reasons")):
+        week = slots.number("the week of a reason", 1, MAX_WEEKS)
+        nurse = slots.known_name("nurse", scenario.nurses, "NURSES").text
+        token = slots.known_name("day", DAYS, "the week")
+        away = DayAway(week, nurse, DAYS.index(token.text))
+        if away in found:
+            slots.fault(token, "repeated", f"{nurse} has two reasons on {token.text} of week {week}: remove one")
+        found[away] = slots.any_word("the reason of a day away").text
+    slots.end("reason")
+    return found

@@ -2,9 +2,12 @@
 
 import contextlib
 import errno
+import re
 from pathlib import Path
 from typing import Iterator, List, Optional, Sequence, Type, Union
 
+# Signs that a terminal obeys, such as the first one of a color, those that turn the direction of a text, and bytes of such signs.
+_CONTROL = re.compile("[\x00-\x08\x0b\x0c\x0e-\x1f\x7f-\x9f\u202a-\u202e\u2066-\u2069\udc80-\udc9f]")
 # Advice after a fault of the operating system, by its number.
 _ADVICE = {
     "ENOENT": "look at its name and folder",
@@ -131,6 +134,16 @@ def fault_line(fault: BaseException) -> str:
 def printable(text: str) -> str:
     """The text with the codes of the signs that no terminal shows, and of the bytes that are no UTF-8."""
     return "".join(char if char.isprintable() else _code(ord(char)) for char in text)
+
+
+def obeyed(text: str) -> bool:
+    """Whether a terminal would obey one of the signs of the text."""
+    return _CONTROL.search(text) is not None
+
+
+def not_obeyed(text: str) -> str:
+    """The text with the codes of the signs that a terminal would obey, but for those that end a line."""
+    return _CONTROL.sub(lambda found: printable(found[0]), text)
 
 
 def _code(number: int) -> str:

@@ -7,8 +7,26 @@ layouts. The values that they return are those of `records`. A `text` is what th
 from typing import Dict, Iterable, List, Optional, Tuple
 
 from .faults import FileFault, Misuse
-from .records import ANY, DAYS, NONE, Cell, Contract, History, Limits, Nurse, NurseHistory, Place, Request
-from .records import Requirement, Scenario, ShiftType, Solution, Week, WeekData
+from .records import (
+    ANY,
+    DAYS,
+    NONE,
+    Cell,
+    Contract,
+    History,
+    Limits,
+    Nurse,
+    NurseHistory,
+    Place,
+    Request,
+    Requirement,
+    Scenario,
+    ShiftType,
+    Solution,
+    Week,
+    WeekData,
+    week_name,
+)
 from .slots import MAX_CONTRACTS, MAX_NURSES, MAX_SHIFTS, MAX_SKILLS, MAX_WEEKS, PathLike, Slots, Token
 from .writing import write_text
 
@@ -34,7 +52,7 @@ def read_scenario(path: PathLike, text: Optional[str] = None) -> Scenario:
         count = slots.number(f"the number of skills of {nurse}", 0, len(skills))
         nurses[nurse] = Nurse(nurse, contract, _names_once(slots, count, "skill", tuple(skills), "SKILLS"))
     slots.end("nurse")
-    return Scenario(name, weeks, tuple(skills), shift_types, contracts, nurses)
+    return Scenario(name, weeks, tuple(skills), shift_types=shift_types, contracts=contracts, nurses=nurses)
 
 
 def _shift_types(slots: Slots) -> Dict[str, ShiftType]:
@@ -63,9 +81,9 @@ def _contracts(slots: Slots) -> Dict[str, Contract]:
             name,
             slots.pair(f"assignments of {name}"),
             slots.pair(f"working days of {name}"),
-            slots.pair(f"days off of {name}"),
-            slots.number(f"the maximum of weekends of {name}"),
-            slots.number(f"complete weekends of {name}", 0, 1) == 1,
+            days_off=slots.pair(f"days off of {name}"),
+            max_weekends=slots.number(f"the maximum of weekends of {name}"),
+            complete_weekends=slots.number(f"complete weekends of {name}", 0, 1) == 1,
         )
     return contracts
 
@@ -122,7 +140,7 @@ def check_weeks_left(count: int, history: History, scenario: Scenario) -> None:
     left = scenario.weeks - history.week
     if count > left:
         raise Misuse(
-            f"{count} weeks are given, and {left} {'is' if left == 1 else 'are'} left from week {history.week + 1} "
+            f"{count} weeks are given, and {left} {'is' if left == 1 else 'are'} left from {week_name(history.week)} "
             f"of {scenario.weeks}: give only the files of weeks that are not planned yet"
         )
 

@@ -1,10 +1,11 @@
 """A scenario, a history, a week and a roster as values. Days are numbers from 0 (Monday); `DAYS` has their names."""
 
 from dataclasses import dataclass
-from typing import Dict, FrozenSet, NamedTuple, Optional, Tuple
+from typing import Dict, FrozenSet, Iterable, List, Mapping, NamedTuple, Optional, Sequence, Set, Tuple
 
 DAYS = ("Mon", "Tue", "Wed", "Thu", "Fri", "Sat", "Sun")
 NONE, ANY = "None", "Any"
+WEEK_DAYS = len(DAYS)
 
 
 class Limits(NamedTuple):
@@ -21,6 +22,12 @@ class ShiftType:
     name: str
     consecutive: Limits
     forbidden_next: Tuple[str, ...]
+
+
+def successions(types: Sequence[ShiftType]) -> List[Set[int]]:
+    """For each choice of a day, the choices that may not follow it (H3): 0 is a day off, and shift types count from 1."""
+    numbers = {shift.name: number for number, shift in enumerate(types, 1)}
+    return [set(), *({numbers[name] for name in shift.forbidden_next} for shift in types)]
 
 
 @dataclass(frozen=True)
@@ -59,6 +66,10 @@ class Scenario:
         """The contract of the nurse with this name."""
         return self.contracts[self.nurses[nurse].contract]
 
+    def forbids(self, before: Optional[str], after: Optional[str]) -> bool:
+        """Whether the second shift type may not follow the first one on the next day (H3). Days off (None) forbid nothing."""
+        return before is not None and after in self.shift_types[before].forbidden_next
+
 
 @dataclass(frozen=True)
 class NurseHistory:
@@ -80,6 +91,13 @@ class History:
     week: int
     scenario: str
     nurses: Dict[str, NurseHistory]
+
+
+class NurseDay(NamedTuple):
+    """A nurse on a day of the plan."""
+
+    nurse: str
+    day: int
 
 
 class Place(NamedTuple):
@@ -168,3 +186,27 @@ class Week:
     def is_last(self) -> bool:
         """Whether the week is the last of its period."""
         return self.history.week + 1 == self.scenario.weeks
+
+
+# ---- days and weeks of a plan, whose days count from its first Monday
+
+
+def in_week(cells: Iterable[Cell], week: int) -> Tuple[Cell, ...]:
+    """The shifts of a week, with the days of the week, as files have them."""
+    return tuple(cell._replace(day=cell.day % WEEK_DAYS) for cell in cells if cell.day // WEEK_DAYS == week)
+
+
+def in_plan(rosters: Iterable[Sequence[Cell]]) -> Tuple[Cell, ...]:
+    """The shifts of weeks, one after another from the first one on, with the days of the plan."""
+    return tuple(cell._replace(day=WEEK_DAYS * week + cell.day) for week, cells in enumerate(rosters) for cell in cells)
+
+
+def exchanged(cells: Iterable[Cell], days: Mapping[NurseDay, NurseDay]) -> List[Cell]:
+    """The shifts after nurses' days have got those of other nurses' days, each of which is the key of the other."""
+    places = ((cell, days.get(NurseDay(cell.nurse, cell.day), NurseDay(cell.nurse, cell.day))) for cell in cells)
+    return [cell._replace(nurse=place.nurse, day=place.day) for cell, place in places]
+
+
+def week_name(index: int) -> str:
+    """A week in words. Everybody counts weeks from 1; only the number of a history, and the names of files, count from 0."""
+    return f"week {index + 1}"

@@ -7,9 +7,9 @@ from pathlib import Path
 from typing import Callable, Collection, Iterable, Iterator, List, NamedTuple, NoReturn, Optional, Tuple, Union
 
 from .faults import FileFault
-from .hints import HEADINGS, is_no_text, quoted, reasons
-from .odd_signs import composed_otherwise, of_another_kind, reason_of_signs
+from .hints import HEADINGS, composed_otherwise, is_no_text, of_another_kind, reason_of_signs, reasons
 from .records import Limits
+from .words import quoted
 
 MAX_FILE_LEN = 4_194_304
 MAX_NUMBER = 9999
@@ -107,7 +107,9 @@ class Slots:
         lines = self.text.split("\n")
         signs = reason_of_signs(lines, token.line, token.text)
         if is_no_text(self.text):
-            message = "this is no text file: save it as plain text" + ", or give a spreadsheet to inrc2pb-plan" * self.text.startswith("PK")
+            message = "this is no text file: save it as plain text" + (
+                ", or give a spreadsheet to inrc2pb-plan" if self.text.startswith("PK") else ""
+            )
         elif signs:
             message += f"; {signs}"
         elif self._is_in_a_name(token):

@@ -1,10 +1,14 @@
-"""Writes a text to a file as a whole: after a fault a file that was there has its old text."""
+"""Writes a text to a file as a whole: after a fault a file that was there has its old text. Checks of files before the work begins."""
 
 import contextlib
+import errno
 import os
+import stat
+import tempfile
 from pathlib import Path
-from typing import Iterator, TextIO
+from typing import Iterable, Iterator, Optional, TextIO
 
+from .faults import Misuse
 from .slots import PathLike
 
 
@@ -46,14 +50,32 @@ def replacing(path: PathLike) -> Iterator[TextIO]:
         with open(target, "w", encoding="utf-8", errors="surrogateescape") as file:
             yield file
         return
-    mode = target.stat().st_mode & 0o777 if target.exists() else None
+    with replacing_link(target, path) as file:
+        yield file
+
+
+def write_own_text(path: Path, text: str) -> None:
+    """Writes a text to a file of a folder that others may write too: it takes the place of a link."""
+    try:
+        with replacing_link(path) as file:
+            file.write(text)
+    except OSError as fault:
+        fault.filename, fault.filename2 = str(path), None
+        raise
+
+
+@contextlib.contextmanager
+def replacing_link(target: Path, path: Optional[PathLike] = None) -> Iterator[TextIO]:
+    """A new file that takes the place of this one, or of a link, which is not followed, at the end of the block; after a fault it is
+    removed, and the old one stays. A fault names the path, if it is given."""
+    mode = target.stat().st_mode & 0o777 if target.is_file() and not target.is_symlink() else None
     name = target.with_name(f".{target.name[:50]}.{os.urandom(4).hex()}")
     try:
         try:
             # The system applies the umask: to ask for it, one has to change it for all threads.
             handle = os.open(name, os.O_WRONLY | os.O_CREAT | os.O_EXCL, 0o666 if mode is None else 0o600)
         except OSError as fault:
-            fault.filename = str(path)
+            fault.filename = str(path or target)
             raise
         with open(handle, "w", encoding="utf-8", errors="surrogateescape") as file:
             yield file
@@ -68,8 +90,12 @@ def replacing(path: PathLike) -> Iterator[TextIO]:
 
 
 def _may_be_replaced(target: Path) -> bool:
-    """Whether a new file may take the place of this one: it is no device and no link, and its folder takes a new file."""
-    return (target.is_file() or not target.exists()) and not target.is_symlink() and os.access(target.parent, os.W_OK)
+    """Whether a new file may take the place of this one: it is no device and no link, it may be written, and its folder takes a new file.
+
+    To replace a file the system asks for its folder's permission only.
+    """
+    is_free = not target.exists() or (target.is_file() and os.access(target, os.W_OK))
+    return is_free and not target.is_symlink() and os.access(target.parent, os.W_OK)
 
 
 def _overwrite(target: Path, data: bytes) -> None:
@@ -86,3 +112,58 @@ def _write_over(target: Path, data: bytes) -> None:
     with open(target, "r+b") as file:
         file.write(data)
         file.truncate()
+
+
+def check_inputs_stay(inputs: Iterable[Optional[Path]], target: Path, what: str, choose: str = "file") -> None:
+    """The target may not replace a file that the command reads, neither by its path nor by a link."""
+    for path in inputs:
+        if path and path.is_file() and target.is_file() and os.path.samefile(path, target):
+            raise Misuse(f"{path} is read, so {what} cannot be written to it: choose another {choose}")
+
+
+def check_no_pipes(inputs: Iterable[Optional[Path]]) -> None:
+    """Files that are read again and again may not be pipes."""
+    for path in inputs:
+        if path and _is_pipe(path):
+            raise Misuse(f"{path} is a pipe, which can be read only once: give a file")
+
+
+def check_no_pipe_is_written(target: Path) -> None:
+    """A file that is written again and again may not be a pipe."""
+    if _is_pipe(target) and not is_open_file(target):
+        raise Misuse(f"{target} is a pipe, which can be written only once: name a file")
+
+
+def _is_pipe(path: Path) -> bool:
+    """Whether the path leads to a pipe. If it leads nowhere, whoever opens it reports that."""
+    try:
+        return stat.S_ISFIFO(os.stat(path).st_mode)
+    except OSError:
+        return False
+
+
+def check_target(solution: Path) -> None:
+    """It must be possible to write the file. A device such as /dev/null shows it only when it is written."""
+    target = file_at(solution)
+    if target.is_dir():
+        raise IsADirectoryError(errno.EISDIR, os.strerror(errno.EISDIR), str(solution))
+    if target.exists() and not target.is_file():
+        return
+    if target.exists() and not os.access(target, os.W_OK):
+        raise PermissionError(errno.EACCES, os.strerror(errno.EACCES), str(solution))
+    if target.exists() and _is_standard_output(target):
+        raise Misuse(f"{solution} is standard output, where the report goes: name another file")
+    try:
+        handle, name = tempfile.mkstemp(prefix=f".{target.name}.", dir=target.parent)
+    except OSError as fault:
+        fault.filename = str(solution)
+        raise
+    os.close(handle)
+    os.unlink(name)
+
+
+def _is_standard_output(target: Path) -> bool:
+    try:
+        return os.path.samestat(os.fstat(1), target.stat())
+    except OSError:
+        return False

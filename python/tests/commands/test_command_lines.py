@@ -1,7 +1,10 @@
 """Tests of the command lines: hints after a wrong word, options that are given twice, and Ctrl-C at the start."""
 
+import contextlib
 import functools
 import os
+import pty
+import re
 import shutil
 import signal
 import subprocess
@@ -69,7 +72,7 @@ class Words(HelperTest):
         self.assertEqual((status, said.splitlines()[-1]), (2, f"inrc2pb-solve: error: unrecognized arguments: best.txt: {advice}"))
 
     def test_the_verb_comes_first(self):
-        names = "show, why, swap, check, next, fits"
+        names = "show, why, swap, check, next, fits, referee, results, names"
         for words, line in (
             (("chek", *FILES), "'chek' is no verb: did you mean check?"),
             (("tables", *FILES), f"'tables' is no verb: write one of {names}"),
@@ -172,6 +175,56 @@ class Starting(HelperTest):
         command = [sys.executable, str(HELPERS / "inrc2pb-roster"), "check", *map(str, WEEK_OPTIONS), "--roster", str(roster)]
         ran = subprocess.run(command, stdout=subprocess.PIPE, preexec_fn=lambda: signal.signal(signal.SIGCHLD, signal.SIG_IGN))
         self.assertEqual(ran.returncode, 1, ran)
+
+
+class Output(HelperTest):
+    SHOW = (sys.executable, str(HELPERS / "inrc2pb-roster"), "show", "--roster", str(ROSTER))
+
+    def test_a_closed_standard_output_is_a_fault(self):
+        for words in (self.SHOW, (*self.SHOW[:2], "--help"), (*self.SHOW[:3], "--help")):
+            with self.subTest(words):
+                closing = ["sh", "-c", 'exec "$@" >&-', "sh", *words]
+                ran = subprocess.run(closing, stderr=subprocess.PIPE, stdin=subprocess.DEVNULL)
+                self.assertEqual((ran.returncode, ran.stderr), (3, b"inrc2pb-roster: standard output: it is closed\n"))
+        target = self.folder / "history.txt"
+        words = (*self.SHOW[:2], "next", *map(str, FILES), "--roster", str(ROSTER), "--out", str(target))
+        ran = subprocess.run(["sh", "-c", 'exec "$@" >&-', "sh", *words], stderr=subprocess.PIPE)
+        self.assertEqual((ran.returncode, ran.stderr, target.exists()), (0, b"", True))
+
+    def on_terminal(self, *words):
+        """What a command shows on a terminal."""
+        terminal, end = pty.openpty()
+        with subprocess.Popen([*self.SHOW[:2], *map(str, words)], stdin=subprocess.DEVNULL, stdout=end, stderr=end):
+            os.close(end)
+            shown = b""
+            # The system reports the end of the output as a fault.
+            with contextlib.suppress(OSError):
+                while piece := os.read(terminal, 4096):
+                    shown += piece
+        os.close(terminal)
+        return shown
+
+    def test_control_characters_of_names_reach_no_terminal(self):
+        name, files_of_week = "\x1b[31mChen\x07\u202e", {}
+        for path in (SCENARIO, HISTORY, WEEK, ROSTER):
+            files_of_week[path] = self.folder / path.name
+            files_of_week[path].write_text(path.read_text().replace("Chen", name))
+        options = [word for option, path in zip(("--sce", "--his", "--week"), files_of_week.values()) for word in (option, path)]
+        for words in (
+            ("show", "--roster", files_of_week[ROSTER]),
+            ("fits", *options),
+            ("check", *options, "--tell"),
+            ("why", *options, "--roster", files_of_week[ROSTER]),
+            ("next", *options[:4], "--roster", files_of_week[ROSTER]),
+        ):
+            with self.subTest(words[0]):
+                # The table has colors of its own.
+                shown = re.sub(rb"\x1b\[(38;5;\d+;48;5;\d+|0)m", b"", self.on_terminal(*words))
+                self.assertIn(b"\\x1b[31mChen\\x07\\u202e", shown)
+                self.assertFalse(set(shown) & {0x1B, 0x07}, shown)
+                self.assertNotIn("\u202e".encode(), shown)
+        # A file has the name as it is.
+        self.assertIn(f"{name} ", run("roster", "next", *options[:4], "--roster", files_of_week[ROSTER])[1])
 
 
 if __name__ == "__main__":

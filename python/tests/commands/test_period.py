@@ -31,6 +31,7 @@ from ward import (
 from inrc2pb.search.bounds import PLAIN, PROVER
 from inrc2pb.commands.period import Period
 from inrc2pb.search.planned_weeks import PeriodFiles
+from inrc2pb.week.soft_rules import SOFT_RULES
 
 MONTH = ROOT / "examples" / "month"
 WARD_OPTIONS = ("--sce", SCENARIO, "--his", HISTORY, "--week", WEEK, "--week", WARD / "week-1.txt")
@@ -51,7 +52,7 @@ class PeriodTest(HelperTest):
     def assert_period(self, printed, options, count, early=False):
         """The report has what `extend` reports for each week, and the sums."""
         table = [line.split() for line in printed.split("\n\n")[-1].splitlines()]
-        self.assertEqual(table[0], ["penalty", *program.SOFT_RULES])
+        self.assertEqual(table[0], ["penalty", *SOFT_RULES])
         given = dict(zip(("--sce", "--his"), (options[1], options[3])))
         weeks = [path for word, path in zip(options, options[1:]) if word == "--week"]
         rows = []
@@ -269,7 +270,7 @@ class PeriodFaults(PeriodTest):
         words = ("--sce", eight / "ward.txt", "--his", eight / "history-1.txt", "--week", eight / "week-1.txt")
         status, printed, said = self.period(*words, "--solver", "sh -c 'echo s UNSATISFIABLE'")
         self.assertEqual((status, printed), (1, ""))
-        self.assertIn("week 2: no roster keeps the hard rules, says sh: ", said)
+        self.assertRegex(said, r"week 2: no roster keeps the hard rules( \(inrc2pb-bound\)|, says sh, which is not proved): ")
 
     def test_files_that_do_not_fit(self):
         _, _, said = self.period("--sce", SCENARIO, "--his", HISTORY, *(["--week", WEEK] * 5))

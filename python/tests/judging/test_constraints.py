@@ -1,64 +1,58 @@
-"""Tests of the order of the constraints in the model: `constraint` knows the rule of each by docs/model.md."""
+"""Tests of the names of a model's variables and constraints, by docs/model.md."""
 
 import unittest
 from dataclasses import replace
 
-import constraint
-from ward import HISTORY, SCENARIO, WARD, WEEK, WEEK_FILES, HelperTest, files, program
+from ward import ROSTER, SCENARIO, WARD, WEEK_FILES, WEEK_OPTIONS, HelperTest, program, run
 
-from inrc2pb.week.faults import Misuse
-
-
-class Constraints(HelperTest):
-    def test_the_blocks_are_the_model(self):
-        model = self.folder / "week.opb"
-        program.encode(WEEK_FILES, model)
-        week = files.read_files(SCENARIO, HISTORY, WEEK)
-        count = int(model.read_text().split("\n", 1)[0].split()[-1])
-        self.assertEqual(sum(block.size for block in constraint.blocks(week)), count)
-
-    def explained(self, number, early=False):
-        """What `explain` says of a constraint of the ward's week."""
-        model, of_week = self.folder / "week.opb", replace(WEEK_FILES, early=early)
-        program.encode(of_week, model)
-        return constraint.explain(number, model, files.read_files(SCENARIO, HISTORY, WEEK), early=early)
-
-    def test_a_constraint_has_its_line_rule_and_names(self):
-        lines = self.explained(60)
-        self.assertEqual(lines[0], "constraint 60, line 62 of the model: H2: Wed Day Nurse needs at least 1")
-        self.assertIn("+1 [Amara Wed Day Nurse]", lines[2])
-        self.assertEqual(self.explained(60, early=True), lines)
-
-    def test_a_constraint_of_a_run_names_its_limit(self):
-        for number, limit in ((298, "at most 5"), (299, "at least 2")):
-            self.assertTrue(self.explained(number)[0].endswith(f": S2: runs of Day of Chen should be {limit}"))
-
-    def test_the_unit_variable_says_what_is_wrong_with_an_answer(self):
-        wrong = ": it has to be true; an answer that violates it is cut off, or is of another week"
-        self.assertTrue(self.explained(1)[0].endswith(wrong))
-
-    def test_a_model_that_ends_before_it(self):
-        model = self.folder / "week.opb"
-        model.write_text("* #variable= 1 #constraint= 1\n+1 x1 >= 1 ;\n")
-        self.assertEqual(constraint.row_of(1, model), (2, "+1 x1 >= 1 ;"))
-        with self.assertRaisesRegex(Misuse, "the model ends before this constraint"):
-            constraint.row_of(2, model)
-
-    def test_a_number_that_the_model_has_not(self):
-        with self.assertRaisesRegex(Misuse, "there is no constraint 99999: the model of this week has [0-9]+"):
-            self.explained(99999)
+THIRTY = WARD.parent / "thirty"
 
 
-class LastWeek(HelperTest):
-    def test_the_last_week_of_thirty_nurses(self):
-        thirty = WARD.parent / "thirty"
-        names = [thirty / name for name in ("ward.txt", "history-3.txt", "week-3.txt")]
-        week, model = files.read_files(*names), self.folder / "week.opb"
-        for early in (False, True):
-            program.encode(program.WeekFiles(*names, early=early), model)
-            with open(model) as lines:
-                count = int(lines.readline().split()[-1])
-            self.assertEqual(sum(block.size for block in constraint.blocks(week, (), early)), count)
+class Names(HelperTest):
+    def setUp(self):
+        super().setUp()
+        self.model = self.folder / "week.opb"
+
+    def names(self, files, *more):
+        """The lines of the names of a week's model, by their first word."""
+        program.encode(files, self.model)
+        status, printed, said = run("roster", "names", self.model, *files.options(), *more)
+        self.assertEqual((status, said), (0, ""))
+        found = [line.split(" ", 1) for line in printed.splitlines()]
+        self.assertEqual(len({name for name, _ in found}), len(found))
+        return dict(found)
+
+    def test_every_variable_and_constraint_of_a_model_has_a_name(self):
+        last = program.WeekFiles(*(THIRTY / name for name in ("ward.txt", "history-3.txt", "week-3.txt")))
+        for files in (WEEK_FILES, replace(WEEK_FILES, early=True), replace(WEEK_FILES, fix=ROSTER), last, replace(last, early=True)):
+            names = self.names(files)
+            head = self.model.read_text().split("\n", 1)[0].split()
+            variables, constraints = int(head[2]), int(head[4])
+            self.assertEqual(set(names), {f"x{n}" for n in range(1, variables + 1)} | {f"c{n}" for n in range(1, constraints + 1)})
+
+    def test_names_of_the_ward(self):
+        # Seven nurses, three shift types and two skills: the unit variable has number 7*7*3*2 + 1, and the page on models has c299.
+        names = self.names(WEEK_FILES)
+        self.assertEqual((names["x1"], names["x295"]), ("cell Amara Mon Day Charge", "unit"))
+        self.assertEqual(names["c1"], "unit the unit variable is true; an answer that violates it is cut off, or is of another week")
+        self.assertEqual(names["c60"], "H2 Wed Day Nurse needs at least 1")
+        self.assertEqual(names["c298"], "S2 runs of Day of Chen should be at most 5")
+        self.assertEqual(names["c299"], "S2 runs of Day of Chen should be at least 2")
+        self.assertEqual(names["x385"], "slack c299 S2 15 runs of Day of Chen should be at least 2")
+
+    def test_another_model_is_refused(self):
+        program.encode(replace(WEEK_FILES, fix=ROSTER), self.model)
+        advice = "give the files of which it was made, and --fix and --early as then"
+        line = f"inrc2pb-roster: {self.model} is not the model of this week: {advice}"
+        self.assert_fault(run("roster", "names", self.model, *WEEK_OPTIONS), line)
+        line = f"inrc2pb-roster: {SCENARIO} is read, so the list of names cannot be written to it: choose another file"
+        self.assert_fault(run("roster", "names", self.model, *WEEK_OPTIONS, "--out", SCENARIO), line)
+
+    def test_names_in_a_file(self):
+        target = self.folder / "names.txt"
+        names = self.names(WEEK_FILES)
+        self.assertEqual(run("roster", "names", self.model, *WEEK_OPTIONS, "--out", target), (0, "", ""))
+        self.assertEqual(len(target.read_text().splitlines()), len(names))
 
 
 if __name__ == "__main__":

@@ -4,11 +4,13 @@ import itertools
 import random
 import unittest
 from dataclasses import replace
-
+from fractions import Fraction
 from ward import HAS_CBC, HAS_CLASP, HISTORY, ROOT, SCENARIO, WEEK, WEEK_OPTIONS, HelperTest, files, run
 
 from inrc2pb.judging.demand import asked_shifts, demand_warnings, supplied_shifts
-from inrc2pb.week.part_contracts import PartContract, part_contract
+from inrc2pb.judging.leave import Counted, PartContract, part_contract
+from inrc2pb.shown.ward_sentences import history_sentences, limit_sentences, scenario_sentences, supply_text, ward_sentence
+from inrc2pb.shown.week_sentences import DescribedWeek, weeks_sentences
 from inrc2pb.week.records import (
     Absence,
     Cell,
@@ -23,8 +25,6 @@ from inrc2pb.week.records import (
     ShiftType,
     WeekData,
 )
-from inrc2pb.shown.ward_sentences import history_sentences, limit_sentences, scenario_sentences, supply_text, ward_sentence
-from inrc2pb.shown.week_sentences import DescribedWeek, weeks_sentences
 
 WARD, DATA = files.read_scenario(SCENARIO), files.read_week(WEEK, files.read_scenario(SCENARIO))
 PAST = files.read_history(HISTORY, WARD)
@@ -82,14 +82,14 @@ class Demand(unittest.TestCase):
         self.assertEqual((asked_shifts(DATA), supplied_shifts(WARD, PAST)), ((26, 33), (25, 32)))
 
     def test_days_away_that_count_as_work_are_missing_in_their_week(self):
-        # The contracts have 101 to 127 shifts. Amara has leave on five days of the second week, 5 * 17 / 28 shifts, four in her history.
-        paid = [{}, {"Amara": 5}, {}, {}]
-        past = replace(PAST, nurses={**PAST.nurses, "Amara": replace(PAST.nurses["Amara"], assignments=4)})
-        # 101 / 4 and 127 / 4 in the first week, 3.04 less in the second one.
-        self.assertEqual((supplied_shifts(WARD, past, paid), supplied_shifts(WARD, None, paid[1:])), ((25, 32), (22, 29)))
-        # All nurses have leave in the whole second week.
-        paid[1] = dict.fromkeys(WARD.nurses, 7)
-        self.assertEqual(supplied_shifts(WARD, None, paid[1:]), (0, 7))
+        # The contracts have 101 to 127 shifts. Amara has leave on five days of the second week, which count as five of her 17 to 21 shifts.
+        paid = [{}, {"Amara": Fraction(5)}, {}, {}]
+        past = replace(PAST, nurses={**PAST.nurses, "Amara": replace(PAST.nurses["Amara"], assignments=5)})
+        # 101 / 4 and 127 / 4 in the first week. In the second one she owes nothing, and 21 / 4 - 5 are left for her.
+        self.assertEqual((supplied_shifts(WARD, past, paid), supplied_shifts(WARD, None, paid[1:])), ((25, 32), (21, 27)))
+        # All nurses have leave in the whole second week: five quarters are left for the five with full contracts.
+        paid[1] = dict.fromkeys(WARD.nurses, Fraction(5))
+        self.assertEqual(supplied_shifts(WARD, None, paid[1:]), (0, 2))
 
     def test_a_week_that_asks_for_too_many_shifts(self):
         many = replace(
@@ -128,7 +128,7 @@ class Telling(HelperTest):
         self.assertTrue(found[0].startswith("Contracts Full (Amara, Chen, Dilek, Ewa, Finn and Grace) and Same (Bruno): 17 to 21 shifts "))
         self.assertEqual(found[1:], [
             "Dilek is away or unpaid on 3 of 28 days: contract Full counts in proportion, 15 to 19 shifts in place of 17 to 21.",
-            "Off or away for longer than the contract's most days off in a row, so without such a maximum: Ewa and Finn.",
+            "No maximum of days off in a row, since they are away for longer, or come or leave: Ewa and Finn.",
         ])  # fmt: skip
         limits = frozenset({KeptLimit(nurse, "SHIFTS", 0) for nurse in ward.nurses} | {KeptLimit("Bruno", "WEEKENDS", 0)})
         self.assertEqual(list(limit_sentences(ward, replace(DATA, limits=limits))), [
@@ -154,11 +154,14 @@ class Telling(HelperTest):
         ])  # fmt: skip
         nurses = {**PAST.nurses, **{name: replace(PAST.nurses[name], assignments=5, weekends=1) for name in ("Amara", "Chen")}}
         nurses["Ewa"] = replace(PAST.nurses["Ewa"], assignments=2)
-        found = list(history_sentences(replace(PAST, week=1, nurses=nurses), {"Ewa": 2}))
+        nurses["Grace"] = replace(PAST.nurses["Grace"], assignments=6, weekends=1)
+        counted = Counted(shifts={"Ewa": 2, "Grace": 1}, weekends={"Grace": 1})
+        found = list(history_sentences(replace(PAST, week=1, nurses=nurses), counted))
         self.assertEqual(found[0], "1 week of the period is over.")
-        self.assertEqual(
-            found[-1], "In the period until now: Amara and Chen 5 shifts and 1 weekend; Ewa 2 shifts (2 for days away) and 0 weekends."
-        )
+        self.assertEqual(found[-2:], [
+            "In the period until now: Amara and Chen 5 shifts and 1 weekend; Grace 5 shifts and 0 weekends.",
+            "For days away in the whole period: Ewa 2 shifts and 0 weekends; Grace 1 shift and 1 weekend.",
+        ])  # fmt: skip
 
     def test_a_week_in_sentences(self):
         data = replace(

@@ -1,12 +1,10 @@
 """Tests of facts and reasons: the files are read and written as docs/formats.md says."""
 
 import unittest
-
 from ward import SCENARIO, HelperTest, files
 
-from inrc2pb.week.facts import AtPlace, Charged, Choice, Claim, Even, facts_text, of_weeks, read_facts
+from inrc2pb.week.facts import AtPlace, Charged, Choice, Claim, DayAway, Even, facts_text, of_weeks, read_facts, read_reasons, reasons_text
 from inrc2pb.week.faults import FileFault
-from inrc2pb.week.reasons import DayAway, read_reasons, reasons_text
 from inrc2pb.week.records import Place
 
 WARD = files.read_scenario(SCENARIO)

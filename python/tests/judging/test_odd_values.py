@@ -35,6 +35,12 @@ WARNINGS = [
 
 
 class Warnings(HelperTest):
+    def test_a_name_with_a_control_character(self):
+        ward = self.changed(SCENARIO, "Chen Full", "Chen\x1b[31m Full")
+        status, printed, said = run("roster", "check", "--sce", ward)
+        line = f"{ward}: warning: the name Chen\\x1b[31m has a sign that no table shows: remove it in each file of the ward\n"
+        self.assertEqual((status, printed, said), (0, f"{line}No mistake found.\n", ""))
+
     def test_a_ward_that_is_not_utf_8(self):
         ward = self.folder / "latin.txt"
         for letter, warnings in ((b"\xe4", 1), ("\u00e4".encode(), 0)):

@@ -157,7 +157,10 @@ class Reasons(BackTest):
 
     def test_a_change_from_leave_has_its_word(self):
         self.begin_with("", "", "", "", "", "leave")
-        self.lines("plan", "--free")
+        # The plan keeps its shifts.
+        with mock.patch.object(verbs, "more_even", lambda plan, first, seconds: plan):
+            self.lines("plan", "--free")
+        self.lines("page")
 
         def works(_, old, asked):
             return Found(old.with_cells([*old.cells, Cell("Chen", 5, "Late", "Nurse")]))
@@ -212,7 +215,7 @@ class Over(BackTest):
         self.assertIn("week 1 is over: the plan goes on from Mon 7 Dec", lines)
         del before["Bruno", 0]
         self.assertEqual(self.cells(), {**before, ("Chen", 1): ("Late", "Nurse")})
-        self.assertEqual(read_state(self.last()).absences, (DayWord("Bruno", 0, "ill"),))
+        self.assertEqual(read_state(self.last()).absences, (DayWord("Bruno", 0, "ill", 1),))
         self.assertEqual(self.worked("Bruno"), ["ill", "Day Nurse", *["Day Charge"] * 3, "", ""])
         self.assertEqual(self.worked("Chen")[:3], ["", "Late Nurse", "Late Nurse"])
         # The shift hung on the wall.
@@ -227,15 +230,18 @@ class Over(BackTest):
         self.assertEqual(self.shifts_in_history("Chen"), 6)
 
     def test_the_share_of_days_that_count_as_work(self):
-        # A full contract has at least 17 shifts in 14 days: a day counts as 17/14 of a shift, two as 34/14, rounded up.
+        # A full contract has a shift a day from Monday to Friday. Training counts as one on each day, and an illness the shift of its day.
         for words, shifts in (
             ("", 5),
             ("Bruno Mon off", 4),
-            ("Bruno Mon ill", 4 + 2),
-            ("Bruno Mon leave, Bruno Tue training", 3 + 3),
+            ("Bruno Mon ill", 4 + 1),
+            ("Bruno Mon leave, Bruno Tue training", 3 + 2),
             ("Bruno Mon unpaid", 4),
             ("Bruno Mon away", 4),
-            ("Bruno Sat ill", 5 + 2),
+            ("Bruno Sat ill", 5),
+            ("Bruno Sat leave", 5 + 1),
+            ("Bruno Fri leave, Bruno Sat leave, Bruno Sun leave", 4 + 1),
+            ("Bruno Sat training, Bruno Sun training", 5 + 2),
         ):
             with self.subTest(words):
                 self.begin_with()
@@ -247,8 +253,8 @@ class Over(BackTest):
         self.begin_with()
         self.lines("over", "Bruno", "Mon", "ill")
         # The shifts in all, those of them for days away, the limits of the contract, and the shifts left or missing.
-        self.assertEqual(self.rows_of("Bruno", "worked-2026-11-30.html")[1][:4], ["6", "2", "17 to 22", "11 to 16 left"])
-        self.assertEqual(self.rows_of("Bruno", "roster.html")[1][:4], ["11", "2", "17 to 22", "6 too few"])
+        self.assertEqual(self.rows_of("Bruno", "worked-2026-11-30.html")[1][:4], ["5", "1", "17 to 22", "12 to 17 left"])
+        self.assertEqual(self.rows_of("Bruno", "roster.html")[1][:4], ["10", "1", "17 to 22", "7 too few"])
 
     def test_days_that_do_not_count_shorten_the_contract(self):
         for word in ("unpaid", "away"):
@@ -280,7 +286,7 @@ class Over(BackTest):
     def test_the_last_correction_of_a_day_counts(self):
         for words, written, shift in (
             ("Bruno Mon ill, Bruno Mon Late", (), ("Late", "Nurse")),
-            ("Bruno Mon Late, Bruno Tue off, Bruno Mon ill", (DayWord("Bruno", 0, "ill"),), None),
+            ("Bruno Mon Late, Bruno Tue off, Bruno Mon ill", (DayWord("Bruno", 0, "ill", 1),), None),
             ("Bruno Mon leave, Bruno Mon training", (DayWord("Bruno", 0, "training"),), None),
         ):
             with self.subTest(words):
@@ -293,7 +299,7 @@ class Over(BackTest):
         self.lines("ill", "Chen", "Fri")
         before, written = self.cells(), read_state(self.last()).absences
         self.lines("over", "Bruno", "Mon", "ill")
-        self.assertEqual(read_state(self.last()).absences, (*written, DayWord("Bruno", 0, "ill")))
+        self.assertEqual(read_state(self.last()).absences, (*written, DayWord("Bruno", 0, "ill", 1)))
         self.assertEqual(self.lines("undo")[0][:14], "undone: over 0")
         self.assertEqual((self.cells(), read_state(self.last()).absences, self.away()), (before, written, {4: "ill"}))
         self.assertFalse((self.ward / "worked-2026-11-30.html").exists())
@@ -309,7 +315,7 @@ class Over(BackTest):
         # The next period begins without the absences of this one.
         self.assertEqual(read_state(self.last()).absences, ())
         self.assertEqual(self.lines("undo")[0][:17], "undone: over peri")
-        self.assertEqual(read_state(self.last()).absences, (DayWord("Bruno", 0, "ill"),))
+        self.assertEqual(read_state(self.last()).absences, (DayWord("Bruno", 0, "ill", 1),))
 
     def test_an_absence_after_the_week_that_ends(self):
         self.begin_with()

@@ -98,7 +98,7 @@ class FolderPages(KeptTest):
         taken = chooses.choice(sorted(state.planned))
         old = self.store.current()
         cells = [cell for cell in old.cells if (cell.nurse, state.monday + cell.day * DAY) != taken[:2]]
-        self.store.save("plan", old.with_cells(cells), old)
+        self.store.save("plan", old.with_cells(cells))
         shifts = state.shifts - {taken}
         self.states.append(replace(state, shifts=shifts, calendars=shifts if state.is_published else state.calendars))
 

@@ -4,28 +4,27 @@ import datetime
 import errno
 import unittest
 from dataclasses import replace
+from test_plans import MONDAY, FolderTest
 from unittest import mock
+from ward import HAS_CBC, files, run
 from xml.etree import ElementTree
 
-from test_plans import MONDAY, FolderTest
-from ward import HAS_CBC, files, run
-
+from inrc2pb.commands.plan import read_sheet
 from inrc2pb.judging.limits import limits_way_out
 from inrc2pb.judging.rules import Charge
-from inrc2pb.commands.plan import read_sheet
 from inrc2pb.plans import pages, store
 from inrc2pb.plans.changes import days_off_beside_absences, shift_changes, with_few_changes, without_needless_changes
 from inrc2pb.plans.facts import unkept
 from inrc2pb.plans.render import bound_text, part_lines
 from inrc2pb.plans.searching import known_bound
-from inrc2pb.plans.sentences import beside_lines, call_lines, change_lines, days_off_lines, unkept_lines, wish_lines
-from inrc2pb.plans.state import DayWord, NurseDay, Record, read_record, read_state, record_text
+from inrc2pb.plans.sentences import beside_lines, call_lines, change_lines, due_lines, unkept_lines, wish_lines
+from inrc2pb.plans.state import DayWord, Record, read_record, read_state, record_text
 from inrc2pb.plans.ward import limits_for_leavers, plan_of
-from inrc2pb.plans.words import PlanDays
 from inrc2pb.search.bounds import PLAIN, PROVER, Bound
 from inrc2pb.shown.page import page_text
+from inrc2pb.week.dates import PlanDays
 from inrc2pb.week.facts import Charged
-from inrc2pb.week.records import Absence, Cell, Request
+from inrc2pb.week.records import Absence, Cell, NurseDay, Request
 
 BARE = PlanDays(None, 2)
 BARE_DATES = [PlanDays(MONDAY, 2).text(day) for day in range(14)]
@@ -110,7 +109,7 @@ class Words(KeptTest):
         begun = self.read()
         for word, says in (
             ("unpaid", ["Grace is away or unpaid on 5 of 14 days: contract Full counts in proportion, 5 to 7 shifts in place of 8 to 10.",
-                        "Off or away for longer than the contract's most days off in a row, so without such a maximum: Grace."]),
+                        "No maximum of days off in a row, since they are away for longer, or come or leave: Grace."]),
             ("ill", []),
         ):  # fmt: skip
             self.rows["plan"][7][3:8] = [word] * 5
@@ -188,8 +187,8 @@ class Words(KeptTest):
         self.assertIn("warning: Dilek works Night on the Sunday before, and has leave on Mon 30 Nov\n", printed)
         plan = self.read()
         # The page has the line, but not the one for the wall.
-        self.assertIn(f"<p>{says}</p>", page_text(pages.roster_content(plan)))
-        self.assertNotIn(says, page_text(replace(pages.roster_content(plan), only_table=True)))
+        self.assertIn(f"<p>{says}</p>", page_text(pages.roster_content(self.ward, plan)))
+        self.assertNotIn(says, page_text(replace(pages.roster_content(self.ward, plan), only_table=True)))
 
     def test_days_away_that_count_as_days_off_are_told(self):
         # Grace is off on both weekends. Her contract has at most four days off in a row; she has leave on the three days after the first one.
@@ -199,8 +198,11 @@ class Words(KeptTest):
         plan = self.read()
         plan = plan.with_cells(cell for cell in plan.cells if cell.nurse != "Grace" or cell.day not in (7, 8, 9))
         says = "Mon 7 Dec to Wed 9 Dec: 5 days off in a row (2 before Mon 7 Dec), at most 4: her days away (leave) count as days off"
-        self.assertEqual(list(days_off_lines(plan)), [f"30 points: Grace, {says}"])
-        self.assertEqual(list(days_off_lines(self.plan)), [])
+        # Then she works two days in a row, of three at least.
+        short = "Thu 10 Dec to Fri 11 Dec: only 2 days with work in a row, at least 3: the days in a row end at her days away (leave)"
+        due = "60 of the points are due to days away"
+        self.assertEqual(due_lines(plan), [f"30 points: Grace, {short}", f"30 points: Grace, {says}", due])
+        self.assertEqual(due_lines(self.plan), [])
 
     def test_the_limit_of_a_nurse_who_leaves_is_told_and_keeps_her_shifts_of_days_before_a_search(self):
         # Grace has five shifts from Monday to Friday. Her limit is that of the part of the plan before she leaves, rounded up.
@@ -238,7 +240,7 @@ class Words(KeptTest):
         self.assertEqual(status, 0)
 
     def test_an_illness_takes_no_shifts_of_other_days(self):
-        # Grace has five shifts in both weeks, and her limit is ten. Two days of 14 count as 8 * 2 / 14 shifts, rounded up.
+        # Grace has five shifts in both weeks, and her limit is ten. Two days of a weekend alone count as two.
         self.rows["contracts"][1][1:3] = ["8", "10!"]
         self.rows["plan"][7][6:8] = ["ill", "ill"]
         self.write()
@@ -265,13 +267,13 @@ class Words(KeptTest):
 
     def test_a_swap_is_marked_but_not_on_the_wall(self):
         plan = self.plan.with_state(replace(self.plan.state, agreed=(NurseDay("Grace", 7), NurseDay("Chen", 7))))
-        content = pages.roster_content(plan)
+        content = pages.roster_content(self.ward, plan)
         table = ElementTree.fromstring(page_text(content).partition("\n")[2])
         marked = {row[0].text: [cell for cell, part in enumerate(row) if "a swap that was written" in "".join(part.itertext())]
                   for row in next(table.iter("table")).iter("tr") if len(row)}  # fmt: skip
         self.assertEqual({nurse: cells for nurse, cells in marked.items() if cells}, {"Grace": [8], "Chen": [8]})
         self.assertIn("<li>\u21c4 = a swap that was written</li>", page_text(content))
-        self.assertNotIn("\u21c4", page_text(replace(content, only_table=True)) + page_text(pages.roster_content(self.plan)))
+        self.assertNotIn("\u21c4", page_text(replace(content, only_table=True)) + page_text(pages.roster_content(self.ward, self.plan)))
 
     def test_agreed_days_cost_much(self):
         old = [Cell("Chen", 4, "Late", "Nurse")]
@@ -284,8 +286,10 @@ class Words(KeptTest):
         days = (DayWord("Chen", 4, "ill"), DayWord("Zoë_B", 13, "back")), (NurseDay("Chen", 4), NurseDay("Ida_B", 11))
         time = datetime.datetime(2026, 11, 28, 12, 0)
         for record in (Record("swap Chen Zoë_B 4", time, BARE, 1, True, *days), Record("over period", time, PlanDays(MONDAY, 0))):
-            (self.folder / "plan.json").write_text(record_text(record))
-            self.assertEqual(read_record(self.folder), record)
+            folder = self.folder / "kept"
+            folder.mkdir(exist_ok=True)
+            (folder / "plan.json").write_text(record_text(record))
+            self.assertEqual(read_record(folder), record)
 
 
 class Weeks(KeptTest):
@@ -304,7 +308,7 @@ class Weeks(KeptTest):
         # Grace works from Monday to Friday, and so she does in the week before.
         self.rows["contracts"][1][4] = "5!"
         self.write()
-        printed = self.does("over", "Grace", "Sat", "Day", "Grace", "Sun", "Day")
+        printed = self.does("over", "Grace", "Sat", "Day", "Grace", "Sun", "Day", "--do")
         self.assertIn("week 1 exceeds a limit that holds: Grace has 7 days of work in a row", printed)
         self.assertIn("week 2 exceeds a limit that holds: Grace has 12 days of work in a row, to Fri 11 Dec, of at most 5", printed)
         self.assertIn("plan again, from Mon 7 Dec on", printed)
@@ -322,10 +326,10 @@ class Weeks(KeptTest):
         self.assertIn("week 2, calendar week 50", words)
         self.assertRegex("".join(next(page.iter("p")).itertext()), "^weeks 1 to 2: 7 nurses, 66 shifts; as of [A-Z][a-z]+day, [0-9]+ ")
         finn = next(row for row in page.iter("tr") if "".join(row[0].itertext()) == "Finn")
-        # Nobody reads on the wall why she is away.
-        self.assertEqual("".join(finn[3].itertext()), "away")
-        # In both weeks five late shifts, and one weekend.
-        self.assertEqual(["".join(cell.itertext()) for cell in finn[-4:]], ["0", "10", "0", "2"])
+        # A day on which she never works is off, and not away.
+        self.assertEqual("".join(finn[3].itertext()), "")
+        # In both weeks five late shifts of eight and a half hours, and one weekend; a wish is granted.
+        self.assertEqual(["".join(cell.itertext()) for cell in finn[-5:]], ["10", "85", "0", "2", "1/1"])
 
     def test_a_wall_that_is_undone(self):
         self.does("page")
@@ -396,7 +400,7 @@ class Disks(KeptTest):
         self.assert_unchanged(before)
 
     def test_a_disk_that_is_full_after_the_plan(self):
-        with mock.patch.object(pages, "write_text", side_effect=OSError(errno.ENOSPC, "No space left on device")):
+        with mock.patch.object(pages, "write_own_text", side_effect=OSError(errno.ENOSPC, "No space left on device")):
             status, printed, _ = run("plan", self.ward, "over")
         self.assertEqual(status, 3)
         self.assertIn("the plan holds, but its pages are not written: ", printed)
@@ -440,21 +444,22 @@ class Training(KeptTest):
 
     def test_the_bound_in_words(self):
         search = mock.Mock(penalty=1170)
-        kept, ends = "no plan that keeps all absences and limits", "this one costs 1170: more seconds may help"
-        proved = f"{kept} costs less than 1080 points (proved by inrc2pb-bound)"
-        beside = "with training as work in a row and no night shift before it or leave, none costs less than"
+        kept, ends = "plan that keeps all absences and limits", "More seconds may help."
+        least = f"This plan costs 1170 points. At least 1080 cannot be avoided by a {kept}"
+        proved = f"{least} (proved by inrc2pb-bound)."
+        beside = "plan with training as work in a row, and no night shift before it or leave"
         for points, by, above, says in (
-            (1080, PROVER, None, f"{proved}; {ends}"),
-            (1080, PROVER, 1080, f"{proved}; {ends}"),
-            (1080, PLAIN, None, f"{kept} costs less than 1080 points (not proved); {ends}"),
-            (1170, PROVER, None, f"{kept} costs less than this one (proved by inrc2pb-bound)"),
-            (1080, PROVER, 1100, f"{proved}; {beside} 1100 points (not proved); {ends}"),
-            (1080, PROVER, 1170, f"{proved}; {beside} this one (not proved)"),
+            (1080, PROVER, None, f"{proved} {ends}"),
+            (1080, PROVER, 1080, f"{proved} {ends}"),
+            (1080, PLAIN, None, f"{least} (not proved). {ends}"),
+            (1170, PROVER, None, f"This plan costs 1170 points, and no {kept} costs less (proved by inrc2pb-bound)."),
+            (1080, PROVER, 1100, f"{proved} At least 1100 cannot be avoided by a {beside} (not proved). {ends}"),
+            (1080, PROVER, 1170, f"{proved} No {beside}, costs less (not proved)."),
         ):
             search.bound, search.bound_beside = Bound(points, by, "absences and limits"), above
             self.assertEqual(bound_text(known_bound(search)), says)
         search.bound, search.bound_beside = Bound(1170, PROVER), None
-        self.assertEqual(bound_text(known_bound(search)), "no plan costs less than this one (proved by inrc2pb-bound)")
+        self.assertEqual(bound_text(known_bound(search)), "This plan costs 1170 points, and no plan costs less (proved by inrc2pb-bound).")
         search.bound = None
         self.assertEqual(bound_text(known_bound(search)), "how much less another plan can cost is not known")
 

@@ -77,6 +77,22 @@ class Page(ServedPage):
             self.goes_away()
         self.assertEqual(printed.getvalue(), "")
 
+    def test_headers_that_are_said_twice_or_by_another_page(self):
+        form = "verb=undo&sure=yes&stamp=x"
+        post = f"POST {self.site.path} HTTP/1.0\r\nHost: {self.site.netloc}\r\n"
+        length = f"Content-Length: {len(form)}\r\n"
+        for status, head in (
+            ("403", f"GET {self.site.path} HTTP/1.0\r\nHost: {self.site.netloc}\r\nHost: evil.example\r\n"),
+            ("403", f"{post}{length}Sec-Fetch-Site: cross-site\r\n"),
+            ("403", f"{post}{length}Origin: http://{self.site.netloc}\r\nOrigin: http://evil.example\r\n"),
+            ("400", f"{post}{length}Content-Length: 5\r\n"),
+            ("400", f"{post}{length}Transfer-Encoding: chunked\r\n"),
+            ("303", f"{post}{length}Sec-Fetch-Site: same-origin\r\nOrigin: http://{self.site.netloc}\r\n"),
+        ):
+            with self.subTest(head), socket.create_connection((self.site.hostname, self.site.port)) as browser:
+                browser.sendall(f"{head}\r\n{form}".encode())
+                self.assertEqual(browser.makefile("rb").readline().split()[1].decode(), status)
+
     def goes_away(self):
         """A browser that asks for a page and resets its connection before the answer."""
         threads = threading.active_count()
@@ -347,7 +363,7 @@ class Page(ServedPage):
         page = self.asks()[1]
         for name in ("roster", "wall", "calendars"):
             self.assertIn(f'href="{self.site.path}{name}"', page)
-        self.assertTrue('href="#roster"' in page and '<section id="roster">' in page)
+        self.assertTrue('href="#forms"' in page and '<section id="forms">' in page)
         self.assertEqual(self.asks(path=f"{self.site.path}calendars/Chen.ics")[0], 404)
         self.assertIn("There are none yet", self.asks(path=f"{self.site.path}calendars")[1])
         self.sends(verb="page")

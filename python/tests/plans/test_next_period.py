@@ -3,6 +3,7 @@
 import datetime
 import sys
 import unittest
+from xml.etree import ElementTree
 
 from test_kept_plans import KeptTest
 from test_plans import MONDAY, TWO_WEEKS
@@ -59,6 +60,29 @@ class NextPeriod(KeptTest):
         self.assertIn("14 Dec to 20 Dec 2026", (self.ward / second).read_text())
         self.does("undo")
         self.assertEqual(self.linked(), [first])
+
+    def test_sums_of_the_period_and_of_all_periods(self):
+        # Grace has five shifts in each week, of 8:30 hours, and Chen three nights and a weekend with work.
+        self.does("page")
+        rows = self.sums("roster.html")
+        self.assertEqual((rows["Grace"], rows["Chen"]), (["10", "85", "0", "0", "1/1"], ["10", "86", "6", "2", "0/1"]))
+        (days,) = (row for row in ElementTree.parse(self.ward / "wall.html").iter("tr") if "".join(row.itertext()).startswith("Grace"))
+        self.assertEqual(["".join(cell.itertext()) for cell in days][-5:], ["10", "85", "0", "0", "1/1"])
+        self.end_period()
+        self.write_next(MONDAY + datetime.timedelta(days=14))
+        self.plan_next()
+        self.does("page")
+        rows = self.sums("roster.html")
+        self.assertEqual(rows["Grace"], ["10", "85", "0", "0", "-", "20", "170", "0", "0", "1/1"])
+        self.assertEqual(rows["Chen"][5:], ["20", "173", "12", "4", "0/1"])
+
+    def sums(self, page):
+        """The sums of each nurse on a page."""
+        tables = [
+            table for table in ElementTree.parse(self.ward / page).iter("table") if "wishes of each nurse" in "".join(table.itertext())
+        ]
+        rows = [["".join(cell.itertext()) for cell in row] for row in tables[0].iter("tr")]
+        return {row[0]: row[1:] for row in rows}
 
     def test_each_period_without_dates_has_a_page_of_its_weeks(self):
         for folder in (self.ward / "plans").glob("0*"):

@@ -1,24 +1,24 @@
 """Tests of events and outcomes as values: what a question shows is not written, and no status is read from words."""
 
 import unittest
-from unittest import mock
-
 from test_kept_plans import KeptTest
 from test_plans import DATES
+from unittest import mock
 
 from inrc2pb.commands.plan import read_sheet
-from inrc2pb.judging.given import read_given
 from inrc2pb.judging.leave import credited
+from inrc2pb.judging.limits import read_given
 from inrc2pb.plans import render, sentences
 from inrc2pb.plans.outcome import Away, Checked, Event, Offers, Published, Status, Swapped, Undone, WeekOver
-from inrc2pb.plans.state import BACK, DayWord, NurseDay, in_plan
+from inrc2pb.plans.state import BACK, DayWord
 from inrc2pb.plans.store import Means, WardFolder
 from inrc2pb.plans.swaps import Kind, Swap
 from inrc2pb.plans.verbs import Verbs
 from inrc2pb.programs.progress import Progress
+from inrc2pb.week.facts import read_reasons
 from inrc2pb.week.faults import Misuse
 from inrc2pb.week.files import read_history, read_scenario, read_solution, read_week
-from inrc2pb.week.reasons import read_reasons
+from inrc2pb.week.records import NurseDay, in_plan
 
 
 class Records(KeptTest):
@@ -34,7 +34,7 @@ class Records(KeptTest):
         for ward in (read_sheet(self.ward, None, written), read_sheet(self.ward, None, ()).with_absences(written)):
             texts, scenario = ward.texts, read_scenario("ward.txt", ward.texts["ward.txt"])
             self.assertEqual(ward.scenario, scenario)
-            self.assertEqual(credited(ward.past, ward.credit), read_history("history-0.txt", scenario, texts["history-0.txt"]))
+            self.assertEqual(credited(ward.past, ward.counted), read_history("history-0.txt", scenario, texts["history-0.txt"]))
             self.assertEqual(ward.claims, read_given("facts.txt", scenario, texts["facts.txt"]))
             names = [f"week-{number}.txt" for number in (0, 1)]
             self.assertEqual(ward.weeks, tuple(read_week(name, scenario, texts[name]) for name in names))

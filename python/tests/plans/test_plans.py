@@ -14,7 +14,6 @@ import time
 import unittest
 from dataclasses import replace
 from unittest import mock
-
 from ward import HAS_CBC, HELPERS, ROSTER, HelperTest, files, program, run
 
 from inrc2pb.commands.plan import read_sheet
@@ -23,8 +22,9 @@ from inrc2pb.plans.local_server import LocalServer
 from inrc2pb.plans.store import WardFolder, plan_texts
 from inrc2pb.plans.swaps import Swap, Swaps
 from inrc2pb.plans.ward import first_plan
-from inrc2pb.plans.words import OtherPlan, PlanDays, Wording
+from inrc2pb.plans.words import Wording
 from inrc2pb.sheets.ward_template import EXAMPLE
+from inrc2pb.week.dates import OtherPlan, PlanDays
 from inrc2pb.week.facts import Charged, Claim
 from inrc2pb.week.faults import Misuse
 from inrc2pb.week.records import Cell, Request, WeekData
@@ -90,6 +90,20 @@ class Words(unittest.TestCase):
                 self.assertEqual((words.nurse(), words.day()), (nurse, day))
                 words.end()
 
+    def test_accents_may_be_left_out(self):
+        names = ("Łukasz_Nowak", "Mehmet_Yılmaz", "Günter_Groß", "Zoë_Weiß", "Zoe_Wolf")
+        for text, nurse in (
+            ("Lukasz", "Łukasz_Nowak"),
+            ("mehmet yilm", "Mehmet_Yılmaz"),
+            ("Gunter Gross", "Günter_Groß"),
+            # Who writes the accent means it, and who writes none means the name that has none.
+            ("Zoë", "Zoë_Weiß"),
+            ("Zoe", "Zoe_Wolf"),
+            ("zoe weiss", "Zoë_Weiß"),
+        ):
+            with self.subTest(text):
+                self.assertEqual(Wording([*text.split(), "Fri"], names, DATED, 0, "ill Anna Fri").nurse(), nurse)
+
     def test_a_nurse_with_the_name_of_a_month(self):
         words = Wording("Mon 2 Jan Li".split(), (*self.NURSES, "Jan_Li"), DATED, 0, "swap Sun Li Mon Jan")
         self.assertEqual((words.day(), words.nurse()), (7, "Jan_Li"))
@@ -111,7 +125,10 @@ class Words(unittest.TestCase):
             self.assertEqual(str(caught.exception), says)
         with self.assertRaises(Misuse) as caught:
             self.wording("2026-12-01", first=7).open_day()
-        self.assertEqual(str(caught.exception), "Tue 1 Dec is in a week that is over: the plan goes on from Mon 7 Dec")
+        self.assertEqual(
+            str(caught.exception),
+            "Tue 1 Dec is in a week that is over: the plan goes on from Mon 7 Dec; undo takes the end of that week back",
+        )
 
 
 class Values(HelperTest):
@@ -383,7 +400,7 @@ class Verbs(FolderTest):
         history = (self.last() / "history-1.txt").read_text()
         self.assertIn(" None ", next(line for line in history.splitlines() if line.startswith(worked)))
         status, _, said = run("plan", self.ward, "ill", "Chen", "2026-12-01")
-        line = "Tue 1 Dec is in a week that is over: the plan goes on from Mon 7 Dec"
+        line = "Tue 1 Dec is in a week that is over: the plan goes on from Mon 7 Dec; undo takes the end of that week back"
         self.assertEqual((status, said), (1, f"inrc2pb-plan: {line}\n"))
         self.assertIn("week 2 is over, and with it the period is over\n", self.does("over"))
         status, _, said = run("plan", self.ward, "plan")
@@ -431,14 +448,14 @@ class Refused(FolderTest):
         for line in ("Ill: Amara", "Leave: Bruno", "Training: Dilek", "Unpaid: Ewa", "Away: Grace"):
             self.assertIn(f"{line} on Mon 7 Dec to Tue 8 Dec.\n", printed)
         self.assertIn("Always off: Finn on Tue.\n", printed)
-        # Two days of 14 count as 17 * 2 / 14 shifts, rounded up.
-        counted = "3 shifts (3 for days away) and 0 weekends"
-        self.assertIn(f"In the period until now: Amara, Bruno and Dilek {counted}.\n", printed)
+        # A Monday and a Tuesday count as a shift each.
+        self.assertIn("For days away in the whole period: Amara, Bruno and Dilek 2 shifts and 0 weekends.\n", printed)
+        self.assertNotIn("In the period until now", printed)
         self.assertFalse((self.ward / "plans").exists())
 
     def test_what_is_told_first(self):
         # Both weeks have 7 + 12 + 7 + 7 shifts at best; 7 + 5 + 7 + 7 are needed. Five nurses have 8 to 12 shifts, two 4 to 6. Grace
-        # has leave on the seven days of the second week, which count as four of her shifts. A plan changes nothing of it.
+        # has leave on the seven days of the second week, which count as five of her shifts. A plan changes nothing of it.
         self.rows["contracts"][1][1:3], self.rows["contracts"][2][1:3] = ["8", "12"], ["4", "6"]
         self.rows["plan"][7][8:15] = ["leave"] * 7
         del self.rows["plan"][2]
@@ -451,7 +468,7 @@ class Refused(FolderTest):
             self.assertEqual(lines[first : first + 4], [
                 "my wärd: 7 nurses, 2 weeks in a period.",
                 "Week 1, Mon 30 Nov: asks for 26 to 33 shifts; the contracts supply 24 to 36 a week.",
-                "Week 2, Mon 7 Dec: asks for 26 to 33 shifts; the contracts supply 20 to 32 a week.", "",
+                "Week 2, Mon 7 Dec: asks for 26 to 33 shifts; the contracts supply 20 to 31 a week.", "",
             ])  # fmt: skip
 
     def test_a_ward_without_a_mistake(self):
@@ -485,12 +502,12 @@ class Refused(FolderTest):
         for says, *words in (
             ("'plna' is no verb: did you mean plan?", "plna"),
             (
-                "'sick' is no verb: write one of new, check, plan, ill, back, swap, over, page, undo, serve, files, away, leave, unpaid, training\n",
+                "'sick' is no verb: write one of new, check, plan, ill, back, swap, set, over, page, undo, serve, files, away, leave, unpaid, training\n",
                 "sick",
             ),
             ("a verb is missing after the folder: write one of new, check, plan, ",),
             ("'Chen' is a word too many: page has none", "page", "Chen"),
-            ("--do is for swap: leave it out", "plan", "--do"),
+            ("--do is for verbs that ask before they write: leave it out with page", "page", "--do"),
             ("--free is for plan: leave it out", "page", "--free"),
             ("--time has to be a number of seconds above 0", "plan", "--time", "0"),
             ("--port 70000: give a number from 1024 to 65535", "serve", "--port", "70000"),
@@ -502,9 +519,12 @@ class Refused(FolderTest):
                 "0.0.0.0",
             ),
             ("--host '' is no address", "serve", "--host", ""),
+            ("--host '0' is no address", "serve", "--host", "0"),
+            ("--host '::' is no address", "serve", "--host", "::"),
             ("--origin 'ward.example': give the beginning of an address, as https://ward.example", "serve", "--origin", "ward.example"),
             ("--origin 'https://ward.example/': give the beginning", "serve", "--origin", "https://ward.example/"),
-            ("--port, --host and --origin are for serve: leave them out", "plan", "--origin", "https://ward.example"),
+            ("--port, --host, --origin and --secret are for serve: leave them out", "plan", "--origin", "https://ward.example"),
+            ("--port, --host, --origin and --secret are for serve: leave them out", "plan", "--secret", "file"),
             (f"has no plan yet: type inrc2pb-plan '{self.ward}' plan", "swap", "Chen", "Fri"),
             ("has no plan yet", "page"),
             ("there is nothing to undo", "undo"),
@@ -515,11 +535,15 @@ class Refused(FolderTest):
                 self.assertFalse(list((self.ward / "plans").glob("0*")))
 
     def test_a_page_beyond_this_machine_is_told_to_be_in_clear_text(self):
-        says = "who reads your network reads this address and the roster: without a proxy with TLS, serve only where you trust all\n"
+        says = "in clear text: who reads your network reads this address and the roster, and can change it: let a proxy with TLS on this machine "
         for words, begin, is_told in (
             ((), "http://127.0.0.1:", False),
             (("--host", "localhost"), "http://localhost:", False),
-            (("--host", "127.0.0.2"), "http://127.0.0.2:", True),
+            (("--host", "127.0.0.2"), "http://127.0.0.2:", False),
+            (("--origin", "http://localhost:9999"), "http://localhost:9999/", False),
+            (("--origin", "http://ward.example"), "http://ward.example/", True),
+            # The way from the proxy to this machine is in clear text too.
+            (("--host", "0", "--origin", "https://ward.example"), "https://ward.example/", True),
             (("--host", "0.0.0.0", "--origin", "http://ward.example:9999"), "http://ward.example:9999/", True),
             (("--origin", "https://ward.example"), "https://ward.example/", False),
         ):

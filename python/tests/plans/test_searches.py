@@ -3,23 +3,21 @@
 import datetime
 import unittest
 from dataclasses import replace
-from unittest import mock
-
 from test_kept_plans import KeptTest
 from test_plans import TWO_WEEKS
+from unittest import mock
 from ward import run
 
 from inrc2pb.commands.plan import read_sheet
 from inrc2pb.plans import verbs
 from inrc2pb.plans.outcome import Event, Keep
 from inrc2pb.plans.searching import Found
-from inrc2pb.plans.state import NurseDay
 from inrc2pb.plans.store import Means, WardFolder, plan_texts
 from inrc2pb.programs.program import BROKEN_RULE, NO_ROSTER
 from inrc2pb.programs.progress import Progress
-from inrc2pb.search.why_none import Owner, Shortage, ShortPlace
+from inrc2pb.search.why_none import Owner, ShortPlace, Shortage
 from inrc2pb.week.faults import ProgramFault, Stopped
-from inrc2pb.week.records import Place
+from inrc2pb.week.records import NurseDay, Place
 
 REASON = "no plan was found: a search for the reason, at most 30 s for each week\n"
 AGAIN = "no plan was found that keeps all agreed swaps: a search for one that may break them\n"

@@ -117,6 +117,13 @@ class Finding(HelperTest):
         ran = subprocess.run([str(HELPERS / "launcher.py")], stdout=subprocess.PIPE, stderr=subprocess.PIPE)
         self.assertEqual((ran.returncode, ran.stderr[:47]), (1, b"launcher.py: no command has this name: give it "))
 
+    def test_without_numpy_one_line_says_how_to_install_it(self):
+        (self.folder / "numpy.py").write_text("raise ImportError('No module named numpy', name='numpy')\n")
+        environment = {**os.environ, "PYTHONPATH": str(self.folder)}
+        ran = subprocess.run([str(HELPERS / "inrc2pb-solve"), "--help"], env=environment, stdout=subprocess.PIPE, stderr=subprocess.PIPE)
+        line = b"inrc2pb-solve: this command needs NumPy: install it (Debian: apt-get install python3-numpy)\n"
+        self.assertEqual((ran.returncode, ran.stdout, ran.stderr), (1, b"", line))
+
     def test_a_clone_uses_its_own_program(self):
         clone, other = self.folder / "clone", self.folder / "other"
         shutil.copytree(HELPERS, clone / "python", symlinks=True, ignore=shutil.ignore_patterns("tests", "__pycache__"))

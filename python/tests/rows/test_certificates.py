@@ -9,7 +9,6 @@ from test_rows import random_plan
 from inrc2pb.rows.case_pricing import CasePricing, leaf_of, surcharge_of
 from inrc2pb.rows.certificate import Certificate, Leaf, Split
 from inrc2pb.rows.pricing import Crews
-from inrc2pb.rows.row_arrays import numpy
 from inrc2pb.week.facts import KINDS, SHIFT_RUNS, AtPlace, Charged, Choice, Even, facts_text
 from inrc2pb.week.records import Place
 
@@ -142,7 +141,6 @@ class Bounds(unittest.TestCase):
         self.assertEqual(len(seen), 8)
 
 
-@unittest.skipIf(numpy is None, "needs NumPy")
 class Pricings(unittest.TestCase):
     def test_bounds_of_leaves_are_those_of_all_plans(self):
         compared = 0

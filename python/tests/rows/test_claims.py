@@ -13,7 +13,7 @@ from inrc2pb.programs.clock import Clock
 from inrc2pb.programs.processes import Processes
 from inrc2pb.rows.plan import Plan
 from inrc2pb.rows.row_search import RowSearch, WholeSearch, WrongBound
-from inrc2pb.solvers.linear_solvers import LinearSolvers
+from inrc2pb.solvers.linear_solvers import LinearSolver
 
 STEP = 5
 
@@ -121,7 +121,7 @@ class Chosen(unittest.TestCase):
         plan = Plan.of(week.scenario, week.history, [week.data])
         for penalty in (best, best + STEP):
             with tempfile.TemporaryDirectory() as name:
-                solver = LinearSolvers(["cbc"], Processes(), Path(name), print)
+                solver = LinearSolver(Processes(), Path(name), print)
                 search = search_of(pricing_of(plan), solver)
                 search.generate(search.clock)
                 search.penalty = penalty

@@ -1,51 +1,30 @@
 """Tests of plans of several weeks: costs, bounds and cheapest rows, beside inrc2pb.rules and random rows."""
 
 import random
-import shutil
-import subprocess
-import sys
 import threading
 import unittest
 from unittest import mock
+from ward import HAS_CBC, ROOT, THIRTY_FILES, HelperTest, files, records
 
-from ward import HAS_CBC, HELPERS, ROOT, THIRTY_FILES, HelperTest, files, records
-
-from inrc2pb.programs.clock import Clock, TimeIsOver
-from inrc2pb.rows.first_rows import matched_rows
-from inrc2pb.solvers.answers import SolverFault
-from inrc2pb.solvers.linear_solvers import LinearSolvers
 from inrc2pb.judging.next_history import next_history
-from inrc2pb.rows.plan import POINT, WEEK_DAYS, Plan
-from inrc2pb.rows.pricing import Crews, Pricing
+from inrc2pb.judging.rules import costs, first_broken, nurse_costs
+from inrc2pb.programs.clock import Clock, TimeIsOver
 from inrc2pb.programs.processes import Processes
+from inrc2pb.rows.first_rows import matched_rows
 from inrc2pb.rows.part_search import Done
+from inrc2pb.rows.plan import POINT, Plan
+from inrc2pb.rows.pricing import Crews, Pricing
 from inrc2pb.rows.row_parts import RowParts
 from inrc2pb.rows.row_search import RowSearch
-from inrc2pb.judging.rules import costs, first_broken, nurse_costs
 from inrc2pb.rows.skills import staffed
+from inrc2pb.solvers.answers import SolverFault
+from inrc2pb.solvers.linear_solvers import LinearSolver
+from inrc2pb.week.records import WEEK_DAYS
 
 MONTH = ROOT / "examples" / "month"
-TESTS = ROOT / "python" / "tests"
 SCENARIO = files.read_scenario(MONTH / "ward.txt")
 HISTORY = files.read_history(MONTH / "history-0.txt", SCENARIO)
 WEEKS = [files.read_week(MONTH / f"week-{number}.txt", SCENARIO) for number in range(4)]
-
-# Prints whether NumPy finds the rows that plain Python finds, for the prices of some nurses.
-BY_NUMPY = """
-import random, sys
-sys.path[:0] = sys.argv[1:]
-import test_long_plans as tests
-from inrc2pb.rows import row_graph
-pricing = tests.month(4)
-assert all(graph.arrays for graph in pricing.graphs)
-found = tests.cheapest(pricing)
-gains = pricing.crews.gains(tests.random_prices(pricing, 5))
-together = pricing.cheapest_of(range(30), gains)
-row_graph.numpy = None
-plain = tests.month(4)
-assert not any(graph.arrays for graph in plain.graphs)
-print(found == together == tests.cheapest(plain) == plain.cheapest_of(range(30), gains))
-"""
 
 
 def month(count):
@@ -115,15 +94,9 @@ class FourWeeks(unittest.TestCase):
                 earned = sum(gains[crews[nurse][day][choice]] for day, choice in enumerate(row))
                 self.assertLessEqual(found.value, POINT * self.pricing.cost(nurse, row) - earned)
 
-    def test_numpy_finds_the_same_rows(self):
-        for python in (sys.executable, "/usr/bin/python3"):
-            if shutil.which(python) and subprocess.run([python, "-c", "import numpy"], stderr=subprocess.DEVNULL).returncode == 0:
-                ran = subprocess.run(
-                    [python, "-c", BY_NUMPY, *map(str, (HELPERS, TESTS, TESTS / "rows"))], stdout=subprocess.PIPE, check=True
-                )
-                self.assertEqual(ran.stdout, b"True\n")
-                return
-        self.skipTest("needs NumPy")
+    def test_all_nurses_together_have_the_rows_of_each_alone(self):
+        gains = self.pricing.crews.gains(random_prices(self.pricing, 5))
+        self.assertEqual(self.pricing.cheapest_of(self.nurses, gains), cheapest(self.pricing))
 
 
 @unittest.skipUnless(HAS_CBC, "needs cbc")
@@ -131,7 +104,7 @@ class Parts(HelperTest):
     def test_two_threads_find_the_best_roster(self):
         week = files.read_files(THIRTY_FILES.scenario, THIRTY_FILES.history, THIRTY_FILES.week)
         plan = Plan.of(week.scenario, week.history, [week.data])
-        solver = LinearSolvers(["cbc"], Processes(), self.folder, self.fail, resident=True)
+        solver = LinearSolver(Processes(), self.folder, self.fail)
         self.addCleanup(solver.close)
         kept = []
 
@@ -152,14 +125,14 @@ class Parts(HelperTest):
     def test_a_proof_ends_the_other_threads(self):
         week = files.read_files(THIRTY_FILES.scenario, THIRTY_FILES.history, THIRTY_FILES.week)
         plan = Plan.of(week.scenario, week.history, [week.data])
-        solver = LinearSolvers(["cbc"], Processes(), self.folder, self.fail)
+        solver = LinearSolver(Processes(), self.folder, self.fail)
         search = RowSearch(
             Pricing(plan, Crews(plan), lambda: None), solver, Clock(60), lambda rows, finder: search.value_of(rows), lambda: None
         )
         search.begin(matched_rows(plan, search.pricing.crews, lambda: None), None)
         parts = RowParts(search, [solver, solver.beside(1)])
 
-        def improve(part, solver, clock):
+        def improve(part, solver, clock, roster):
             if solver is parts._solvers[1]:
                 words = ["sh", "-c", "echo ready; exec sleep 60"]
                 ended.append(solver._processes.run(words, 60, self.folder, hear=lambda data: ready.set()).status)
@@ -174,14 +147,14 @@ class Parts(HelperTest):
 
     def test_without_a_solver_that_fails_the_others_go_on(self):
         plan, warnings = Plan.of(SCENARIO, HISTORY, WEEKS[:1]), []
-        solver = LinearSolvers(["cbc"], Processes(), self.folder, warnings.append)
+        solver = LinearSolver(Processes(), self.folder, warnings.append)
         search = RowSearch(
             Pricing(plan, Crews(plan), lambda: None), solver, Clock(60), lambda rows, finder: search.value_of(rows), lambda: None
         )
         search.begin(matched_rows(plan, search.pricing.crews, lambda: None), None)
         parts, failed = RowParts(search, [solver, solver.beside(1)]), threading.Event()
 
-        def improve(part, used, clock):
+        def improve(part, used, clock, roster):
             if used is solver:
                 failed.set()
                 raise SolverFault("cbc wrote an empty answer")
@@ -195,7 +168,7 @@ class Parts(HelperTest):
             parts.run(search.clock)
         self.assertEqual(warnings, ["cbc wrote an empty answer: the search goes on with 1 of 2 threads"])
 
-        def fails(part, used, clock):
+        def fails(part, used, clock, roster):
             raise SolverFault("cbc wrote an empty answer")
 
         search.bound, search.penalty = None, 10_000
@@ -204,7 +177,7 @@ class Parts(HelperTest):
 
     def test_parts_that_the_time_does_not_end_get_smaller(self):
         plan = Plan.of(SCENARIO, HISTORY, WEEKS[:1])
-        solver = LinearSolvers(["cbc"], Processes(), self.folder, self.fail)
+        solver = LinearSolver(Processes(), self.folder, self.fail)
         for ended, grows in ((True, True), (False, False)):
             search = RowSearch(
                 Pricing(plan, Crews(plan), lambda: None), solver, Clock(60), lambda rows, finder: search.value_of(rows), lambda: None

@@ -1,5 +1,6 @@
 """Tests of the search over rows: proofs of the example weeks, weeks that no roster meets, and solvers that fail or lie."""
 
+import math
 import os
 import shutil
 import sys
@@ -12,8 +13,9 @@ from ward import HAS_CBC, ROOT, HelperTest, files, records
 
 from inrc2pb.rows import row_generation, row_program
 from inrc2pb.programs.clock import Clock, TimeIsOver
-from inrc2pb.solvers.answers import Chosen, SolverFault
-from inrc2pb.solvers.linear_solvers import LinearSolver, LinearSolvers
+from inrc2pb.solvers.answers import MAX_FAULTS, Chosen, SolverFault
+from inrc2pb.solvers.linear_solvers import LinearSolver
+from inrc2pb.solvers.resident_program import Column, LinearProgram
 from inrc2pb.rows.first_rows import Descent, matched_rows
 from inrc2pb.rows.plan import Plan
 from inrc2pb.rows.pricing import Crews, Pricing
@@ -23,6 +25,7 @@ from inrc2pb.rows.row_search import RowSearch
 from inrc2pb.judging.rules import costs, first_broken
 from inrc2pb.rows.skills import staffed
 
+CBC = shutil.which("cbc")
 FAKE = Path(__file__).resolve().parents[1] / "fake_cbc.py"
 # The penalties that other solvers proved: docs/solvers.md.
 OPTIMA = {"n005w4": 320, "last12": 435, "thirty": 605}
@@ -37,7 +40,7 @@ def week_of(name):
 class Says(LinearSolver):
     """A solver with one answer to each integer program."""
 
-    name, chooses = "says", True
+    name, chooses, _child = "says", True, None
 
     def __init__(self, names, proved):
         self.answer = Chosen(names, proved)
@@ -47,11 +50,11 @@ class Says(LinearSolver):
 
 
 class RowSearches(HelperTest):
-    def run_rows(self, week, names=("cbc",), seconds=300.0, held=(), early=False):
+    def run_rows(self, week, has_solver=True, seconds=300.0, held=(), early=False):
         """A search over the rows of a week. `rules` judge each roster."""
         self.plan = Plan.of(week.scenario, week.history, [week.data], early, held)
         self.warnings, self.penalties = [], []
-        solver = LinearSolvers(list(names), Processes(), self.folder, self.warnings.append) if names else None
+        solver = LinearSolver(Processes(), self.folder, self.warnings.append) if has_solver else None
 
         def offer(rows, _finder):
             roster = staffed(self.plan, run.crews, rows).cells
@@ -78,7 +81,7 @@ class RowSearches(HelperTest):
     def test_weeks_whose_first_rows_are_no_roster(self):
         week = week_of("n005w4")
         plan = Plan.of(week.scenario, week.history, [week.data, week.data])
-        solver, found = LinearSolvers(["cbc"], Processes(), self.folder, self.fail), []
+        solver, found = LinearSolver(Processes(), self.folder, self.fail), []
 
         def offer(rows, _finder):
             if staffed(plan, run.crews, rows).below:
@@ -97,11 +100,6 @@ class RowSearches(HelperTest):
         with mock.patch.multiple(row_generation, KEPT=2, MOST_USED=3, LEAST_USED=0):
             search = self.run_rows(week_of("thirty")).search
         self.assertEqual((search.penalty, search.lower_bound), (605, 605))
-
-    @unittest.skipUnless(shutil.which("glpsol"), "needs glpsol")
-    def test_glpsol_proves_too(self):
-        search = self.run_rows(week_of("last12"), ["glpsol"]).search
-        self.assertEqual((search.penalty, search.is_proved), (435, True))
 
     @unittest.skipUnless(HAS_CBC, "needs cbc")
     def test_held_rows_and_early_charges(self):
@@ -127,7 +125,7 @@ class RowSearches(HelperTest):
         self.assertEqual((run.without_row, run.search.penalty), ("Grace", None))
 
     def test_without_a_solver_there_is_a_first_roster(self):
-        search = self.run_rows(week_of("thirty"), ()).search
+        search = self.run_rows(week_of("thirty"), False).search
         self.assertEqual((search.penalty, search.lower_bound), (min(self.penalties), None))
         self.assertLess(search.penalty, 2000)
 
@@ -138,47 +136,46 @@ class RowSearches(HelperTest):
             self.assertLess(time.monotonic() - began, 60)
 
     @unittest.skipUnless(HAS_CBC, "needs cbc")
-    def test_solvers_that_fail_or_lie(self):
-        week, cbc = week_of("last12"), shutil.which("cbc")
-        rows = {
-            "crash": "cbc wrote no answer and ended with status -11",
-            "empty": "cbc wrote an empty answer",
-            "cut": "the answer of cbc is cut",
-            "nan": "cbc wrote 'nan' for a number",
-            "unknown": "the answer has an unknown column v999999",
-            "hang": None, "wrong": None, "takes_none": None, "denies": None,
-        }  # fmt: skip
-        for how, fault in rows.items():
-            with self.subTest(how):
-                self.script("cbc", f'exec {sys.executable} {FAKE} {how} {cbc} "$@"\n')
-                with mock.patch.dict(os.environ, PATH=f"{self.folder}:{os.environ['PATH']}"):
-                    search = self.run_rows(week, seconds=120.0 if fault else 4.0).search
+    def test_a_cbc_that_fails_or_lies(self):
+        for how in ("crash", "hang", "nan", "unknown", "takes_none", "denies"):
+            with self.subTest(how), self.fake(how), mock.patch.object(RowSearch, "dive", lambda *_: None):
+                search = self.run_rows(week_of("last12"), seconds=4.0).search
                 self.assertGreaterEqual(min(self.penalties), 435)
                 self.assertLessEqual(search.lower_bound or 0, 435)
-                self.assertEqual(len(self.warnings), int(fault is not None), self.warnings)
-                if fault:
-                    self.assertIn(fault, self.warnings[0])
 
     @unittest.skipUnless(HAS_CBC, "needs cbc")
-    def test_a_program_begins_at_the_solution_of_the_last_one(self):
-        search = self.run_rows(week_of("last12")).search
-        solver, models = LinearSolvers(["cbc"], Processes(), self.folder, self.fail), []
-        used = range(len(search.program.columns))
-        for count in (len(used) - 10, len(used)):
-            models.append(search.program.text(used[:count]))
-        values = [solver.relax(model, Clock(60)).value for model in models]
-        self.assertEqual(solver.relax(models[0], Clock(60), True).value, values[0])
-        self.assertEqual(solver.relax(models[1], Clock(60), True).value, values[1])
-        basis = self.folder / "rows.bas"
-        for text in (basis.read_text()[:200], basis.read_text().replace(" v1", " x1"), "", "nonsense\n"):
-            basis.write_text(text)
-            self.assertEqual(solver.relax(models[1], Clock(60), True).value, values[1])
+    def test_after_some_faults_cbc_is_not_asked_any_more(self):
+        faults = {
+            "crash": "cbc wrote no answer and ended with status -11",
+            "empty": "cbc wrote an empty answer",
+            "cut": "the answer of cbc is cut: 0 c0 1",
+            "nan": "cbc wrote 'nan' for a number",
+        }
+        program = LinearProgram(None)
+        program.add_rows([(1.0, math.inf)])
+        program.add_columns([Column(2.0, 0.0, 1.0, [(0, 1.0)]), Column(1.0, 0.0, 1.0, [(0, 1.0)])])
+        model = program.text(["v0", "v1"], "v")
+        for how, fault in faults.items():
+            warnings = []
+            with self.subTest(how), self.fake(how):
+                solver = LinearSolver(Processes(), self.folder, warnings.append)
+                for _ in range(MAX_FAULTS):
+                    self.assertTrue(solver.chooses)
+                    self.assertEqual(solver.choose(model, Clock(60), None, 1), Chosen(None, False))
+                self.assertFalse(solver.chooses)
+                self.assertEqual(warnings, [f"{fault}: the search goes on without integer programs"])
+        self.assertEqual(LinearSolver(Processes(), self.folder, self.fail).choose(model, Clock(60), None, 1), Chosen(["v1"], True))
+
+    def fake(self, how):
+        """A cbc that behaves so."""
+        self.script("cbc", f'exec {sys.executable} {FAKE} {how} {CBC} "$@"\n')
+        return mock.patch.dict(os.environ, PATH=f"{self.folder}:{os.environ['PATH']}")
 
     @unittest.skipUnless(HAS_CBC, "needs cbc")
     def test_fixing_that_its_time_ends(self):
         week = week_of("thirty")
         plan = Plan.of(week.scenario, week.history, [week.data])
-        solver = LinearSolvers(["cbc"], Processes(), self.folder, self.fail, resident=True)
+        solver = LinearSolver(Processes(), self.folder, self.fail)
         self.addCleanup(solver.close)
         pricing = Pricing(plan, Crews(plan), lambda: None)
         search = RowSearch(pricing, solver, Clock(60), lambda rows, finder: search.value_of(rows), lambda: None)
@@ -216,14 +213,6 @@ class RowSearches(HelperTest):
     def test_a_program_with_some_places_of_each_row_claims_nothing(self):
         with mock.patch.object(row_program, "MOST_LINKS", -1):
             self.assertEqual(self.chosen(None, True), False)
-
-    @unittest.skipUnless(HAS_CBC and shutil.which("glpsol"), "needs cbc and glpsol")
-    def test_another_solver_goes_on(self):
-        self.script("cbc", "exit 3\n")
-        with mock.patch.dict(os.environ, PATH=f"{self.folder}:{os.environ['PATH']}"):
-            search = self.run_rows(week_of("last12"), ["cbc", "glpsol"]).search
-        self.assertTrue(search.is_proved)
-        self.assertEqual(self.warnings, ["cbc wrote no answer and ended with status 3: the search goes on with glpsol"])
 
 
 if __name__ == "__main__":

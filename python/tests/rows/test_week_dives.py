@@ -1,6 +1,7 @@
 """Tests of dives that fix the weeks of nurses."""
 
 import itertools
+import pickle
 import random
 import unittest
 from unittest import mock
@@ -11,7 +12,9 @@ from ward import HAS_CBC
 from inrc2pb.programs.clock import Clock, TimeIsOver
 from inrc2pb.rows.first_rows import matched_rows
 from inrc2pb.rows.plan import POINT
+from inrc2pb.rows.part_search import Dive, PartSearch
 from inrc2pb.rows.row_parts import RowParts
+from inrc2pb.rows.row_program import RowProgram
 from inrc2pb.rows.week_dives import WeekDives
 
 
@@ -49,6 +52,40 @@ class Dives(DiveTest):
             self.assertLess(search.value_of(rows), lower + 100)
         one, other = (self.generated().dive_by_weeks(Clock(LONG), 0.2, random.Random(5)) for _ in range(2))
         self.assertEqual(one, other)
+
+    def test_shut_columns_leave_the_program_of_a_dive(self):
+        search, solved = self.generated(), []
+        whole, before = search.program, len(search.program.columns)
+        solve = RowProgram.solve
+
+        def watched(program, clock):
+            solved.append((program, len(program.columns), program.is_mostly_shut))
+            return solve(program, clock)
+
+        with mock.patch.object(RowProgram, "solve", watched):
+            rows = search.dive_by_weeks(search.clock, 0.3)
+        self.assertIsNotNone(rows)
+        # After the first weeks are fixed few of the columns are left, and no program that is solved has many that are shut.
+        self.assertIs(solved[0][0], whole)
+        self.assertLess(solved[1][1], before / 2)
+        self.assertFalse(any(is_shut for _, _, is_shut in solved[1:]))
+        # The rows that the dive found are in the whole program.
+        self.assertIs(search.program, whole)
+        self.assertGreater(len(whole.columns), before)
+        self.assertEqual(whole.used, list(range(len(whole.columns))))
+        for nurse, row in enumerate(rows):
+            self.assertFalse(whole.add(nurse, row, search.pricing.cost(nurse, row), [])[1])
+
+    def test_a_dive_of_another_process_begins_at_the_solution_of_the_whole_program(self):
+        search, offered = self.generated(), []
+        known = pickle.loads(pickle.dumps(search.known()._replace(program=search.program)))
+        parts = PartSearch(search.pricing, known, self.solver.beside(1))
+        found = parts._program.solve(search.clock)
+        self.assertAlmostEqual(found.value, search.solved.value, 6)
+        self.assertEqual(parts._program.iterations - known.program.iterations, 0)
+        done = parts.dive(search.clock, lambda rows, _finder: offered.append(rows) or True, Dive(0.3, None, None))
+        self.assertTrue(done.ended and done.work)
+        self.assertLess(search.value_of(offered[-1]), search.lower_bound + 100)
 
     def test_a_dive_that_cannot_be_better_has_no_rows(self):
         search = self.generated()

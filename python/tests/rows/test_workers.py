@@ -16,7 +16,7 @@ from inrc2pb.programs.processes import Processes
 from inrc2pb.rows import workers
 from inrc2pb.rows.part_search import Dive, Done, Part, PartSearch
 from inrc2pb.rows.workers import PartWorker
-from inrc2pb.solvers.linear_solvers import LinearSolvers
+from inrc2pb.solvers.linear_solvers import LinearSolver
 
 PART = Part(tuple(range(0, 30, 3)), range(2, 6))
 
@@ -26,9 +26,10 @@ class Workers(HelperTest):
     def setUp(self):
         super().setUp()
         self.search, self.found, self.processes = search_of(1), [], Processes()
-        self.solver = LinearSolvers(["cbc"], self.processes, self.folder, self.fail, resident=True)
-        self.own = PartSearch(self.search.pricing, self.search.known(), self.solver)
-        [self.worker] = workers.workers(self.search.known(), [self.solver])
+        self.solver = LinearSolver(self.processes, self.folder, self.fail)
+        known = self.search.known()._replace(program=self.search.program)
+        self.own = PartSearch(self.search.pricing, known, self.solver)
+        [self.worker] = workers.workers(known, [self.solver])
         self.parts = PartWorker(self.worker, self.own)
         self.addCleanup(self.solver.close)
         self.addCleanup(self.worker.end)

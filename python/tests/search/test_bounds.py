@@ -18,7 +18,6 @@ from inrc2pb.programs.program import WeekFiles
 from inrc2pb.rows.certificate import Certificate, Leaf, Split
 from inrc2pb.rows.plan import FREE, ONLY_ABSENCES, STRICT, Plan
 from inrc2pb.rows.pricing import Crews, Pricing, plain_bound
-from inrc2pb.rows.row_arrays import numpy
 from inrc2pb.search import bounds
 from inrc2pb.search.bounds import PLAIN, PROVER, Bound, Bounds, week_options
 from inrc2pb.search.period_search import BEYOND
@@ -115,6 +114,13 @@ class Proofs(FakeProver):
         self.assertEqual(given["texts"], {"--proof": run.certificate().text("ward")})
         self.assertEqual(self.target.read_text(), run.certificate().text("ward"))
 
+    def test_a_temporary_folder_that_is_gone_costs_no_bound(self):
+        run, found = self.certified(self.free), self.bounds("50")
+        gone = FileNotFoundError(2, "No usable temporary directory found")
+        with mock.patch.object(bounds.tempfile, "TemporaryDirectory", side_effect=gone):
+            self.assertEqual(found.of(run, STRICT, 60.0), Bound(run.lower_bound, PLAIN))
+        self.assertEqual(self.warnings, [FAILED + str(gone)])
+
     def test_the_program_gets_the_facts_that_the_best_roster_keeps(self):
         run = self.certified(self.away)
         facts = facts_text("ward", [Claim(Choice(1, "Chen", 1, None))])
@@ -129,10 +135,7 @@ class Proofs(FakeProver):
             self.assertLessEqual(free, run.lower_bound)
             self.assertEqual(self.bounds(None).of(run, FREE, 60.0), Bound(free, PLAIN))
             self.assertEqual(self.bounds(None).of(run, STRICT, 60.0), Bound(run.lower_bound, PLAIN, "absences"))
-            with mock.patch.object(bounds, "numpy", None):
-                self.assertEqual(self.bounds(None).of(run, FREE, 60.0), Bound(free, PLAIN))
 
-    @unittest.skipUnless(numpy is not None, "needs NumPy")
     def test_cases_without_a_program(self):
         run = self.certified(self.away)
         leaf = Leaf(run.search.prices)
@@ -186,7 +189,6 @@ class Commands(FakeProver):
         self.assertEqual(status, 0, said)
         return report, said
 
-    @unittest.skipUnless(numpy is not None, "needs NumPy")
     def test_a_week_is_proved_by_cases(self):
         report, said = self.improve("130/135")
         self.assertTrue(report.endswith(f"lower bound 135 ({PROVER})\nno roster costs less, proved\n"), (report, said))

@@ -75,9 +75,7 @@ class Searches(HelperTest):
         self.assertEqual(status, 0)
         self.assertTrue(report.endswith("no lower bound\n"))
         self.assertEqual(
-            said.count(
-                "there is no cbc, clp or glpsol, so this is only a first roster: install one (Debian: apt-get install coinor-cbc)\n"
-            ),
+            said.count("there is no cbc, so this is only a first roster: install it (Debian: apt-get install coinor-cbc)\n"),
             1,
         )
         self.assertIn(f"penalty {program.penalty_of(WEEK_FILES, self.target)}\n", report)
@@ -130,7 +128,7 @@ class Lines(unittest.TestCase):
             (15, Bound(15, PROVER), ["a row"], ["", "no roster costs less, but this one breaks an absence"]),
             (15, Bound(15, PROVER, "limits"), [], [" with all limits", "no roster that keeps all limits costs less, proved"]),
         ):  # fmt: skip
-            found = SimpleNamespace(bound=bound, claimed_by="cbc")
+            found = SimpleNamespace(bound=bound, claimed_by="cbc", verdict="")
             best = SimpleNamespace(breaks=lambda broken=broken: broken, exceeds=list, proved=True)
             result = SearchResult(SimpleNamespace(penalty=penalty), found, best, False, None)
             self.assertEqual(result.lines(), [f"lower bound 15{lines[0]} ({bound.by})", lines[1]])

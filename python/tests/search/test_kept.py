@@ -3,11 +3,9 @@
 import itertools
 import unittest
 from dataclasses import replace
-
 from ward import HAS_CBC, HISTORY, ROSTER, SCENARIO, WEEK, WEEK_OPTIONS, HelperTest, files, run
 
-from inrc2pb.judging.given import read_given, with_given
-from inrc2pb.judging.limits import exceeded, excess, limits_in_words, limits_way_out
+from inrc2pb.judging.limits import exceeded, excess, limits_in_words, limits_way_out, read_given, with_given
 from inrc2pb.rows.plan import ABSENCES_KEPT, FEW_BROKEN, FREE, STRICT, Plan
 from inrc2pb.rows.pricing import Crews, Pricing
 from inrc2pb.week.facts import Charged, Choice, Claim, facts_text

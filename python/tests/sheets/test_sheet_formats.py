@@ -4,23 +4,23 @@ import copy
 import csv
 import datetime
 import io
+import re
 import unittest
 import zipfile
+from example_sheets import DATA, SHEETS, changed, texts
 from pathlib import Path
+from ward import HelperTest
 from xml.sax.saxutils import escape
 
-from example_sheets import DATA, SHEETS, changed, texts
-from ward import HelperTest
-
 from inrc2pb.commands import ward
-from inrc2pb.week.faults import FileFault
 from inrc2pb.sheets.plan_sheets import read_days
-from inrc2pb.week.records import DAYS
+from inrc2pb.sheets.sheet_facts import look_warnings
 from inrc2pb.sheets.sheet_files import Book, read_book
-from inrc2pb.sheets.sheet_looks import look_warnings
 from inrc2pb.sheets.sheet_parts import Grid
 from inrc2pb.sheets.sheet_rows import letters_of
 from inrc2pb.sheets.ward_template import write_template
+from inrc2pb.week.faults import FileFault
+from inrc2pb.week.records import DAYS
 
 MONDAY = datetime.date(2026, 11, 30)
 
@@ -140,6 +140,7 @@ class Formats(HelperTest):
         self.assertIn("Amära_Koch Full 2 Charge Nurse\n", texts(sheets)["ward.txt"])
 
     def test_files_that_are_no_spreadsheets(self):
+        many = "the spreadsheet has more than 2000000 elements of XML: delete what is no part of the ward"
         good = (DATA / "libreoffice.ods").read_bytes()
         with zipfile.ZipFile(DATA / "libreoffice.ods") as archive:
             begin = archive.getinfo("content.xml").header_offset + 60
@@ -180,6 +181,10 @@ class Formats(HelperTest):
                 {"content.xml": "<x>" + " " * 33_554_432 + "</x>"},
                 "the spreadsheet has more than 33554432 bytes of XML: delete what is no part of the ward",
             ),
+            # A small file that needs all memory: many empty elements, with attributes or without, and many attributes of one.
+            ("elements.ods", {"content.xml": f"<x>{'<a/>' * 2_000_001}</x>"}, many),
+            ("named.ods", {"content.xml": "<x>" + '<a b="" c="" d=""/>' * 500_001 + "</x>"}, many),
+            ("attributes.ods", {"content.xml": "<x " + " ".join(f'a{number}=""' for number in range(150_000)) + "/>"}, many),
         ):
             path = self.folder / name
             if isinstance(data, bytes):
@@ -248,6 +253,24 @@ class Formats(HelperTest):
             "sheet plan, row 7, column Z: 'training' is struck through, and counts: delete it",
             "sheet plan, row 8, column B: a color without a word counts for nothing: write leave or wish, for example",
         ])  # fmt: skip
+
+    def test_struck_cells_are_named_from_top_to_bottom(self):
+        path = self.folder / "ward.ods"
+        write_template(path)
+        sheets = read_book(path)
+        marks = sheets.marks["plan"]._replace(struck={(row, 0) for row in range(len(sheets.sheets["plan"]))})
+        lines = list(look_warnings(sheets._replace(marks={"plan": marks}), read_days(sheets)))
+        rows = [int(re.search("row ([0-9]+)", line)[1]) for line in lines]
+        self.assertEqual(rows, sorted(rows))
+        self.assertEqual(len(rows), len(sheets.sheets["plan"]))
+
+    def test_a_hidden_row_of_an_ods_file(self):
+        path = self.folder / "ward.ods"
+        write_template(path)
+        row = '<table:table-row><table:table-cell office:value-type="string"><text:p>Full</text:p>'
+        content = [(row, row.replace("<table:table-row>", '<table:table-row table:visibility="collapse">'))]
+        self.assertEqual(read_book(path).hidden["contracts"], [])
+        self.assertEqual(read_book(self.in_parts(path, content=content)).hidden["contracts"], [2])
 
     def test_odd_files_of_each_kind(self):
         paths = sorted(path for path in (DATA / "odd").iterdir() if path.suffix != ".csv")

@@ -6,20 +6,19 @@ import io
 import os
 import re
 import unittest
-from pathlib import Path
-
 from example_sheets import DATA, SHEETS, changed, made, texts
+from pathlib import Path
 from ward import HelperTest, files, run
 
 from inrc2pb.commands import ward
 from inrc2pb.judging.absences import absences_of
-from inrc2pb.judging.given import with_given
+from inrc2pb.judging.limits import with_given
 from inrc2pb.judging.rules import charges
+from inrc2pb.sheets.plan_sheets import AWAY, read_days
+from inrc2pb.sheets.sheet_files import Book, read_book
 from inrc2pb.week.facts import Charged, Claim, read_facts
 from inrc2pb.week.faults import FileFault, FileFaults
-from inrc2pb.sheets.plan_sheets import AWAY, read_days
 from inrc2pb.week.records import Absence, Place, Requirement, Week
-from inrc2pb.sheets.sheet_files import Book, read_book
 
 NAMES = ["ward.txt", "history-0.txt", "facts.txt", "reasons.txt", "week-0.txt", "fix-0.txt", "week-1.txt", "fix-1.txt"]
 
@@ -227,7 +226,7 @@ class Contents(unittest.TestCase):
                 2,
                 1,
                 "Xyz",
-                "row 2, column B: 'Xyz' is no shift type: write one of Day, Late, Night, wish, away, ill, leave, unpaid, training, no Day",
+                "row 2, column B: 'Xyz' is no shift type: write one of Day, Late, Night, wish, off, away, ill, leave, unpaid, training, no Day",
             ),
             ("plan", 2, 1, "Day", "row 2, column B: Amara Koch has more than one skill for it: write Day/Charge, for example"),
             ("plan", 4, 1, "Day/Charge", "row 4, column B: 'Charge' is no skill of Chen: write one of Nurse"),
@@ -522,11 +521,11 @@ class Command(HelperTest):
         self.assertEqual((status, said), (0, ""))
         names = [*NAMES, "week-2.txt", "fix-2.txt", "week-3.txt", "fix-3.txt"]
         self.assertRegex(
-            printed.splitlines()[0], "the best numbers ask for 132 shifts, .* and the contracts supply at most 131 beside absences"
+            printed.splitlines()[0], "the best numbers ask for 132 shifts, .* and the contracts supply at most 130 beside absences"
         )
         self.assertEqual(
             printed.split("\n", 1)[1],
-            f"{out}: {', '.join(names)}\nChen: 3 days away count as 2 shifts in history-0.txt\nFinn: 1 day away counts as 1 shift in history-0.txt\n",
+            f"{out}: {', '.join(names)}\nChen: 3 days away count as 3 shifts in history-0.txt\nFinn: 1 day away counts as 1 shift in history-0.txt\n",
         )
         words = ("--sce", out / "ward.txt", "--his", out / "history-0.txt", "--week", out / "week-0.txt", "--fix", out / "fix-0.txt")
         status, printed, _ = run("roster", "check", *words)

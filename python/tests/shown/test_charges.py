@@ -5,8 +5,8 @@ import sys
 import unittest
 from collections import Counter
 from dataclasses import replace
-
 from ward import (
+    EARLY_ANSWER,
     HISTORY,
     ROOT,
     ROSTER,
@@ -16,7 +16,6 @@ from ward import (
     WEEK,
     WEEK_FILES,
     WEEK_OPTIONS,
-    EARLY_ANSWER,
     HelperTest,
     program,
     records,
@@ -25,7 +24,8 @@ from ward import (
 
 from inrc2pb.judging import rules
 from inrc2pb.judging.breaches import breaches
-from inrc2pb.shown.charge_words import in_words
+from inrc2pb.shown.why import in_words
+from inrc2pb.week.soft_rules import SOFT_RULES
 
 sys.path.insert(0, str(ROOT / "tests" / "random"))
 import drafts  # noqa: E402
@@ -38,7 +38,7 @@ LINE = re.compile(r" *([0-9]+)  (S[1-7])  (.+)")
 
 def sums(printed):
     """The costs of the lines by rule."""
-    found = dict.fromkeys(rules.SOFT_RULES, 0)
+    found = dict.fromkeys(SOFT_RULES, 0)
     for line in printed.splitlines():
         match = LINE.fullmatch(line)
         if match:

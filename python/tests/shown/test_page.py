@@ -126,6 +126,9 @@ class Page(PageTest):
         rows = self.caption(page, "Nurses at each place")
         self.assertEqual((rows[1][1], rows[2][1]), (
             "0 \u22121!1 too few, below the minimum 1\u20131minimum 1, best 1", "3 +11 too many 1\u20132minimum 1, best 2"))  # fmt: skip
+        # The two have colors of their own, and no other cell has one.
+        colored = [(name, words(cell)[:3]) for cell in page.iter("td") for name in cell.get("class", "").split() if name in ("few", "more")]
+        self.assertEqual(colored, [("few", "0 \u2212"), ("more", "3 +")])
         self.assertIn("the roster breaks H2: Mon Day Charge has 0 nurses and needs at least 1", [words(part) for part in page.iter("p")])
         self.assertEqual(list(page.iter("details")), [])
         # A page without costs does not explain the names of rules.

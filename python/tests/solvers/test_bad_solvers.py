@@ -13,7 +13,7 @@ from unittest import mock
 from ward import HAS_CBC, ROOT, ROSTER, WEEK_FILES, WEEK_OPTIONS, HelperTest, program, run
 
 from inrc2pb.week.faults import Misuse
-from inrc2pb.programs.processes import Processes
+from inrc2pb.programs.processes import Ended, Processes
 from inrc2pb.solvers.solvers import Outcome, find_solver
 
 FAKE = Path(__file__).resolve().parents[1] / "fake_solver.py"
@@ -57,18 +57,23 @@ class OwnSolvers(HelperTest):
         status, report, _ = self.improve("--solver", f"sh -c 'cat {proud}'", "--roster", ROSTER)
         self.assertEqual(status, 0)
         self.assertIn("penalty 20\n", report)
-        self.assertTrue(report.endswith("no lower bound\n"), report)
+        wrong = f"the solver sh is wrong: it claims that no roster costs less than 110, and {self.folder / 'best.txt'} costs 20"
+        self.assertTrue(report.endswith(f"no lower bound\n{wrong}\n"), report)
 
-    def test_a_claim_that_no_roster_exists(self):
-        status, report, faults = self.improve("--solver", fake("liar"))
+    def test_a_claim_that_no_roster_exists_and_no_proof(self):
+        # Without inrc2pb-bound beside it nothing is proved.
+        alone, eight = self.folder / "inrc2pb", ROOT / "examples" / "eight"
+        alone.symlink_to(program.find_program())
+        words = ("--sce", eight / "ward.txt", "--his", eight / "history-1.txt", "--week", eight / "week-1.txt", "--solver", fake("liar"))
+        status, report, faults = run("solve", *words, "--out", self.folder / "best.txt", environment={"INRC2PB": str(alone)})
         self.assertEqual((status, report), (5, ""))
-        self.assertRegex(faults, "no roster keeps the hard rules, says [^ ]*python")
+        self.assertRegex(faults, "no roster keeps the hard rules, says [^ ]*python[^ ]*, which is not proved: ")
 
     @unittest.skipUnless(HAS_CBC, "needs cbc")
     def test_places_for_an_lp_a_result_file_and_the_seconds(self):
         status, report, _ = self.improve("--solver", "cbc {lp} sec {seconds} solve solution {sol}")
         self.assertEqual(status, 0)
-        self.assertTrue(report.endswith("lower bound 20 (cbc)\nno roster costs less, says cbc\n"), report)
+        self.assertRegex(report, "\nlower bound 20 \\(.*\\)\nno roster costs less")
 
     def test_after_a_fault_the_roster_is_reported(self):
         # The solver removes the folder of the search, so that its answer cannot be kept.
@@ -99,6 +104,15 @@ class OwnSolvers(HelperTest):
                 self.assertRegex(faults.splitlines()[-1], says)
                 self.assertLess(time.monotonic() - began, 60)
                 self.assertFalse((self.folder / "best.txt").exists())
+
+    def test_a_flood_is_judged_at_once(self):
+        flood = b"no answer \xff\n" * (1 << 24)
+        began = time.process_time()
+        outcome = find_solver("true")._outcome(Ended(-15, flood, True), None)
+        self.assertEqual(outcome, Outcome("s UNKNOWN\n"))
+        self.assertLess(time.process_time() - began, 2)
+        for text, has in ((b"s UNKNOWN", True), (b"c x\ns UNKNOWN\n", True), (b"solved\n", False), (b"o 3\ns", True), (b"c s \n", False)):
+            self.assertEqual(bool(find_solver("true")._outcome(Ended(0, text, True), None).answer == text.decode()), has, text)
 
     def test_a_flood_is_a_fault(self):
         with mock.patch("inrc2pb.programs.processes.MAX_OUTPUT", 100_000):

@@ -2,6 +2,7 @@
 
 import io
 import os
+import resource
 import shutil
 import subprocess
 import sys
@@ -9,6 +10,7 @@ import tempfile
 import time
 import unittest
 from pathlib import Path
+from unittest import mock
 
 from ward import HELPERS, HelperTest, run
 
@@ -54,6 +56,11 @@ def answer_of(text, ended=None):
     target = io.StringIO()
     read_answer(io.StringIO(text), ended).write(target)
     return target.getvalue()
+
+
+def _limit_memory():
+    """A command that takes 2 GB ends with a fault."""
+    resource.setrlimit(resource.RLIMIT_AS, (2 << 30, 2 << 30))
 
 
 def lp_of(text):
@@ -191,6 +198,27 @@ class Solutions(unittest.TestCase):
         self.assertEqual(answer_of(""), "s UNKNOWN\n")
         self.assertEqual(answer_of("", "infeasible"), "s UNSATISFIABLE\n")
 
+    def test_toulbar2_has_to_print_names(self):
+        text = (SOLUTIONS / "toulbar2-optimal.sol").read_text().replace("x1=v1 x2=v0 x3=v1", "1 0 1")
+        with self.assertRaisesRegex(SolutionFault, "^toulbar2 printed no names of variables: give it the option -s=3$"):
+            answer_of(text)
+
+    def test_the_last_solution_of_toulbar2_counts(self):
+        text = (SOLUTIONS / "toulbar2-stopped.sol").read_text()
+        worse = "New solution: 25 (0 backtracks, 0 nodes, depth 2)\n x1=v0 x2=v1 x3=v1\n"
+        self.assertEqual(answer_of(text.replace("New solution", f"{worse}New solution")), f"s SATISFIABLE\n{BEST}")
+
+    def test_an_endless_line_ends_at_a_limit(self):
+        for text in ("Optimal - objective value 15" + "0" * 100, "x1 1\n" * 300):
+            with mock.patch.multiple("inrc2pb.solvers.mip_solution", MAX_BYTES=1000, MAX_LINE=100):
+                with self.assertRaisesRegex(SolutionFault, "this is no answer"):
+                    answer_of(text)
+        ran = subprocess.run(
+            [str(COMMAND), "--answer", "/dev/zero"], stdout=subprocess.PIPE, stderr=subprocess.PIPE, preexec_fn=_limit_memory
+        )
+        self.assertEqual((ran.returncode, ran.stdout), (1, b""), ran.stderr)
+        self.assertIn(b"this is no answer", ran.stderr)
+
     def test_a_gap_is_no_proof(self):
         text = "Optimal (within gap tolerance) - objective value 15.00000000\n 0 x1 1 10\n"
         self.assertEqual(answer_of(text), "s SATISFIABLE\no 15\nv x1\n")
@@ -251,6 +279,17 @@ class InstalledSolvers(unittest.TestCase):
                 words = [word.format(lp=lp, sol=sol) for word in command]
                 subprocess.run(words, stdout=subprocess.DEVNULL, check=True, timeout=600)
                 self.assertEqual(answer_of(sol.read_text()), f"s OPTIMUM FOUND\n{BEST}")
+
+    def test_solvers_that_print_their_solution(self):
+        for name, command in {"symphony": ["symphony", "-L", "{lp}"], "toulbar2": ["toulbar2", "{opb}", "-s=3"]}.items():
+            if not shutil.which(name):
+                continue
+            with self.subTest(solver=name), tempfile.TemporaryDirectory() as folder:
+                lp = Path(folder, "model.lp")
+                convert(SOLUTIONS / "model.opb", lp)
+                words = [word.format(lp=lp, opb=SOLUTIONS / "model.opb") for word in command]
+                ran = subprocess.run(words, stdout=subprocess.PIPE, stderr=subprocess.DEVNULL, text=True, timeout=600)
+                self.assertEqual(answer_of(ran.stdout), f"s OPTIMUM FOUND\n{BEST}")
 
 
 class Command(unittest.TestCase):

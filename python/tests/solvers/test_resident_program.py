@@ -1,10 +1,11 @@
-"""Tests of linear programs that stay in a solver: their solutions, by hand and by solvers that read files, and children that end."""
+"""Tests of linear programs that stay in a solver: their solutions, by hand and by cbc, and children that end."""
 
 import math
 import os
+import pickle
 import random
-import shutil
 import signal
+import subprocess
 import threading
 import time
 import unittest
@@ -16,8 +17,7 @@ from ward import HAS_CBC, HelperTest
 from inrc2pb.programs.clock import Clock, TimeIsOver
 from inrc2pb.programs.processes import Processes
 from inrc2pb.solvers import clp_child
-from inrc2pb.solvers.answers import SolverFault
-from inrc2pb.solvers.linear_solvers import LinearSolvers
+from inrc2pb.solvers.answers import MAX_FAULTS, SolverFault
 from inrc2pb.solvers.resident_program import DUAL, INFEASIBLE, OPTIMAL, PRIMAL, STOPPED, Child, Column, LinearProgram
 
 try:
@@ -28,11 +28,6 @@ except OSError:
 INF = math.inf
 
 
-def no_files(text, clock, goes_on):
-    """A solver that is not there."""
-    raise SolverFault("no solver reads files")
-
-
 class Programs(HelperTest):
     def setUp(self):
         super().setUp()
@@ -40,12 +35,12 @@ class Programs(HelperTest):
         self.child = Child(self.processes, self.folder)
         self.addCleanup(self.child.end)
 
-    def program(self, relax=no_files):
-        return LinearProgram(self.child, relax)
+    def program(self):
+        return LinearProgram(self.child)
 
-    def small(self, relax=no_files):
+    def small(self):
         """At least 3 of two columns of costs 2 and 3, of which the first has at most 2."""
-        program = self.program(relax)
+        program = self.program()
         program.add_rows([(3.0, INF)])
         program.add_columns([Column(2.0, 0.0, 2.0, [(0, 1.0)]), Column(3.0, 0.0, INF, [(0, 1.0)])])
         return program
@@ -98,16 +93,26 @@ class Solutions(Programs):
     def test_a_basis_that_is_kept(self):
         program = covering(self.program(), 40)
         first = program.solve(Clock(60))
-        program.keep_basis(1)
         program.bound_columns({number: (0.0, 0.0) for number in range(0, 40, 3)})
         program.solve(Clock(60))
         program.bound_columns({number: (0.0, INF) for number in range(0, 40, 3)})
-        program.take_basis(1)
+        program.take_basis(first.basis)
         again = program.solve(Clock(60))
         self.assertAlmostEqual(again.value, first.value, 6)
         self.assertLess(again.iterations, max(3, first.iterations))
-        program.take_basis(7)
-        self.assertAlmostEqual(program.solve(Clock(60)).value, first.value, 6)
+
+    def test_a_part_begins_at_the_basis_of_the_whole(self):
+        whole = covering(self.program(), 200)
+        first = whole.solve(Clock(60))
+        # As another process gets it.
+        copied = pickle.loads(pickle.dumps(whole)).part(range(whole.columns), self.program()).solve(Clock(60))
+        self.assertAlmostEqual(copied.value, first.value, 6)
+        self.assertEqual(copied.iterations, 0)
+        left = [number for number, value in enumerate(first.columns) if value > 1e-9 or number % 3 == 0]
+        part = whole.part(left, self.program())
+        found = part.solve(Clock(60))
+        self.assertEqual((part.columns, found.iterations), (len(left), 0))
+        self.assertEqual([round(value, 6) for value in found.columns], [round(first.columns[number], 6) for number in left])
 
     def test_a_limit_of_iterations(self):
         program = covering(self.program(), 200)
@@ -115,17 +120,16 @@ class Solutions(Programs):
         self.assertEqual(program.solve(Clock(60)).status, OPTIMAL)
 
     @unittest.skipUnless(HAS_CBC, "needs cbc")
-    def test_other_solvers_agree(self):
-        names = [name for name in ("cbc", "clp", "glpsol") if shutil.which(name)]
-        files = [LinearSolvers([name], Processes(), self.folder, lambda text: None) for name in names]
+    def test_cbc_agrees(self):
         for seed, how in ((1, DUAL), (2, PRIMAL)):
             program = covering(self.program(), 30 * seed, seed)
             found = program.solve(Clock(60), how)
-            for solver in files:
-                other = covering(solver.program(), 30 * seed, seed).solve(Clock(60))
-                self.assertAlmostEqual(found.value, other.value, 4)
-                # By duality the prices of any solver have this value, too.
-                self.assertAlmostEqual(sum(price * (1 + row % 3) for row, price in enumerate(other.prices)), found.value, 4)
+            model, answer = self.folder / "model.mps", self.folder / "answer.txt"
+            model.write_text(program.text([f"v{number}" for number in range(program.columns)], "x"))
+            subprocess.run(["cbc", str(model), "solve", "solution", str(answer)], stdout=subprocess.DEVNULL, check=True)
+            self.assertAlmostEqual(found.value, float(answer.read_text().split()[4]), 4)
+            # By duality the prices have this value, too.
+            self.assertAlmostEqual(sum(price * (1 + row % 3) for row, price in enumerate(found.prices)), found.value, 4)
 
 
 def covering(program, columns, seed=5):
@@ -147,7 +151,7 @@ class Faults(Programs):
         self.processes.end_running()
         self.child._process.wait()
         self.assertEqual(program.solve(Clock(60)).value, 10.0)
-        self.assertTrue(self.child.works)
+        self.assertEqual(self.child.broken, "")
 
     @unittest.skipUnless(HAS_CLP, "needs Clp's library")
     def test_a_child_that_hangs(self):
@@ -176,7 +180,7 @@ class Faults(Programs):
         reading, writing = os.pipe()
         parent = os.fork()
         if not parent:
-            program = LinearProgram(Child(Processes(), self.folder), no_files)
+            program = LinearProgram(Child(Processes(), self.folder))
             program.add_rows([(1.0, INF)])
             program.add_columns([Column(1.0, 0.0, INF, [(0, 1.0)])])
             program.solve(Clock(60))
@@ -197,32 +201,33 @@ class Faults(Programs):
         path.write_text(script)
         return mock.patch.object(clp_child, "__file__", str(path))
 
-    @unittest.skipUnless(HAS_CBC, "needs cbc")
     def test_without_a_child_that_works(self):
-        answer = "import os, struct\nos.read(0, 1 << 20)\nos.write(1, struct.pack('<iidii5d', {}))\nos.read(0, 1)\n"
-        nan = "float('nan')"
+        answer = (
+            "import os\nfrom multiprocessing.connection import Connection\nfrom struct import pack\n"
+            "Connection(os.dup(0), writable=False).recv()\nanswers = Connection(os.dup(1), readable=False)\n"
+            "one, two = pack('d', 1.0), pack('2d', 1.0, 1.0)\nanswers.send(({}, b'', b''))\nos.read(0, 1)\n"
+        )
         children = {
-            "no library": f"import sys\nsys.exit({clp_child.NO_LIBRARY})",
-            "crash": "import os, signal\nos.kill(os.getpid(), signal.SIGSEGV)",
-            "cut": "import os\nos.read(0, 10)\nos.write(1, b'abc')",
-            "abandoned": answer.format("4, 0, 7.0, 1, 2, *[0.0] * 5"),
-            "no numbers": answer.format(f"0, 0, 7.0, 1, 2, 1.0, {nan}, 0.0, 0.0, 0.0"),
-            "no value": answer.format(f"0, 0, {nan}, 1, 2, *[0.0] * 5"),
-            "other sizes": answer.format("0, 0, 7.0, 2, 1, *[0.0] * 5"),
+            "no library": (f"import sys\nsys.exit({clp_child.NO_LIBRARY})", "libClp.so.1 is missing: install it"),
+            "crash": ("import os, signal\nos.kill(os.getpid(), signal.SIGSEGV)", "Clp's library ended"),
+            "cut": ("import os\nos.read(0, 10)\nos.write(1, b'abc')", "Clp's library ended"),
+            "abandoned": (answer.format("4, 0, 7.0, one, two, two"), "Clp's library ended with status 4"),
+            "no numbers": (answer.format("0, 0, 7.0, one, pack('2d', 1.0, float('nan')), two"), "numbers that are none"),
+            "no value": (answer.format("0, 0, float('nan'), one, two, two"), "numbers that are none"),
+            "other sizes": (answer.format("0, 0, 7.0, two, one, one"), "Clp's library ended with status 0"),
         }
-        for how, script in children.items():
+        for how, (script, fault) in children.items():
             with self.subTest(how=how), self.child_that(script):
                 self.child = Child(self.processes, self.folder)
-                solver = LinearSolvers(["cbc"], Processes(), self.folder, lambda text: None)
-                program = self.small(solver.relax)
-                self.assertEqual(list(program.solve(Clock(60)).columns), [2.0, 1.0])
-                self.assertFalse(self.child.works)
-                program.bound_columns({1: (0.0, 0.5)})
-                self.assertEqual(program.solve(Clock(60)).status, INFEASIBLE)
+                program = self.small()
+                for _ in range(2):
+                    with self.assertRaisesRegex(SolverFault, fault):
+                        program.solve(Clock(60))
+                self.assertLessEqual(self.child.starts, MAX_FAULTS)
 
     def test_without_any_solver(self):
-        with self.child_that("import sys\nsys.exit(1)"), self.assertRaises(SolverFault):
-            self.small().solve(Clock(60))
+        with self.assertRaises(SolverFault):
+            LinearProgram(None).solve(Clock(60))
 
 
 class Texts(Programs):
@@ -230,7 +235,7 @@ class Texts(Programs):
         program = self.small()
         program.add_rows([(-INF, 5.0), (1.0, 2.0), (4.0, 4.0), (-INF, INF)])
         program.add_columns([Column(0.0, -INF, 1.5, [(2, -1.0)])])
-        words = [line.split() for line in program.text().splitlines()]
+        words = [line.split() for line in program.text(["v0", "v1", "v2"], "x").splitlines()]
         kinds = [["G", "c0"], ["L", "c1"], ["L", "c2"], ["E", "c3"], ["N", "c4"]]
         self.assertEqual(words[2:8], [["N", "obj"], *kinds])
         self.assertIn(["RNG", "c2", "1"], words)

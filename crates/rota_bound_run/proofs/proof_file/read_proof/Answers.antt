@@ -1,11 +1,6 @@
 use Rattle.rota_pb.specs.Steps.{went_on}
 use Rattle.rota_pb.proofs.Steps.{stopped_by}
-use Rattle.rota_bound_run.proofs.CertificateTrees.{tree-of}
 use Rattle.rota_bound_run.proofs.proof_file.read_proof.Goals as goal
-
-pub check_paths-requires : goal.check_paths-requires
-check_paths-requires g c =
-    tree-of c.args.scenario.now c.args.weeks c.in_ok-certificate-in-Some.certificate c.in_ok-certificate-in-Some.ensures.1
 
 pub returns-in_err-certificate-in-Some-clause-reads : goal.returns-in_err-certificate-in-Some-clause-reads
 returns-in_err-certificate-in-Some-clause-reads g c =

@@ -41,12 +41,12 @@ returns-in_err-push-in-Ok-clause-reads g c =
     let inv = c.loop-index.invariant in
     let inside : c.loop-index.index < length c.args.files.now = omega (arith, c.loop-index-test.true) in
     rw (p.1, p.2)
-    (counted g.S.Source c.args.early c.args.ward.now c.args.files.now (slice_set c.loop-index.files i c.read_week.new.files) _
+    (counted g.S.Source c.args.early c.args.ward.now c.args.files.now (slice_set c.loop-index.files i c.read_period_week.new.files) _
     (stops-at step (week_readers g.S.Source) [] c.args.files.now i c.loop-index.files c.loop-index.weeks.items inv.reads inside
-    c.index-files-index.result c.read_week.new.files c.index-files-index.is
+    c.index-files-index.result c.read_period_week.new.files c.index-files-index.is
     (reads-no-week g.S.Source c.args.early c.args.ward.now (length c.args.files.now)) _
     (lacks-memory g.S.Source c.args.early c.args.ward.now (length c.args.files.now) c.loop-index.weeks.items i inv.number
-    c.index-files-index.result c.read_week.new.files c.in-Ok.week (rw (← c.index-files-index.is) at c.in-Ok.ensures.reads))))
+    c.index-files-index.result c.read_period_week.new.files c.in-Ok.week (rw (← c.index-files-index.is) at c.in-Ok.ensures.reads))))
 
 pub returns-in-Err-clause-reads : goal.returns-in-Err-clause-reads
 returns-in-Err-clause-reads g c =
@@ -55,12 +55,12 @@ returns-in-Err-clause-reads g c =
     let inv = c.loop-index.invariant in
     let inside : c.loop-index.index < length c.args.files.now = omega (arith, c.loop-index-test.true) in
     rw c.in_week.ensures
-    (counted g.S.Source c.args.early c.args.ward.now c.args.files.now (slice_set c.loop-index.files i c.read_week.new.files) _
+    (counted g.S.Source c.args.early c.args.ward.now c.args.files.now (slice_set c.loop-index.files i c.read_period_week.new.files) _
     (stops-at step (week_readers g.S.Source) [] c.args.files.now i c.loop-index.files c.loop-index.weeks.items inv.reads inside
-    c.index-files-index.result c.read_week.new.files c.index-files-index.is
+    c.index-files-index.result c.read_period_week.new.files c.index-files-index.is
     (reads-no-week g.S.Source c.args.early c.args.ward.now (length c.args.files.now)) _
     (stops-week g.S.Source c.args.early c.args.ward.now (length c.args.files.now) c.loop-index.weeks.items i inv.number
-    c.index-files-index.result c.read_week.new.files c.in-Err.fault (rw (← c.index-files-index.is) at c.in-Err.ensures.reads))))
+    c.index-files-index.result c.read_period_week.new.files c.in-Err.fault (rw (← c.index-files-index.is) at c.in-Err.ensures.reads))))
 
 pub loop-index-preserved : goal.loop-index-preserved
 loop-index-preserved g c =
@@ -73,9 +73,9 @@ loop-index-preserved g c =
     record {
       reads =
           reads-more step (week_readers g.S.Source) [] c.args.files.now i c.loop-index.files c.loop-index.weeks.items inv.reads inside
-          c.index-files-index.result c.read_week.new.files c.index-files-index.is c.push.new.self.items
+          c.index-files-index.result c.read_period_week.new.files c.index-files-index.is c.push.new.self.items
           (reads-week g.S.Source c.args.early c.args.ward.now (length c.args.files.now) c.loop-index.weeks.items i inv.number
-          c.index-files-index.result c.read_week.new.files c.in-Ok.week c.push.new.self.items (rw (← c.index-files-index.is) at
+          c.index-files-index.result c.read_period_week.new.files c.in-Ok.week c.push.new.self.items (rw (← c.index-files-index.is) at
           c.in-Ok.ensures.reads) pushed);
       weeks =
           rw pushed (weeks-more c.args.early c.args.ward.now 0 c.loop-index.weeks.items c.in-Ok.week inv.weeks

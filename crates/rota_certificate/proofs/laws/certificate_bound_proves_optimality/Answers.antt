@@ -5,6 +5,6 @@ use Rattle.rota_certificate.proofs.PeriodProofs.{are-optimal}
 use Rattle.rota_certificate.proofs.laws.certificate_bound_proves_optimality.Goals as goal
 
 pub returns : goal.returns
-returns c = λ first later given certificate tree evidence is_tree.
-    are-optimal (first ∷ later) given (lower_bound (first ∷ later) given certificate tree)
-    (lower_bound-sound first later given certificate evidence tree is_tree)
+returns c = λ first later given certificate evidence.
+    are-optimal (first ∷ later) given (lower_bound (first ∷ later) given certificate)
+    (lower_bound-sound first later given certificate evidence)

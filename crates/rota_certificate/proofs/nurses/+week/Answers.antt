@@ -1,6 +1,6 @@
 use Rattle.std.proofs.Common.{rules, ℕ, List, ap, sym, ◌≡◌, ◌<◌, ◌∙◌, arith, subst, ◌+◌, ◌-◌, ◌*◌, drop, length, slice_index_or}
 use Rattle.rota_core.specs.Sizes.{DAYS, Numbers}
-use Rattle.rota_certificate.specs.LentLeaves.{LeafTables}
+use Rattle.rota_certificate.specs.LentLeaves.{LentTables}
 use Rattle.rota_certificate.specs.Nearness.{IsNear}
 use Rattle.rota_certificate.specs.NurseBounds.{LeafWeek, least_left, rest_after}
 use Rattle.rota_certificate.specs.Stages.{IsStage, StageTables, all_of, days_before, least_after, terms_of, week_of}
@@ -62,7 +62,7 @@ least_in-returns t c =
 pub least_after-returns-then-week-leaf : goal.least_after-returns-then-week-leaf
 least_after-returns-then-week-leaf t c =
     let stage = stage_of c.stage.inside in
-    let same : c.leaf.inside.weeks.now ≡ stage.leaf.weeks = ap (λ (leaf : LeafTables). leaf.weeks) c.leaf.view_is in
+    let same : c.leaf.inside.weeks.now ≡ stage.leaf.weeks = ap (λ (leaf : LentTables). leaf.weeks) c.leaf.view_is in
     let cost = rw (← c.stage.view_is) at c.end_cost.ensures.cost in
     let right = rw (← c.stage.view_is) at c.requires.right in
     rw (← c.stage.view_is)
@@ -79,7 +79,7 @@ least_after-invariant_of-next t c =
     let stage = stage_of c.stage.inside in
     let i = stage.week + 1 in
     let weeks = c.leaf.inside.weeks.now in
-    let same : weeks ≡ stage.leaf.weeks = ap (λ (leaf : LeafTables). leaf.weeks) c.leaf.view_is in
+    let same : weeks ≡ stage.leaf.weeks = ap (λ (leaf : LentTables). leaf.weeks) c.leaf.view_is in
     let next = slice_index_or weeks i c.index-leaf-week.result in
     next-is stage next (lent-at stage.leaf weeks i c.index-leaf-week.result same c.index-leaf-week.is) c.stage.invariant
     (rw same at c.if-week-leaf.false)
@@ -89,7 +89,7 @@ least_after-least_in-requires t c =
     let stage = stage_of c.stage.inside in
     let i = stage.week + 1 in
     let weeks = c.leaf.inside.weeks.now in
-    let same : weeks ≡ stage.leaf.weeks = ap (λ (leaf : LeafTables). leaf.weeks) c.leaf.view_is in
+    let same : weeks ≡ stage.leaf.weeks = ap (λ (leaf : LentTables). leaf.weeks) c.leaf.view_is in
     let next = slice_index_or weeks i c.index-leaf-week.result in
     let at = lent-at stage.leaf weeks i c.index-leaf-week.result same c.index-leaf-week.is in
     let more : i < length stage.leaf.weeks = rw same at c.if-week-leaf.false in
@@ -111,7 +111,7 @@ least_after-returns t c =
     let stage = stage_of c.stage.inside in
     let i = stage.week + 1 in
     let weeks = c.leaf.inside.weeks.now in
-    let same : weeks ≡ stage.leaf.weeks = ap (λ (leaf : LeafTables). leaf.weeks) c.leaf.view_is in
+    let same : weeks ≡ stage.leaf.weeks = ap (λ (leaf : LentTables). leaf.weeks) c.leaf.view_is in
     let following = next-left stage (slice_index_or weeks i c.index-leaf-week.result)
     (lent-at stage.leaf weeks i c.index-leaf-week.result same c.index-leaf-week.is) c.stage.invariant (rw same at c.if-week-leaf.false) in
     rw (← c.stage.view_is)

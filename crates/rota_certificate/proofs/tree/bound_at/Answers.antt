@@ -2,11 +2,12 @@ use Rattle.std.proofs.Common.{◌≡◌, ◌<◌, length, ap, sym, ◌∙◌, su
 use Rattle.std.proofs.lemmas.Result.{IfOk-weaker}
 use Rattle.rota_core.specs.InstanceTables.{problem_of}
 use Rattle.rota_core.specs.PriceTables.{PriceTables, prices_of}
+use Rattle.rota_core.specs.TreeNodes.{leaf_of}
 use Rattle.rota_certificate.specs.CaseLimits.{IsLimitedCase}
 use Rattle.rota_certificate.specs.CertificateBounds.{case_of, lists_of, prices_of_leaf}
 use Rattle.rota_certificate.specs.Evidence.{AreLent}
 use Rattle.rota_certificate.specs.EvidenceFields.{evidence_of}
-use Rattle.rota_certificate.specs.LentLeaves.{LeafTables, prices_lent, week_lent}
+use Rattle.rota_certificate.specs.LentLeaves.{LentTables, prices_lent, week_lent}
 use Rattle.rota_certificate.specs.declared.stages.LentWeek.{LentWeek}
 use Rattle.rota_certificate.proofs.LentWeeks.{AreForWeeks, bound-same, leaf-tables, lent-leaf, lent-prices, lent-problems, list-at}
 use Rattle.rota_certificate.proofs.PeriodProofs.{given-limited}
@@ -44,9 +45,9 @@ returns-clause-bound c =
     list-at (λ one. one.items) certificate.prices.items i c.index-prices.result.now i_in c.index-prices.ensures in
     let lent : AreLent c.deref-2.result.now evidence.weeks list =
     subst (λ (lent : List LentWeek). AreLent lent evidence.weeks list) (sym c.deref-2.ensures.value) c.in_ok-weeks.ensures in
-    let leaf : LeafTables = record { weeks = c.deref-2.result.now; case = c.deref-3.result.now } in
+    let leaf : LentTables = record { weeks = c.deref-2.result.now; case = c.deref-3.result.now } in
     let same = bound-same evidence.rules (map week_lent c.deref-2.result.now) (map problem_of evidence.weeks) c.deref-3.result.now
-    (case_of (reverse c.args.path.now) evidence.given) (map prices_lent c.deref-2.result.now) (prices_of_leaf certificate c.args.leaf.now)
+    (case_of (reverse c.args.path.now) evidence.given) (map prices_lent c.deref-2.result.now) (prices_of_leaf certificate (leaf_of c.args.leaf.now))
     c.deref-4.result.now c.args.leaf.now.surcharges.items
     (lent-problems leaf evidence.weeks list lent)
     (c.deref-3.ensures.value ∙ c.in_ok-case.ensures ∙ sym (case-forward c.args.path.now evidence.given))

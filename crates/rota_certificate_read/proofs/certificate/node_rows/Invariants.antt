@@ -1,6 +1,5 @@
 use Rattle.std.proofs.Common.{◌≡◌, ◌-◌}
-use Rattle.rota_certificate_read.specs.CertificateLayout.{no_nodes, node_row}
-use Rattle.rota_certificate_read.specs.CertificateRows.{tree_of}
+use Rattle.rota_certificate_read.specs.TreeRows.{no_nodes, node_row, part_of}
 use Rattle.rota_layout.specs.Layout.{repeat}
 use Rattle.rota_layout.specs.Reading.{read_layout}
 use Rattle.rota_certificate_read.proofs.certificate.node_rows.Given as goal
@@ -8,4 +7,4 @@ use Rattle.rota_certificate_read.proofs.certificate.node_rows.Given as goal
 abbrev pub invariant-loop : goal.invariant-loop
 invariant-loop l =
     let row = node_row l.scenario l.weeks l.prices l.all in
-    read_layout (repeat (l.count - l.counter) row (tree_of l.tree)) l.cursor ≡ read_layout (repeat l.count row no_nodes) l.fn.cursor
+    read_layout (repeat (l.count - l.counter) row (part_of l.tree)) l.cursor ≡ read_layout (repeat l.count row no_nodes) l.fn.cursor

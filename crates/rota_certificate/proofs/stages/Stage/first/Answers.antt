@@ -1,5 +1,5 @@
 use Rattle.std.proofs.Common.{◌≡◌, ap, subst, slice_index_or}
-use Rattle.rota_certificate.specs.LentLeaves.{IsLeaf, LeafTables}
+use Rattle.rota_certificate.specs.LentLeaves.{IsLeaf, LentTables}
 use Rattle.rota_certificate.specs.Stages.{StageTables}
 use Rattle.rota_certificate.proofs.LeafStages.{first-is, lent-at}
 use Rattle.rota_certificate.proofs.stages.Stage.first.Goals as goal
@@ -7,7 +7,7 @@ use Rattle.rota_certificate.proofs.stages.Stage.first.Goals as goal
 pub invariant_of-result : goal.invariant_of-result
 invariant_of-result c =
     let weeks = c.leaf.inside.weeks.now in
-    let same : weeks ≡ c.args.leaf.now.weeks = ap (λ (leaf : LeafTables). leaf.weeks) c.leaf.view_is in
+    let same : weeks ≡ c.args.leaf.now.weeks = ap (λ (leaf : LentTables). leaf.weeks) c.leaf.view_is in
     let first = slice_index_or weeks 0 c.index-leaf-0.result in
     let stage : StageTables = record {
       instance = first.instance.now;

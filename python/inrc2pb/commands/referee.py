@@ -1,0 +1,99 @@
+"""The verb `referee` of `inrc2pb-roster`: whether what solvers claim about a week is true."""
+
+import argparse
+import sys
+import tempfile
+from pathlib import Path
+from typing import List, Optional
+
+from .arguments import Parser
+from .command import add_rosters_option, add_weeks_options, check_seconds, number_of_seconds, parser, the_week
+from ..programs.clock import Clock
+from ..programs.inputs import Inputs
+from ..programs.interrupts import interrupts
+from ..programs.locks import locked
+from ..programs.program import FAULT, WeekFiles
+from ..programs.progress import Progress
+from ..search.bounds import PROVER
+from ..search.claims import Answered, Kind, Verdict, judged, read_answer
+from ..search.improving import held_rows, read_week_given
+from ..search.referee import SECONDS, Referee
+from ..week.writing import check_inputs_stay, check_no_pipe_is_written, check_no_pipes, check_target
+
+
+def options() -> Parser:
+    """The parser of the verb."""
+    referee = parser(
+        "Says of each answer of a solver whether what it claims is true:\n"
+        "  confirmed  it claims the best roster, and inrc2pb-bound proves that none costs less; or none, and none exists\n"
+        "  refuted    it claims the best roster, and one costs less; or none, and one exists\n"
+        "  lie        it breaks the model, or its roster does not cost what it says\n"
+        "  open       neither is known; the gap is the distance to the proved bound\n"
+        "  no claim   it has no roster",
+        "Without --proof it looks for a bound, and for a roster that refutes a claim.\n"
+        "Ends with status 1 if a claim is refuted, or a lie.\n"
+        "Example: inrc2pb-roster referee $WEEK --answer clasp.txt minisat.txt --out best.txt",
+        "referee",
+    )
+    add_weeks_options(referee)
+    asks = "the answers of solvers to the week's model"
+    referee.add_argument("--answer", metavar="FILE", type=Path, nargs="+", action="extend", required=True, help=asks)
+    add_rosters_option(referee, "rosters of the week that are known, as solution files")
+    referee.add_argument("--proof", metavar="FILE", type=Path, help="the certificate of a bound, in place of a search")
+    referee.add_argument("--out", metavar="FILE", type=Path, help="the file for the best roster, which shows why a claim is refuted")
+    limit = f"the most seconds of the search (default: {SECONDS:.0f})"
+    referee.add_argument("--time", metavar="SECONDS", type=number_of_seconds, default=SECONDS, help=limit)
+    return referee
+
+
+def _check_options(given: argparse.Namespace, files: WeekFiles) -> None:
+    """Raises the fault of an option."""
+    check_seconds(given.time, "--time")
+    read = [*files.all(), *given.answer, *given.roster, given.proof]
+    check_no_pipes(read)
+    if given.out:
+        check_no_pipe_is_written(given.out)
+        check_target(given.out.absolute())
+        check_inputs_stay(read, given.out, "the best roster")
+
+
+def main(given: argparse.Namespace) -> int:
+    """Judges the answers; the exit status."""
+    files, inputs = the_week(given), Inputs()
+    _check_options(given, files)
+    progress = Progress(sys.stderr, inputs.named)
+    with interrupts(), locked([given.out] if given.out else [], False, progress.warn), inputs.naming():
+        with tempfile.TemporaryDirectory(prefix="inrc2pb-referee-") as folder:
+            verdicts = _judge(given, files.copied(inputs.copy), inputs.copy(given.proof), progress, Path(folder))
+    for answer, verdict in zip(given.answer, verdicts):
+        print(f"{answer}: {verdict}")
+    for line in inputs.changes():
+        print(line)
+    return FAULT if any(verdict.kind in (Kind.REFUTED, Kind.LIE) for verdict in verdicts) else 0
+
+
+def _judge(given: argparse.Namespace, files: WeekFiles, proof: Optional[Path], progress: Progress, folder: Path) -> List[Verdict]:
+    """Judges the answers, with files in this folder."""
+    week = read_week_given(files)
+    held = held_rows(files.fix, week, progress.warn) if files.fix else ()
+    referee = Referee(files, week, held, (given.out or folder / "best.txt").absolute(), progress)
+    if given.out:
+        referee.best.resume()
+    for roster in given.roster:
+        referee.tell(roster, str(roster))
+    answers: List[Answered] = []
+    for path in given.answer:
+        answers.append(read_answer(files, path, folder / "answered.txt"))
+        if answers[-1].penalty is not None:
+            referee.tell(folder / "answered.txt", f"the roster of {path}")
+    if proof:
+        referee.read(proof)
+    elif any(judged(answer, referee.known).kind is Kind.OPEN for answer in answers):
+        with interrupts() as signals, signals.calling(referee.interrupt):
+            referee.search(Clock(given.time))
+    referee.best.look_again()
+    known = referee.known._replace(roster=str(given.out)) if given.out else referee.known
+    bound = "no lower bound" if known.bound is None else f"lower bound {known.bound} ({PROVER})"
+    best = "no roster" if known.penalty is None else f"best roster {known.penalty} ({known.roster})"
+    print(f"no roster exists ({PROVER})" if known.none_exists else f"{bound}, {best}")
+    return [judged(answer, known) for answer in answers]

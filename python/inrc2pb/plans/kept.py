@@ -1,0 +1,55 @@
+"""A value that is made from files, and made anew only if one of them has changed since."""
+
+import threading
+import time
+from pathlib import Path
+from typing import Callable, Generic, Hashable, Iterable, Optional, Sequence, Tuple, TypeVar
+
+from .state import DayWord
+from .store import Reader, tables_of
+from .ward import Ward
+
+_Value = TypeVar("_Value")
+# A file that was changed within so many nanoseconds may be changed again without another time: shares count in steps of two seconds.
+_STEP = 3_000_000_000
+
+
+class Kept(Generic[_Value]):
+    """The last value of these files. Threads that ask at once wait for one of them to make it."""
+
+    def __init__(self) -> None:
+        self._lock = threading.Lock()
+        self._key: Optional[Hashable] = None
+        self._value: Optional[_Value] = None
+
+    def of(self, files: Iterable[Path], others: Hashable, make: Callable[[], _Value]) -> _Value:
+        """The value of these files and other things, which is made if it is not the kept one. What `make` raises is not kept."""
+        with self._lock:
+            known, now = _looks(files), time.time_ns()
+            key = (known, others)
+            if self._value is not None and self._key == key:
+                return self._value
+            self._value = None
+            made = make()
+            if all(changed < now - _STEP for _, changed, _, _ in known):
+                self._key, self._value = key, made
+            return made
+
+
+def _looks(files: Iterable[Path]) -> Tuple[Tuple[str, int, int, int], ...]:
+    """What tells whether files were changed: their names, times, sizes and numbers on the disk."""
+    found = []
+    for path in files:
+        look = path.stat()
+        found.append((str(path), max(look.st_mtime_ns, look.st_ctime_ns), look.st_size, look.st_ino))
+    return tuple(found)
+
+
+class KeptSheet:
+    """A reader of a ward's spreadsheet that reads it only if it has changed."""
+
+    def __init__(self, read: Reader) -> None:
+        self._read, self._kept = read, Kept[Ward]()
+
+    def __call__(self, path: Path, name: Optional[str], absences: Sequence[DayWord]) -> Ward:
+        return self._kept.of(tables_of(path), (name, tuple(absences)), lambda: self._read(path, name, absences))

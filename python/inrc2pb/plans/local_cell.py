@@ -1,0 +1,153 @@
+"""What can be done with a nurse's day on the local page, with what it adds to the points. Nothing is written before the page has asked."""
+
+from typing import Iterator, List, Optional, Sequence, Tuple
+from urllib.parse import urlencode
+
+from ..shown.markup import Markup, element, joined
+from ..shown.why import in_words
+from ..sheets.plan_sheets import AWAY
+from ..week.dates import day_names
+from ..week.records import WEEK_DAYS, Cell, NurseDay, Place
+from ..week.words import readable
+from .events import offers_of
+from .local_forms import STAMP, button_markup
+from .render import MOST_OFFERS, nobody_text
+from .sentences import fault_text, offer_text
+from .state import BACK
+from .swaps import Swap, Swaps
+from .ward import ALWAYS_OFF, DAYS_OFF, OFF, WardPlan
+
+
+# The place of the page that shows a nurse's day, so that the keyboard goes on from there.
+CELL = "cell"
+
+
+def cell_address(address: str, place: NurseDay) -> str:
+    """The address of the page that shows a nurse's day."""
+    return f"{address}?{urlencode({'nurse': place.nurse, 'day': place.day})}#{CELL}"
+
+
+class Actions:
+    """What can be done with a nurse's day of a plan. `agreed` is the swap that was written for it, if there is one."""
+
+    def __init__(self, plan: WardPlan, place: NurseDay, address: str, stamp: str, agreed: Optional[Swap] = None) -> None:
+        self._plan, self._place, self._address, self._stamp, self._agreed = plan, place, address, stamp, agreed
+        self._swaps = Swaps(plan)
+        self._first = plan.days.head(place.day)
+
+    def markup(self) -> Markup:
+        """The section of the page: what she has, what can be done, and what her week costs."""
+        nurse, day = self._place
+        cell = self._swaps.works(nurse, day)
+        has = readable(f"{cell.shift} {cell.skill}") if cell else self._plan.away.get(self._place, OFF)
+        heading = element("h2", f"{readable(nurse)}, {self._plan.days.text(day)}: {has}")
+        groups = [group for group in (self._others(), self._shifts(), self._away(), self._back()) if group]
+        return element("section", heading, self._days(), element("div", *groups, class_="actions"), self._charges(), id=CELL)
+
+    def _days(self) -> Markup:
+        """Links to her other days, and a form for one that is far away."""
+        nurse, day = self._place
+        beside = [(day - 1, f"\u2039 {self._plan.days.text(day - 1)}"), (day + 1, f"{self._plan.days.text(day + 1)} \u203a")]
+        inside = [(other, text) for other, text in beside if self._plan.first <= other < self._plan.days.total]
+        links = [element("a", text, href=cell_address(self._address, NurseDay(nurse, other))) for other, text in inside]
+        return element("p", *(joined(link, " ") for link in links), element("a", "Close", href=self._address), class_="links")
+
+    def _button(self, text: str, **words: str) -> Markup:
+        """A button for an event of this nurse's day."""
+        fields = {"nurse": self._place.nurse, "first": self._first, STAMP: self._stamp}
+        return button_markup({**fields, **{name.replace("_", " "): value for name, value in words.items()}}, text, self._address)
+
+    def _others(self) -> Optional[Markup]:
+        """Who could take her shift, the cheapest first."""
+        nurse, day = self._place
+        if self._swaps.works(nurse, day) is None:
+            return None
+        found = offers_of(self._swaps, nurse, day)
+        if not found.offers:
+            return _group("Someone else takes it", [element("p", f"Nobody can take it: {nobody_text(found)}.")])
+        buttons = []
+        for offer in found.offers[:MOST_OFFERS]:
+            others = {"other_day": self._plan.days.head(other) for other in offer.swap.days if other != day}
+            words = {"verb": "swap", "other": offer.swap.other, "write_it": "yes", **others}
+            buttons.append(self._button(offer_text(self._swaps, offer).strip(), **words))
+        return _group("Someone else takes it", buttons)
+
+    def _shifts(self) -> Optional[Markup]:
+        """The shifts that she could have, a promised day off among them, and why she cannot have others."""
+        if self._is_away:
+            return None
+        buttons, refused = [], []
+        for shift, cell in self._choices():
+            name = readable(f"{cell.shift} {cell.skill}") if cell else f"{OFF}, promised"
+            faults = self._swaps.day_faults(self._place, cell)
+            if faults:
+                refused.append(element("li", f"{name}: {', '.join(fault_text(self._plan, fault) for fault in faults)}"))
+            else:
+                keeps = ", as now, and later plans keep it" if cell == self._swaps.works(*self._place) else ""
+                buttons.append(self._button(f"{self._swaps.day_cost(self._place, cell):+}  {name}{keeps}", verb="set", shift=shift))
+        why = [element("details", element("summary", "Not possible"), element("ul", *refused))] if refused else []
+        return _group("She has another shift, or a promised day off", [*buttons, *why])
+
+    def _choices(self) -> Iterator[Tuple[str, Optional[Cell]]]:
+        """The words of the verb set, and the shifts that they are: off, and each shift type with those of her skills that it needs."""
+        yield OFF, None
+        skills = self._plan.scenario.nurses[self._place.nurse].skills
+        for shift in self._plan.scenario.shift_types:
+            for skill in skills:
+                need = self._plan.needs.get(Place(self._place.day, shift, skill))
+                if need and need.optimal:
+                    yield f"{shift}/{skill}", Cell(*self._place, shift, skill)
+
+    @property
+    def _is_away(self) -> bool:
+        """Whether she is away for a reason, and not only off."""
+        return self._plan.away.get(self._place, ALWAYS_OFF) not in DAYS_OFF
+
+    def _away(self) -> Optional[Markup]:
+        """She is away, from this day to another one."""
+        if self._is_away:
+            return None
+        later = range(self._place.day + 1, self._plan.days.total)
+        choices = [("", "this day only"), *((self._plan.days.head(day), f"to {self._plan.days.text(day)}") for day in later)]
+        options = [element("option", text, value=value) for value, text in choices]
+        fields = {"verb": "away", "nurse": self._place.nurse, "first": self._first, STAMP: self._stamp}
+        hidden = [element("input", type="hidden", name=name, value=value) for name, value in fields.items()]
+        words = ("ill", *(word for word in AWAY if word != "ill"))
+        buttons = [joined(element("button", word, name="reason", value=word), " ") for word in words]
+        select = element("select", *options, name="last", aria_label="last day")
+        return _group("She is away", [element("form", *hidden, select, " ", *buttons, method="post", action=self._address, class_="words")])
+
+    def _back(self) -> Optional[Markup]:
+        """What was written for this day is taken back: an absence, a day that was set, or a swap."""
+        found = list(self._taken_back())
+        return _group("Take back", found) if found else None
+
+    def _taken_back(self) -> Iterator[Markup]:
+        if self._is_away:
+            yield self._button(f"she is back from this day on ({self._plan.away[self._place]})", verb="back")
+        if self._place in [one.place for one in self._plan.state.set_days]:
+            yield self._button("what was set for this day: later plans may change it", verb="set", shift=BACK)
+        if self._agreed:
+            one, other, days = self._agreed
+            nurse = other if one == self._place.nurse else one
+            others = {"other_day": self._plan.days.head(day) for day in days if day != self._place.day}
+            yield self._button(f"the swap with {readable(nurse)}", verb="swap", other=nurse, write_it="yes", **others)
+
+    def _charges(self) -> Markup:
+        """What she is charged in the week of the day."""
+        nurse, day = self._place
+        week = self._plan.view().weeks[day // WEEK_DAYS - self._plan.state.open_week]
+        names = day_names(self._plan.days.monday, day // WEEK_DAYS)
+        charged = [charge for charge in week.charges or () if charge.nurse == nurse]
+        if week.charges is None:
+            return element("p", "This week has no cost, since it breaks a hard rule.")
+        if not charged:
+            return element("p", "Nothing is charged to her in this week.")
+        items = [element("li", readable(f"{charge.cost} points: {in_words(charge, False, names)}")) for charge in charged]
+        return joined(element("p", "Her week costs:"), element("ul", *items))
+
+
+def _group(heading: str, inside: Sequence[Markup]) -> Markup:
+    """Buttons with a heading."""
+    parts: List[Markup] = [element("h3", heading), *inside]
+    return element("div", *parts)

@@ -1,0 +1,97 @@
+"""The pricing of rows by a compiled library, which `make` builds from cheapest_rows.c. Without it NumPy prices the same rows.
+
+Nothing is trusted: the cost of each row is walked in Python, and each bound is proved by `inrc2pb-bound`.
+"""
+
+import ctypes
+import numpy
+from pathlib import Path
+from typing import Any, Optional, Sequence, Tuple, Union
+
+from .row_arrays import Arrays, Blocks, Member
+
+NAME = "inrc2pb-rows.so"
+# The library has this number if its structures are those below.
+LAYOUT = 1
+_LONG, _POINTER = ctypes.c_long, ctypes.c_void_p
+
+
+class _Day(ctypes.Structure):
+    _fields_ = [("nodes", _LONG), ("arcs", _POINTER)]
+
+
+class _Nurse(ctypes.Structure):
+    _fields_ = [("days", _POINTER), ("rest", _POINTER), ("start", _LONG)]
+
+
+class _Task(ctypes.Structure):
+    _fields_ = [*((name, _LONG) for name in ("count", "days", "choices", "run_cost")), ("nurses", _POINTER), ("pays", _POINTER)]
+
+
+def load(path: Path) -> Any:
+    """The library of a file; None if it is not there, or of another layout."""
+    try:
+        found = ctypes.CDLL(str(path))
+        if ctypes.c_int.in_dll(found, "layout").value != LAYOUT:
+            return None
+    except (OSError, ValueError):
+        return None
+    found.cheapest_rows.argtypes = [_POINTER, _POINTER, _POINTER]
+    return found
+
+
+def _installed() -> Any:
+    """The library in the clone's folder `out`, or as `make install` puts it."""
+    above = Path(__file__).resolve().parents
+    places = [above[3] / "out" / NAME, *(folder / "lib" / "inrc2pb" / NAME for folder in above[4:5])]
+    return next(filter(None, map(load, places)), None)
+
+
+library = _installed()
+
+
+class CompiledRows:
+    """Nurses who are priced together by a library on these days."""
+
+    def __init__(self, members: Sequence[Member], days: range, by: Any) -> None:
+        self._days, self._library = days, by
+        # The arrays that the library reads live as long as these.
+        self._members = members
+        self._nurses = {member.nurse: self._nurse(member) for member in members}
+
+    def _nurse(self, member: Member) -> _Nurse:
+        arcs = _arcs(member.arrays)
+        rest = None if member.rest is None else member.rest.ctypes.data
+        return _Nurse(ctypes.addressof(arcs) + self._days.start * ctypes.sizeof(_Day), rest, int(member.start))
+
+    def cheapest(self, pay: Any, nurses: Sequence[int], run_cost: int = 0) -> Tuple[Any, Any]:
+        """As that of Blocks."""
+        pays = numpy.ascontiguousarray(pay[list(nurses), self._days.start : self._days.stop])
+        chosen = (_Nurse * len(nurses))(*(self._nurses[nurse] for nurse in nurses))
+        costs, rows = numpy.empty(len(nurses), dtype=numpy.int64), numpy.zeros(pays.shape[:2], dtype=numpy.uint8)
+        task = _Task(*pays.shape, run_cost, ctypes.addressof(chosen), pays.ctypes.data)
+        if self._library.cheapest_rows(ctypes.addressof(task), costs.ctypes.data, rows.ctypes.data):
+            raise MemoryError
+        return costs, rows
+
+
+def _arcs(arrays: Arrays) -> Any:
+    """The days of a graph for the library, which are kept with it."""
+    if arrays.compiled is None:
+        days, kept = (_Day * (len(arrays.days) + 1))(), []
+        for number, (costs, heads, _) in enumerate(arrays.days):
+            arcs = numpy.zeros(costs.T.shape, dtype=[("cost", "i8"), ("head", "i4"), ("runs", "i4")])
+            arcs["cost"], arcs["head"] = costs.T, heads.T
+            if arrays.runs:
+                arcs["runs"] = arrays.runs[number].T
+            kept.append(arcs)
+            days[number] = _Day(len(arcs), arcs.ctypes.data)
+        days[len(arrays.days)] = _Day(arrays.nodes[-1], None)
+        arrays.compiled = days, kept
+    return arrays.compiled[0]
+
+
+def priced_together(members: Sequence[Member], days: range, allowed: Optional[Any] = None) -> Union[CompiledRows, Blocks]:
+    """What prices these nurses on these days: the library, or NumPy. `allowed` has the choices that they may have, by nurse, day and
+    choice, if not all."""
+    return CompiledRows(members, days, library) if library else Blocks(members, days, allowed)

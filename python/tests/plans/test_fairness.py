@@ -1,0 +1,115 @@
+"""Tests of nights and weekends that are shared evenly: who has how many, and exchanges that cost nothing."""
+
+import unittest
+from dataclasses import replace
+
+from test_kept_plans import KeptTest
+from ward import HAS_CBC
+
+from inrc2pb.plans.facts import beside_days_away, unkept
+from inrc2pb.plans.fairness import Evenness, Share, Spread, evenness, may_work_nights, may_work_weekends, more_even, shares
+from inrc2pb.plans.sentences import evenness_lines
+from inrc2pb.plans.state import SetDay
+from inrc2pb.plans.store import penalties
+from inrc2pb.week.records import Cell
+
+
+class Shares(KeptTest):
+    def test_nights_and_weekends_of_the_period(self):
+        # In the stored roster, twice: Chen has Night from Friday to Sunday, Dilek on Monday, Ewa from Tuesday to Thursday.
+        found = shares(self.read())
+        self.assertEqual({nurse: one.nights for nurse, one in found.items() if one.nights}, {"Chen": 6, "Dilek": 2, "Ewa": 6})
+        self.assertEqual(
+            {nurse: one.weekends for nurse, one in found.items() if one.weekends}, dict.fromkeys(("Amara", "Chen", "Dilek", "Finn"), 2)
+        )
+        # Weeks that are over count too.
+        plan = self.read()
+        self.assertEqual(shares(plan.with_state(replace(plan.state, open_week=1)))["Chen"], Share(6, 2))
+
+    def test_who_may_work_them(self):
+        self.rows["nurses"][7][4] = "Sat, Sun"
+        self.rows["contracts"][2][7] = "0"
+        self.write()
+        plan = self.read()
+        self.assertEqual([nurse for nurse in plan.scenario.nurses if not may_work_nights(plan, nurse)], ["Finn"])
+        self.assertEqual([nurse for nurse in plan.scenario.nurses if not may_work_weekends(plan, nurse)], ["Ewa", "Finn", "Grace"])
+
+    def test_how_even_they_are(self):
+        plan = self.read()
+        # Finn never works Night, so nobody is beside Ewa.
+        self.assertEqual(evenness(plan), Evenness((Spread("Full", 0, 6),), (Spread("Full", 0, 2), Spread("Half", 0, 2))))
+        self.assertEqual(evenness_lines(plan), [
+            "nights of each nurse who may work them, by contract: Full 0 to 6",
+            "weekends of each nurse who may work them, by contract: Full 0 to 2, Half 0 to 2",
+        ])  # fmt: skip
+
+
+class Exchanges(KeptTest):
+    """Chen and Dilek have the same contract, and nothing is charged for rows, but for wishes."""
+
+    def setUp(self):
+        super().setUp()
+        for row in self.rows["contracts"][1:]:
+            row[1:9] = ["", "", "", "", "", "", "", "no"]
+        for row in self.rows["shifts"][1:]:
+            row[1:3] = ["", ""]
+        for row in self.rows["plan"][1:]:
+            row[1:] = [""] * (len(row) - 1)
+        self.write()
+
+    def evened(self, first=0):
+        plan = self.read()
+        return plan, more_even(plan, first, 3.0)
+
+    def test_an_exchange_costs_nothing_and_is_more_even(self):
+        plan, even = self.evened()
+        (spread,) = [one for one in evenness(even).nights if one.contract == "Full"]
+        # Eight nights of five nurses with full contracts, of which one had six and three had none.
+        self.assertLessEqual(spread.most, 3)
+        (weekends,) = [one for one in evenness(even).weekends if one.contract == "Full"]
+        self.assertLessEqual(weekends.most - weekends.fewest, 2)
+        # Each place has as many nurses as before, and the program charges the same.
+        self.assertEqual(sorted(cell[1:] for cell in even.cells), sorted(cell[1:] for cell in plan.cells))
+        self.assertEqual(sum(penalties(even).values()), sum(penalties(plan).values()))
+
+    def test_nothing_that_holds_is_broken(self):
+        self.rows["contracts"][1][4] = "5!"
+        self.rows["plan"][7][6] = "training"
+        self.rows["plan"][2][12:14] = ["leave", "off"]
+        self.write()
+        plan, even = self.evened()
+        self.assertEqual([len(unkept(one)) for one in (plan, even)][1:], [len(unkept(plan))])
+        self.assertLessEqual(len(beside_days_away(even)), len(beside_days_away(plan)))
+        self.assertNotEqual(even.works, plan.works)
+
+    def test_days_that_do_not_change(self):
+        # Days before the first one, fixed shifts, and days that were set.
+        self.rows["plan"][3][7] = "Night"
+        self.write()
+        plan = self.read()
+        plan = plan.with_state(replace(plan.state, set_days=(SetDay("Chen", 5),)))
+        even = more_even(plan, 3, 3.0)
+        self.assertEqual(
+            {one: cell for one, cell in even.works.items() if one.day < 3}, {one: cell for one, cell in plan.works.items() if one.day < 3}
+        )
+        self.assertEqual(
+            [even.works.get(("Chen", day)) for day in (5, 6)], [Cell("Chen", 5, "Night", "Nurse"), Cell("Chen", 6, "Night", "Nurse")]
+        )
+
+    def test_an_exchange_that_would_cost_a_wish_is_not_made(self):
+        for row in self.rows["plan"][1:]:
+            row[1:] = ["" if row[0] == "Chen" else "no Night"] * 14
+        self.write()
+        plan, even = self.evened()
+        # Each night of another nurse costs a wish already, and Chen's nights would.
+        self.assertEqual(shares(even)["Chen"].nights, 6)
+        self.assertEqual(sum(penalties(even).values()), sum(penalties(plan).values()))
+
+    @unittest.skipUnless(HAS_CBC, "cbc is not installed")
+    def test_the_verb_says_how_even_it_is(self):
+        printed = self.does("plan")
+        self.assertRegex(printed, "(?m)^nights of each nurse who may work them, by contract: Full [0-9]+( to [0-9]+)?$")
+
+
+if __name__ == "__main__":
+    unittest.main()

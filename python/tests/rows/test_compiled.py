@@ -1,0 +1,120 @@
+"""Tests of the compiled pricing: on random graphs it finds the rows that NumPy finds, and costs as much; without a library NumPy is used."""
+
+import shutil
+import subprocess
+import tempfile
+import unittest
+from pathlib import Path
+from unittest import mock
+
+import numpy
+from test_rows import POINT, pricing_of, random_plan
+from ward import HELPERS, HelperTest
+
+from inrc2pb.judging.runs import NEVER
+from inrc2pb.rows import compiled
+from inrc2pb.rows.case_pricing import CasePricing
+from inrc2pb.rows.compiled import CompiledRows
+from inrc2pb.rows.pricing import Crews
+from inrc2pb.rows.row_arrays import Blocks, Member
+
+SOURCE = HELPERS / "inrc2pb" / "rows" / "cheapest_rows.c"
+COMPILER = shutil.which("cc") or shutil.which("clang")
+
+
+def built(folder):
+    """The library of the present source."""
+    path = Path(folder, "rows.so")
+    subprocess.run([COMPILER, "-O1", "-Wall", "-Wextra", "-Werror", "-shared", "-fPIC", "-o", str(path), str(SOURCE)], check=True)
+    return compiled.load(path)
+
+
+@unittest.skipUnless(COMPILER, "needs cc")
+class CompiledPricing(unittest.TestCase):
+    @classmethod
+    def setUpClass(cls):
+        with tempfile.TemporaryDirectory() as folder:
+            cls.library = built(folder)
+
+    def compare(self, members, days, pay, allowed=None):
+        """Both find the same rows of all nurses, and of some, at the same costs."""
+        fast, plain = CompiledRows(members, days, self.library), Blocks(members, days, allowed)
+        nurses = [member.nurse for member in members]
+        for some in (nurses, nurses[::-2]):
+            (costs, rows), (wanted, wanted_rows) = fast.cheapest(pay, some), plain.cheapest(pay, some)
+            for number in range(len(some)):
+                self.assertEqual(min(costs[number], NEVER // 2), min(wanted[number], NEVER // 2))
+                if costs[number] < NEVER // 2:
+                    self.assertEqual(rows[number].tobytes(), wanted_rows[number].tobytes())
+
+    @staticmethod
+    def pay(chance, pricing, allowed):
+        """What each choice costs each nurse: many costs are equal, so that rows are, too."""
+        shape = numpy.array(pricing.crews.of).shape
+        costs = [chance.choice((0, 0, -30 * POINT, 10 * POINT, chance.randrange(-(10**6), 10**6))) for _ in range(numpy.prod(shape))]
+        return numpy.where(allowed, numpy.array(costs, dtype=numpy.int64).reshape(shape), NEVER)
+
+    def test_the_same_rows_on_random_graphs(self):
+        for seed in range(80):
+            plan, chance = random_plan(seed, weeks=1 + seed % 3 // 2, nurses=12)
+            pricing = pricing_of(plan)
+            members = [Member(nurse, graph.arrays, start) for nurse, (graph, start) in enumerate(zip(pricing.graphs, pricing.starts))]
+            # In every third plan nurses may have few choices, and reach few nodes; some have no row.
+            shape, open_share = numpy.array(pricing.crews.of).shape, (1.0, 0.7, 0.3)[seed % 3]
+            allowed = numpy.array([chance.random() < open_share for _ in range(numpy.prod(shape))]).reshape(shape)
+            self.compare(members, range(plan.days), self.pay(chance, pricing, allowed), allowed)
+
+    def test_the_same_rows_on_some_days(self):
+        for seed in range(40):
+            plan, chance = random_plan(seed, weeks=2, nurses=9)
+            pricing, days = pricing_of(plan), range(chance.randrange(7), chance.randrange(8, 14))
+            members = []
+            for nurse, (graph, start) in enumerate(zip(pricing.graphs, pricing.starts)):
+                row = bytes(chance.choice((0, 0, 1)) for _ in range(plan.days))
+                members.append(Member(nurse, graph.arrays, graph.walked(start, row[: days.start])[0], graph.arrays.after(days.stop, row)))
+            shape = numpy.array(pricing.crews.of).shape
+            allowed = numpy.array([chance.random() < 0.4 + 0.6 * (seed % 2) for _ in range(numpy.prod(shape))]).reshape(shape)
+            self.compare(members, days, self.pay(chance, pricing, allowed), allowed)
+
+    def test_the_same_prices_of_cases(self):
+        for seed in range(20):
+            plan, chance = random_plan(seed, nurses=9)
+            crews, found = Crews(plan), []
+            prices = [chance.randrange(40 * POINT) for _ in crews.places]
+            for library in (self.library, None):
+                with mock.patch.object(compiled, "library", library):
+                    cases = CasePricing(plan, crews, lambda: None)
+                limits = cases.limits(())
+                found.append([cases.price(limits, prices, surcharge) for surcharge in (0, 7 * POINT, -7 * POINT)])
+            self.assertEqual(*found)
+
+    def test_the_cost_of_a_row_is_walked(self):
+        """A library whose costs are wrong changes no cost of a row."""
+        plan, chance = random_plan(2, nurses=6)
+        pricing, gains = pricing_of(plan), [0] * len(Crews(plan).members)
+
+        class Wrong(CompiledRows):
+            def cheapest(self, pay, nurses, run_cost=0):
+                costs, rows = super().cheapest(pay, nurses, run_cost)
+                return costs - 5 * POINT, rows
+
+        wanted = [pricing.cheapest(nurse, gains) for nurse in range(6)]
+        with mock.patch.object(compiled, "CompiledRows", Wrong), mock.patch.object(compiled, "library", self.library):
+            self.assertEqual(pricing_of(plan).cheapest_of(range(6), gains), wanted)
+
+
+class NoLibrary(HelperTest):
+    def test_a_file_that_is_no_library_is_not_used(self):
+        (self.folder / "rows.so").write_text("no library")
+        self.assertIsNone(compiled.load(self.folder / "rows.so"))
+        self.assertIsNone(compiled.load(self.folder / "missing.so"))
+
+    @unittest.skipUnless(COMPILER, "needs cc")
+    def test_a_library_of_another_layout_is_not_used(self):
+        with mock.patch.object(compiled, "LAYOUT", compiled.LAYOUT + 1):
+            self.assertIsNone(built(self.folder))
+        self.assertIsNotNone(built(self.folder))
+
+
+if __name__ == "__main__":
+    unittest.main()
