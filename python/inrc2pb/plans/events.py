@@ -11,11 +11,11 @@ from ..judging.leave import ILL, TRAINING
 from ..sheets.plan_sheets import AWAY
 from ..week.faults import Misuse
 from ..week.records import WEEK_DAYS, Cell, NurseDay, Place
-from ..week.words import joined, readable
+from ..week.words import OFF, joined, readable
 from .outcome import Away, DaySet, Event, Offers, Published, Status, Swapped, WeekOver
 from .state import BACK, SetDay, State, lost_shifts, with_days, without_last, words_of
 from .swaps import Swap, Swaps, swapped
-from .ward import ALWAYS_OFF, DAYS_OFF, OFF, PROMISED, WardPlan, plan_of
+from .ward import ALWAYS_OFF, DAYS_OFF, PROMISED, WardPlan, plan_of
 from .words import Wording
 
 

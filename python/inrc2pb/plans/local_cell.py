@@ -8,14 +8,14 @@ from ..shown.why import in_words
 from ..sheets.plan_sheets import AWAY
 from ..week.dates import day_names
 from ..week.records import WEEK_DAYS, Cell, NurseDay, Place
-from ..week.words import readable
+from ..week.words import OFF, readable
 from .events import offers_of
 from .local_forms import STAMP, button_markup
-from .render import MOST_OFFERS, nobody_text
-from .sentences import fault_text, offer_text
+from .sentences import cell_text
+from .swap_sentences import MOST_OFFERS, fault_text, nobody_text, offer_text
 from .state import BACK
 from .swaps import Swap, Swaps
-from .ward import ALWAYS_OFF, DAYS_OFF, OFF, WardPlan
+from .ward import ALWAYS_OFF, DAYS_OFF, PROMISED, WardPlan
 
 
 # The place of the page that shows a nurse's day, so that the keyboard goes on from there.
@@ -39,7 +39,7 @@ class Actions:
         """The section of the page: what she has, what can be done, and what her week costs."""
         nurse, day = self._place
         cell = self._swaps.works(nurse, day)
-        has = readable(f"{cell.shift} {cell.skill}") if cell else self._plan.away.get(self._place, OFF)
+        has = cell_text(cell, self._plan.away.get(self._place, OFF))
         heading = element("h2", f"{readable(nurse)}, {self._plan.days.text(day)}: {has}")
         groups = [group for group in (self._others(), self._shifts(), self._away(), self._back()) if group]
         return element("section", heading, self._days(), element("div", *groups, class_="actions"), self._charges(), id=CELL)
@@ -78,7 +78,7 @@ class Actions:
             return None
         buttons, refused = [], []
         for shift, cell in self._choices():
-            name = readable(f"{cell.shift} {cell.skill}") if cell else f"{OFF}, promised"
+            name = cell_text(cell, f"{OFF}, {PROMISED}")
             faults = self._swaps.day_faults(self._place, cell)
             if faults:
                 refused.append(element("li", f"{name}: {', '.join(fault_text(self._plan, fault) for fault in faults)}"))

@@ -6,11 +6,11 @@ from ..sheets.plan_sheets import AWAY
 from ..shown.markup import Markup, element, joined
 from ..week.faults import Misuse
 from ..week.records import WEEK_DAYS
-from ..week.words import quoted, readable
+from ..week.words import OFF, quoted, readable
 from .local_jobs import Fields
 from .outcome import Event
 from .verbs import CHANGE_SECONDS, WEEK_SECONDS
-from .ward import OFF, WardPlan
+from .ward import WardPlan
 
 _MOST_SECONDS = 3600.0
 _NEW_PLAN = "a new plan, and its pages"

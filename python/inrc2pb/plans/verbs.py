@@ -16,17 +16,20 @@ from ..programs.program import NO_ROSTER
 from ..sheets.plan_sheets import AWAY
 from ..week.records import NurseDay
 from ..week.faults import FileFault, Misuse, ProgramFault, Stopped
-from . import events, render
+from ..week.words import OFF
+from . import events
 from .changes import without_needless_changes
 from .facts import newly_exceeded, unkept
 from .fairness import more_even
 from .outcome import Asked, Away, Checked, DaySet, Event, Keep, Made, NoPlan, Offers, Outcome, Pages, Planned, Published, Status, Swapped
 from .outcome import Undone, WeekOver
+from .render import warning_lines
+from .search_sentences import FOR_REASON, WITHOUT_AGREED, absence_lines, search_lines
 from .searching import Found, search_plan, why_no_plan
 from .state import BACK, State, read_state
 from .store import PAGE, Means, PlanStore, WardFolder, fitted, known_record, penalties
 from .swaps import Swap, Swaps
-from .ward import OFF, WardPlan, first_plan, for_leavers, limits_of
+from .ward import WardPlan, first_plan, for_leavers, limits_of
 
 # The seconds of a search, for each week if it is a whole plan.
 WEEK_SECONDS, CHANGE_SECONDS = 20.0, 30.0
@@ -105,7 +108,7 @@ def _plan(store: PlanStore, event: Event) -> Outcome:
     """Plans the weeks that are not over, or what is left of them from a day on."""
     old = store.current()
     first = events.first_day(old, event)
-    _say(store, render.warning_lines(Checked(old, anew=store.anew(old))))
+    _say(store, warning_lines(Checked(old, anew=store.anew(old))))
     few = old.state.published and old.is_planned and not event.free
     asked = Asked(first, few, event.seconds or WEEK_SECONDS * len(old.weeks), do=event.do)
     keeping = replace(old, limits=limits_of(old.ward, old.state, first))
@@ -129,7 +132,7 @@ def _searched_for(store: PlanStore, event: Event, found: Away, *named: int) -> O
     holds, there is no search before the user is asked."""
     if not event.do and newly_exceeded(found.old, found.there):
         return replace(found, status=Status.NOT_KEPT)
-    _say(store, render.absence_lines(found))
+    _say(store, absence_lines(found))
     verb = " ".join([found.word, found.nurse, *map(found.old.days.head, named)])
     return _searched(store, verb, found.new, Asked(found.days[0], True, event.seconds or CHANGE_SECONDS, do=event.do), found)
 
@@ -141,7 +144,7 @@ def _say(store: PlanStore, said: Sequence[str]) -> None:
 
 def _searched(store: PlanStore, verb: str, old: WardPlan, asked: Asked, absence: Optional[Away] = None) -> Outcome:
     """Searches, and writes the plan. `absence` has the older plan with the absences that it had, if these are other ones now."""
-    _say(store, render.search_lines(old, asked, store.means.end))
+    _say(store, search_lines(old, asked, store.means.end))
     # A second Ctrl-C does not end it before the plan is written.
     with interrupts():
         try:
@@ -204,7 +207,7 @@ def _found(store: PlanStore, old: WardPlan, asked: Asked) -> Found:
     except ProgramFault as fault:
         if fault.status != NO_ROSTER:
             raise
-    store.means.say(render.WITHOUT_AGREED)
+    store.means.say(WITHOUT_AGREED)
     free = search_plan(old, asked._replace(agreed=Keep.MOST), store.means.progress)
     return firm if firm and len(unkept(firm.plan)) <= len(unkept(free.plan)) else free
 
@@ -213,7 +216,7 @@ def _no_plan(store: PlanStore, old: WardPlan, fault: ProgramFault, absence: Opti
     """Which minimum numbers to lower, if that is why there is no plan."""
     if fault.status != NO_ROSTER:
         raise fault
-    store.means.say(render.FOR_REASON)
+    store.means.say(FOR_REASON)
     why = why_no_plan(old)
     if why is None:
         raise fault

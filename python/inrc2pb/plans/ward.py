@@ -18,14 +18,13 @@ from ..week.dates import PlanDays, Times
 from ..week.facts import SHIFTS, Charged, Claim
 from ..week.faults import Misuse
 from ..week.records import WEEK_DAYS, Absence, Cell, History, NurseDay, Place, Requirement, Scenario, Week, WeekData, in_week, week_name
-from ..week.words import plural, readable
+from ..week.words import OFF, plural, readable
 from .state import SHEET, DayWord, State
 from .ward_sheet import WeekRow
 from .words import PERIOD_IS_OVER, PeriodOver
 
-# The word for a day without a shift, and for one on which a nurse never works; and for a day off that the spreadsheet promises.
-OFF = ALWAYS_OFF = "off"
-PROMISED = "promised"
+# The words for a day on which a nurse never works, and for a day off that the spreadsheet promises.
+ALWAYS_OFF, PROMISED = OFF, "promised"
 # Days off for these words are no days away.
 DAYS_OFF = (ALWAYS_OFF, PROMISED)
 # The reasons to be away that are work in a row, and those before which nobody should have a night shift.

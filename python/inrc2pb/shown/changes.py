@@ -1,13 +1,30 @@
-"""What differs in two rosters of the same weeks, and swaps of two nurses' days."""
+"""What differs in two rosters of the same weeks, in sentences: shifts, and charges that are saved or added; and swaps of two nurses' days.
 
+The lines of a ward's plans are made of the same sentences as those of rosters that were given as files.
+"""
+
+import collections
 from dataclasses import replace
-from typing import Iterator, List, NamedTuple, Sequence, Tuple
+from typing import Iterable, Iterator, List, NamedTuple, Sequence, Tuple, Union
 
 from ..week.faults import Misuse
-from ..week.records import DAYS, NurseDay, exchanged
+from ..week.records import DAYS, WEEK_DAYS, Cell, NurseDay, exchanged
 from ..week.slots import did_you_mean
-from ..week.words import quoted
+from ..week.words import OFF, quoted
 from .roster_view import RosterView, ShownCell
+
+
+# ---- shifts
+
+
+def shifts_text(cells: Iterable[Union[Cell, ShownCell]], away: str = OFF) -> str:
+    """A nurse's day in words: her shift types and skills, or, if she has none, why she is away or that she is off."""
+    return " and ".join(f"{cell.shift} {cell.skill}" for cell in cells) or away
+
+
+def change_text(who: str, now: str, before: str) -> str:
+    """That a nurse's day is another one in a new roster."""
+    return f"{who}: {now} instead of {before}"
 
 
 class Change(NamedTuple):
@@ -24,32 +41,48 @@ class Change(NamedTuple):
 
 def changes(old: RosterView, new: RosterView) -> List[Change]:
     """The days of nurses that differ, in the order of weeks, days and nurses."""
-    found = []
+    differing = []
     for week in range(len(new.weeks)):
-        for day in range(7):
+        for day in range(WEEK_DAYS):
             for nurse in dict.fromkeys([*new.nurses, *old.nurses]):
                 before, now = old.cells(week, nurse, day), new.cells(week, nurse, day)
                 if {cell[:2] for cell in before} != {cell[:2] for cell in now}:
                     texts = (_day_text(view, week, nurse, day) for view in (old, new))
-                    found.append(Change(week, nurse, day, before, now, *texts))
-    return found
-
-
-def cells_text(cells: Sequence[ShownCell]) -> str:
-    """The shift types and skills of a nurse's day."""
-    return " and ".join(f"{cell.shift} {cell.skill}" for cell in cells) or "off"
+                    differing.append(Change(week, nurse, day, before, now, *texts))
+    return differing
 
 
 def _day_text(view: RosterView, week: int, nurse: str, day: int) -> str:
-    cells = view.cells(week, nurse, day)
-    return view.reason(week, nurse, day) if not cells and view.is_away(week, nurse, day) else cells_text(cells)
+    return shifts_text(view.cells(week, nurse, day), view.reason(week, nurse, day) if view.is_away(week, nurse, day) else OFF)
 
 
 def changed_lines(old: RosterView, new: RosterView) -> Iterator[str]:
     """A line for each change."""
     for change in changes(old, new):
         week = new.prefix(new.weeks[change.week])
-        yield f"{week}{change.nurse} {DAYS[change.day]}: {change.now_text} instead of {change.before_text}"
+        yield change_text(f"{week}{change.nurse} {DAYS[change.day]}", change.now_text, change.before_text)
+
+
+# ---- charges
+
+
+class Charged(NamedTuple):
+    """What a charge costs, and the charge in words."""
+
+    cost: int
+    words: str
+
+
+def charge_lines(old: Sequence[Charged], new: Sequence[Charged]) -> Iterator[str]:
+    """A line for each charge that only the old roster has, which is saved, and then for each that only the new one has."""
+    before, now = collections.Counter(old), collections.Counter(new)
+    yield from (f"{-charge.cost:+5}  {charge.words}" for charge in (before - now).elements())
+    yield from (f"{charge.cost:+5}  {charge.words}" for charge in (now - before).elements())
+
+
+def sum_text(before: int, now: int, words: str) -> str:
+    """What two rosters differ in all."""
+    return f"{now - before:+5}  in all{words}"
 
 
 # ---- swaps

@@ -5,9 +5,9 @@ from typing import Dict, Iterator, List, Optional
 from ..judging.rules import Charge, cost_by_rule
 from ..week.dates import date_text
 from ..week.soft_rules import RULES
-from ..week.words import plural
+from ..week.words import plural, readable, wish_text
 from .markup import Markup, element, joined
-from .page_tables import Content, RosterTable, column, coverage_tables, first, plain, sums_table, table, totals_table
+from .page_tables import Content, RosterTable, column, coverage_tables, first, sums_table, table, totals_table
 from .roster_text import COLORS, ink_on
 from .totals import Wish, totals
 from .why import breach_lines, costs_text, in_words, plain_breach_lines
@@ -88,11 +88,11 @@ def title(page: Content) -> str:
     """The ward and its weeks, with their dates if they are known."""
     view = page.view
     if page.monday is None:
-        return f"{plain(page.name or view.name)}, {view.weeks_text}"
+        return f"{readable(page.name or view.name)}, {view.weeks_text}"
     last = page.monday + (7 * len(view.weeks) - 1) * (page.monday.resolution)
     year = f" {page.monday.year}" if page.monday.year != last.year else ""
     number = f" (calendar week {last.isocalendar()[1]})" if len(view.weeks) == 1 else ""
-    return f"{plain(page.name or view.name)}, {date_text(page.monday)}{year} to {date_text(last)} {last.year}{number}"
+    return f"{readable(page.name or view.name)}, {date_text(page.monday)}{year} to {date_text(last)} {last.year}{number}"
 
 
 def _summary(page: Content) -> Iterator[str]:
@@ -128,7 +128,7 @@ def section(heading: str, *inside: str, class_: Optional[str] = None) -> Markup:
 
 def _charge(page: Content, week: int, charge: Charge) -> Markup:
     prefix = "" if page.monday else page.view.prefix(page.view.weeks[week])
-    words = plain(f"{prefix}{in_words(charge, False, page.days(week))}")
+    words = readable(f"{prefix}{in_words(charge, False, page.days(week))}")
     return element("li", f"{charge.cost} ({charge.rule}) {words}")
 
 
@@ -148,10 +148,10 @@ def charges_section(page: Content) -> Markup:
         for charge in week.charges or ():
             charged.setdefault(charge.nurse, []).append(charge)
             items.setdefault(charge.nurse, []).append(_charge(page, index, charge))
-    folds = [_foldable(plain(nurse), charged[nurse], items[nurse]) for nurse in view.nurses if nurse in charged]
+    folds = [_foldable(readable(nurse), charged[nurse], items[nurse]) for nurse in view.nurses if nurse in charged]
     if None in charged:
         folds.append(_foldable("Places with fewer nurses than best", charged[None], items[None]))
-    free = [plain(nurse) for nurse in view.nurses if nurse not in charged]
+    free = [readable(nurse) for nurse in view.nurses if nurse not in charged]
     rules = sorted({charge.rule for of_nurse in charged.values() for charge in of_nurse})
     lines = [element("p", line) for line in view.without_costs()]
     if free and view.has_costs:
@@ -190,8 +190,7 @@ def page_text(page: Content) -> str:
 
 
 def _wish(page: Content, wish: Wish) -> str:
-    asked = f"no {plain(wish.request.shift)}" if wish.request.shift else "off"
-    return f"{page.days(wish.week)[wish.request.day]} {asked}"
+    return f"{page.days(wish.week)[wish.request.day]} {wish_text(wish.request.shift)}"
 
 
 def wishes_table(page: Content) -> Optional[Markup]:
@@ -200,7 +199,7 @@ def wishes_table(page: Content) -> Optional[Markup]:
     for nurse, total in (totals(page.view) or {}).items():
         if total.wishes:
             texts = [", ".join(_wish(page, wish) for wish in total.wishes if wish.granted == granted) for granted in (True, False)]
-            rows.append([first(plain(nurse)), *(element("td", text) for text in texts)])
+            rows.append([first(readable(nurse)), *(element("td", text) for text in texts)])
     return table("Wishes", [joined(*map(column, ("nurse", "granted", "missed")))], rows, "words") if rows else None
 
 
@@ -208,7 +207,7 @@ def changes_table(page: Content) -> Optional[Markup]:
     """The changes since the older roster."""
     rows = []
     for change in page.changes:
-        texts = page.days(change.week)[change.day], plain(change.before_text), plain(change.now_text)
-        rows.append([first(plain(change.nurse)), *(element("td", text) for text in texts)])
+        texts = page.days(change.week)[change.day], readable(change.before_text), readable(change.now_text)
+        rows.append([first(readable(change.nurse)), *(element("td", text) for text in texts)])
     heads = joined(*map(column, ("nurse", "day", "before", "now")))
     return table(f"{len(rows)} changes since {page.since}", [heads], rows, "words") if rows else None

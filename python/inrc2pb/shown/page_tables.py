@@ -6,7 +6,8 @@ from typing import Callable, Collection, Dict, Iterator, List, Mapping, Optional
 
 from ..week.dates import DAY, Times, day_names
 from ..week.records import DAYS
-from .changes import Change, cells_text, changes
+from ..week.words import OFF, readable
+from .changes import Change, changes, shifts_text
 from .markup import Markup, element, hidden, joined, shown
 from .roster_text import COLORS, cuts
 from .roster_view import AWAY, MEANINGS, Covered, RosterView, ShownCell, coverage
@@ -18,7 +19,7 @@ WEEKS_OF_ROSTER, WEEKS_OF_COVERAGE = 4, 2
 MOST_ROOMY = 25
 CHANGED = "\u0394"
 # The reasons for days off that are none to be away: those on which a nurse never works, and promised ones.
-_DAYS_OFF = ("off", "promised")
+_DAYS_OFF = (OFF, "promised")
 WEEKENDS = "WE"
 # The short heads of sums on a wall, and what they mean.
 SUM_HEADS = {"shifts": "\u03a3", "hours": "h", "nights": "N", "weekends": WEEKENDS, "wishes granted": "W"}
@@ -32,11 +33,6 @@ MEANINGS_OF_SUMS = {
 HOLIDAY, HOLIDAY_MEANING = "\u2022", "other numbers of nurses are needed, as on a bank holiday"
 SWAPPED, SWAPPED_MEANING = "\u21c4", "a swap that was written"
 MINUS = "\u2212"
-
-
-def plain(name: str) -> str:
-    """A name with blanks, which files cannot have."""
-    return name.replace("_", " ")
 
 
 @dataclass(frozen=True)
@@ -188,7 +184,7 @@ class RosterTable:
         weekends."""
         if self.page.sums:
             return [SUM_HEADS[head] for head in sum_heads(bool(self.page.times))]
-        return [*(plain(shift) if self.single else self.short[shift] for shift in self.view.shifts), WEEKENDS]
+        return [*(readable(shift) if self.single else self.short[shift] for shift in self.view.shifts), WEEKENDS]
 
     def _counts(self) -> Mapping[str, Sequence[str]]:
         """The sums of each nurse."""
@@ -199,8 +195,8 @@ class RosterTable:
     def _name(self, nurse: str, week: int) -> Markup:
         """The head of a nurse's row. By keyboard one goes from name to name, and not from cell to cell."""
         if not self.page.link:
-            return first(plain(nurse))
-        return element("th", element("a", plain(nurse), href=self.page.link(week, nurse, 0)), scope="row")
+            return first(readable(nurse))
+        return element("th", element("a", readable(nurse), href=self.page.link(week, nurse, 0)), scope="row")
 
     def _cell(self, week: int, nurse: str, day: int) -> Markup:
         cells = self.view.cells(week, nurse, day)
@@ -213,22 +209,22 @@ class RosterTable:
                 why = "" if why in _DAYS_OFF else "away"
             parts.append(element("span", why, class_="away"))
         elif not cells and change:
-            parts.append(element("span", "off", class_="away"))
+            parts.append(element("span", OFF, class_="away"))
         if change:
-            before = cells_text(change.before) if self.page.only_table else change.before_text
-            older = f" {self.page.changed}, instead of {plain(before)}"
+            before = shifts_text(change.before) if self.page.only_table else change.before_text
+            older = f" {self.page.changed}, instead of {readable(before)}"
             parts.append(joined(shown(CHANGED, class_="mark"), hidden(older)))
         if self.page.is_swapped(week, nurse, day):
             parts.append(joined(shown(SWAPPED, class_="mark"), hidden(f", {SWAPPED_MEANING}")))
         number = self.view.shifts.index(cells[0].shift) % len(COLORS) if cells else None
         kinds = [_weekend(day), f"s{number}" if cells else None, "changed" if change else None]
         if self.page.link:
-            named = hidden(f"{plain(nurse)}, {self.page.days(week)[day]}: ")
+            named = hidden(f"{readable(nurse)}, {self.page.days(week)[day]}: ")
             parts = [element("a", named, *(parts or [shown("\u00b7")]), href=self.page.link(week, nurse, day), tabindex="-1")]
         return element("td", *parts, class_=" ".join(kind for kind in kinds if kind) or None)
 
     def _shift(self, cell: ShownCell) -> Markup:
-        shift, skill = plain(cell.shift), plain(cell.skill)
+        shift, skill = readable(cell.shift), readable(cell.skill)
         marks = [joined(shown(mark, class_="mark"), hidden(f", {MEANINGS[mark]}")) for mark in self.page.marks(cell.marks)]
         if self.single:
             return joined(element("b", shift), " ", element("small", skill), *marks)
@@ -244,9 +240,9 @@ class RosterTable:
             short = "" if self.single or self.short[shift] == shift else f"{self.short[shift]} = "
             times = f", {self.page.times[shift]}" if shift in self.page.times else ""
             if short or times:
-                lines.append(f"{short}{plain(shift)}{times}")
+                lines.append(f"{short}{readable(shift)}{times}")
         if not self.single and len(self.skills) > 1:
-            lines += [f"{short} = {plain(skill)}" for skill, short in self.skills.items() if short != skill]
+            lines += [f"{short} = {readable(skill)}" for skill, short in self.skills.items() if short != skill]
         marks = {mark for week in self.view.weeks for row in week.cells for mark in self.page.marks(week.marks(row))}
         meanings = {**MEANINGS, CHANGED: self.page.changed}
         lines += [f"{mark} = {meaning}" for mark, meaning in meanings.items() if mark in marks or mark == CHANGED and self.changed]
@@ -279,7 +275,7 @@ def totals_table(page: Content) -> Optional[Markup]:
         return None
     is_last = any(week.week and week.week.is_last for week in view.weeks[-1:])
     some_away = any(total.away for total in found.values())
-    heads = ["nurse", "shifts", *(["of them for days away"] if some_away else []), "contract", "difference", *map(plain, view.shifts)]
+    heads = ["nurse", "shifts", *(["of them for days away"] if some_away else []), "contract", "difference", *map(readable, view.shifts)]
     heads += ["weekends", "at most", "wishes", "granted", "missed"]
     rows = []
     for nurse, total in found.items():
@@ -295,7 +291,7 @@ def totals_table(page: Content) -> Optional[Markup]:
         numbers += [str(len(total.wishes)), str(total.granted), str(len(total.wishes) - total.granted)]
         if view.has_costs:
             numbers.append(str(sum(view.costs[nurse].values())))
-        rows.append([first(plain(nurse)), *(element("td", number) for number in numbers)])
+        rows.append([first(readable(nurse)), *(element("td", number) for number in numbers)])
     head = joined(*map(column, [*heads, *(["cost"] if view.has_costs else [])]))
     caption = "Totals: shifts and weekends in the period until now, shifts of each type and wishes in these weeks"
     return table(caption, [head], rows, "totals")
@@ -311,7 +307,7 @@ def sums_table(page: Content) -> Optional[Markup]:
     above = joined(element("td"), *(element("th", name, scope="colgroup", colspan=str(len(heads))) for name in names))
     head = joined(column("nurse"), *(column(name) for _ in groups for name in heads))
     numbers = {nurse: [number for sums in groups for number in sums.get(nurse, Sums()).texts(has_times)] for nurse in page.view.nurses}
-    rows = [[first(plain(nurse)), *(element("td", number) for number in own)] for nurse, own in numbers.items()]
+    rows = [[first(readable(nurse)), *(element("td", number) for number in own)] for nurse, own in numbers.items()]
     return table("Shifts, nights, weekends and wishes of each nurse", [above, head], rows, "totals")
 
 
@@ -346,7 +342,7 @@ def coverage_tables(page: Content) -> Iterator[Markup]:
             for shift, skill, days in known[week] or ():
                 places.setdefault((shift, skill), {})[week] = days
         rows = [
-            [first(plain(f"{shift} {skill}"))]
+            [first(readable(f"{shift} {skill}"))]
             + [_covered(place, day) for week in weeks for day, place in enumerate(covered.get(week, [Covered(0, 0, 0)] * 7))]
             for (shift, skill), covered in places.items()
         ]

@@ -1,7 +1,6 @@
 """Why rosters cost what they cost: each charge and each broken rule in words, and the charges that a change saves or adds."""
 
-import collections
-from typing import Dict, Iterable, Iterator, List, Sequence, Tuple, TypeVar
+from typing import Dict, Iterator, List, Sequence, Tuple
 
 from ..judging.absences import MARK
 from ..judging.limits import limits_in_words
@@ -9,7 +8,7 @@ from ..judging.rules import Charge, cost_by_rule
 from ..week.records import DAYS
 from ..week.soft_rules import RULES, SOFT_RULES, Form
 from ..week.words import plural
-from .changes import changed_lines
+from .changes import Charged, changed_lines, charge_lines, sum_text
 from .roster_view import RosterView
 
 
@@ -52,14 +51,16 @@ def change_lines(old: RosterView, new: RosterView) -> Iterator[str]:
     yield from breach_lines(new, "new roster")
     if old.penalty is None or new.penalty is None:
         return
-    saved, added = difference(_charges(old), _charges(new))
-    for sign, charged in (("-", saved), ("+", added)):
-        for week, charge in charged:
-            yield f"{sign + str(charge.cost):>5}  {charge.rule}  {week}{in_words(charge)}"
+    yield from charge_lines(*(_charged(view) for view in (old, new)))
     before, now = (cost_by_rule(charge for _, charge in _charges(view)) for view in (old, new))
     by_rule = [f"{rule} {now[rule] - before[rule]:+}" for rule in SOFT_RULES if now[rule] != before[rule]]
     rules = f": {' '.join(by_rule)}" if by_rule else ""
-    yield f"{new.penalty - old.penalty:+5}  in all{rules}; penalty {new.penalty} instead of {old.penalty}"
+    yield sum_text(old.penalty, new.penalty, f"{rules}; penalty {new.penalty} instead of {old.penalty}")
+
+
+def _charged(view: RosterView) -> List[Charged]:
+    """The cost of each charge, and its rule and the charge in words."""
+    return [Charged(charge.cost, f"{charge.rule}  {week}{in_words(charge)}") for week, charge in _charges(view)]
 
 
 def days_text(days: Tuple[int, int], names: Sequence[str] = DAYS) -> str:
@@ -118,12 +119,3 @@ def in_words(charge: Charge, with_nurse: bool = True, names: Sequence[str] = DAY
 def costs_text(costs: Dict[str, int]) -> str:
     """The rules and what they charge, as `S2 30 + S4 10`."""
     return " + ".join(f"{rule} {cost}" for rule, cost in costs.items() if cost)
-
-
-T = TypeVar("T")
-
-
-def difference(old: Iterable[T], new: Iterable[T]) -> Tuple[List[T], List[T]]:
-    """Those that only the old ones have, and those that only the new ones have."""
-    before, now = collections.Counter(old), collections.Counter(new)
-    return list((before - now).elements()), list((now - before).elements())

@@ -1,11 +1,19 @@
 """Names, numbers and lists as people read them in a sentence."""
 
-from typing import Iterable
+from typing import Iterable, Optional
+
+# The word for a nurse's day without a shift.
+OFF = "off"
 
 
 def readable(name: str) -> str:
     """A name as it was in a spreadsheet, with blanks."""
     return name.replace("_", " ")
+
+
+def wish_text(shift: Optional[str]) -> str:
+    """What a nurse has asked for: to be off, or not to work this shift type."""
+    return f"no {readable(shift)}" if shift else OFF
 
 
 def joined(words: Iterable[str]) -> str:

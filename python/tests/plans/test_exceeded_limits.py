@@ -13,8 +13,9 @@ from inrc2pb.commands.plan import read_sheet
 from inrc2pb.plans.events import absence, set_day
 from inrc2pb.plans.facts import newly_exceeded, unkept
 from inrc2pb.plans.outcome import Event
-from inrc2pb.plans.sentences import days_away_lines, exceeded_lines, fault_text, unkept_lines
+from inrc2pb.plans.sentences import days_away_lines, exceeded_lines, unkept_lines
 from inrc2pb.plans.state import NurseDay, lost_shifts, read_record, read_state, record_text
+from inrc2pb.plans.swap_sentences import fault_text
 from inrc2pb.plans.swaps import Swap, Swaps
 from inrc2pb.plans.ward import continued, limits_of, plan_of
 

@@ -15,7 +15,7 @@ from inrc2pb.judging.rules import Charge
 from inrc2pb.plans import pages, store
 from inrc2pb.plans.changes import days_off_beside_absences, shift_changes, with_few_changes, without_needless_changes
 from inrc2pb.plans.facts import unkept
-from inrc2pb.plans.render import bound_text, part_lines
+from inrc2pb.plans.search_sentences import bound_text, part_lines
 from inrc2pb.plans.searching import known_bound
 from inrc2pb.plans.sentences import beside_lines, call_lines, change_lines, due_lines, unkept_lines, wish_lines
 from inrc2pb.plans.state import DayWord, Record, read_record, read_state, record_text

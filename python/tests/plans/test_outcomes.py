@@ -1,5 +1,6 @@
 """Tests of events and outcomes as values: what a question shows is not written, and no status is read from words."""
 
+import contextlib
 import unittest
 from test_kept_plans import KeptTest
 from test_plans import DATES
@@ -8,7 +9,7 @@ from unittest import mock
 from inrc2pb.commands.plan import read_sheet
 from inrc2pb.judging.leave import credited
 from inrc2pb.judging.limits import read_given
-from inrc2pb.plans import render, sentences
+from inrc2pb.plans import pages, render, search_sentences, sentences, swap_sentences, verbs
 from inrc2pb.plans.outcome import Away, Checked, Event, Offers, Published, Status, Swapped, Undone, WeekOver
 from inrc2pb.plans.state import BACK, DayWord
 from inrc2pb.plans.store import Means, WardFolder
@@ -127,10 +128,11 @@ class Outcomes(KeptTest):
         self.write()
         events = (Event("check"), Event("swap", ("Dilek", "Mon", "Finn"), do=True), Event("over"), Event("page"), Event("undo"))
         statuses = [Status.NOT_KEPT, Status.NOT_KEPT, Status.DONE, Status.DONE, Status.DONE]
-        silent = {name: mock.Mock(return_value=[]) for name in dir(sentences) if name.endswith("_lines")}
-        with mock.patch.multiple(sentences, **silent), mock.patch.multiple(
-            render, **{name: one for name, one in silent.items() if hasattr(render, name)}
-        ):
+        with contextlib.ExitStack() as silent:
+            for module in (sentences, search_sentences, swap_sentences, render, pages, verbs):
+                for name in dir(module):
+                    if name.endswith("_lines"):
+                        silent.enter_context(mock.patch.object(module, name, return_value=[]))
             self.assertEqual([self.verbs.done(event).status for event in events], statuses)
 
     def test_the_status_of_check(self):
