@@ -69,7 +69,7 @@ def judged(answer: Answered, known: Known) -> Verdict:
     if answer.fault:
         return Verdict(Kind.LIE, answer.fault)
     if answer.said is not None and answer.said != answer.objective:
-        return Verdict(Kind.LIE, f"it says that its answer costs {answer.said}, which costs {answer.objective}")
+        return Verdict(Kind.LIE, f"it says that its answer costs {answer.said}, but it costs {answer.objective}")
     if answer.status == NONE:
         return _judged_none(known)
     if answer.objective is None or answer.penalty is None:

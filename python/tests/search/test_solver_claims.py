@@ -42,7 +42,7 @@ class Verdicts(unittest.TestCase):
     def test_lies_and_answers_without_a_claim(self):
         for answer, kind, why in (
             (Answered(fault="constraint 5 is not satisfied"), Kind.LIE, "constraint 5 is not satisfied"),
-            (Answered("OPTIMUM FOUND", 20, 20, 10), Kind.LIE, "it says that its answer costs 10, which costs 20"),
+            (Answered("OPTIMUM FOUND", 20, 20, 10), Kind.LIE, "it says that its answer costs 10, but it costs 20"),
             (Answered("UNKNOWN"), Kind.SILENT, "UNKNOWN"),
             (Answered("SATISFIABLE", 20, 20, 20), Kind.OPEN, "gap 0: its roster costs 20, and the lower bound is 20"),
             (Answered("SATISFIABLE", 90, 30), Kind.OPEN, "gap 10: its roster costs 30, its assignment 90, and the lower bound is 20"),
@@ -78,7 +78,7 @@ class Referees(HelperTest):
             "confirmed: no roster costs less than 20",
             "open: gap 90: its roster costs 110, and the lower bound is 20",
             f"refuted: it claims that no roster costs less than 110, and {target} costs 20",
-            "lie: it says that its answer costs 1, which costs 110",
+            "lie: it says that its answer costs 1, but it costs 110",
             # The unit variable, which is not true in this answer, is the first constraint.
             "lie: constraint 1 is not satisfied",
             "lie: answer: bad literal",
@@ -208,7 +208,7 @@ class OwnSolvers(HelperTest):
     def test_a_number_that_the_answer_does_not_cost(self):
         status, report, said = self.solve(re.sub("^o 20$", "o 10", self.answer(ROSTER, "SATISFIABLE"), flags=re.MULTILINE))
         self.assertEqual(status, 0, said)
-        self.assertEqual(report.splitlines()[-1], "the solver mine is wrong: it says that its answer costs 10, which costs 20")
+        self.assertEqual(report.splitlines()[-1], "the solver mine is wrong: it says that its answer costs 10, but it costs 20")
 
     @unittest.skipUnless(HAS_CBC and find_prover(), "needs cbc and inrc2pb-bound")
     def test_a_proof_that_no_roster_exists(self):
