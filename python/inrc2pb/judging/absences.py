@@ -85,7 +85,9 @@ NO_SKILL = "give someone who is away for the whole week no skill, in a copy of t
 
 def with_requests(scenario: Scenario, data: WeekData, added: Iterable[Absence]) -> Written:
     """The week with these absences as requests too: all of them have the same number of requests."""
-    away = sorted({*absences_of(data), *added}, key=lambda one: (list(scenario.nurses).index(one.nurse), one.day, one.shift or ""))
+    away = sorted(
+        {*absences_of(data), *added}, key=lambda absence: (list(scenario.nurses).index(absence.nurse), absence.day, absence.shift or "")
+    )
     wishes = [request for request in wishes_of(data) if _asked(request) not in away]
     times = min(MOST_REQUESTS, min(ROWS, MAX_NUMBER - len(wishes)) // max(1, len(away)))
     if times < MARK:
@@ -93,5 +95,5 @@ def with_requests(scenario: Scenario, data: WeekData, added: Iterable[Absence]) 
             f"{plural(len(away), 'absence')} with {MARK} requests each and {plural(len(wishes), 'other request')} need more than the "
             f"{MAX_NUMBER} requests of a week's file"
         )
-    rows = [Request(one.nurse, one.shift, one.day) for one in away for _ in range(times)]
+    rows = [Request(absence.nurse, absence.shift, absence.day) for absence in away for _ in range(times)]
     return Written(replace(data, requests=(*wishes, *rows)), times)

@@ -71,11 +71,11 @@ def held_breaches(cells: Iterable[Cell], held: Iterable[Cell]) -> Iterator[Breac
 def breaches(week: Week, cells: Sequence[Cell], held: Iterable[Cell] = ()) -> List[Breach]:
     """Everything by which the roster breaks hard rules, in the order of the rules."""
     shifts: Shifts = {(past.nurse, -1): [past.last_shift] for past in week.history.nurses.values() if past.last_shift is not None}
-    found = [*minimum_breaches(week, cells), *held_breaches(cells, held)]
+    broken = [*minimum_breaches(week, cells), *held_breaches(cells, held)]
     for cell in cells:
-        found += breaches_by(cell, shifts, week.scenario)
+        broken += breaches_by(cell, shifts, week.scenario)
         shifts.setdefault((cell.nurse, cell.day), []).append(cell.shift)
-    return sorted(found, key=lambda breach: breach.rule)
+    return sorted(broken, key=lambda breach: breach.rule)
 
 
 class Misfit(NamedTuple):
@@ -108,8 +108,8 @@ def other_week(path: Path, scenario: Scenario, history: Optional[History], text:
 
 def _hint(path: Path, scenario: Scenario, history: Optional[History]) -> str:
     """The same as the end of a fault."""
-    found = other_week(path, scenario, history)
-    return f"; {found}" if found else ""
+    other = other_week(path, scenario, history)
+    return f"; {other}" if other else ""
 
 
 def read_roster(path: Path, scenario: Scenario, history: Optional[History]) -> Solution:
@@ -137,9 +137,9 @@ def read_held(path: Path, scenario: Scenario, history: Optional[History], warn: 
     misfit = next(misfits(path, solution, scenario, history), None)
     if misfit:
         raise FileFault(path, misfit.line, f"{misfit.reason}: no roster can have this row{_hint(path, scenario, history)}")
-    found = other_week(path, scenario, history)
-    if found:
-        warn(found)
+    hint = other_week(path, scenario, history)
+    if hint:
+        warn(hint)
     return solution
 
 
@@ -149,13 +149,13 @@ def explained(fault: ProgramFault, path: Path, week: Week, held: Iterable[Cell])
     if not rule:
         return fault
     solution = read_roster(path, week.scenario, week.history)
-    found = next(_misfits_of(rule.group(1), path, solution, week, held), None)
-    reason = f"{rule.group()}{f': {found.reason}' if found else ''}"
-    return ProgramFault(fault.status, str(FileFault(path, found.line if found else 0, reason)))
+    misfit = next(_misfits_of(rule.group(1), path, solution, week, held), None)
+    reason = f"{rule.group()}{f': {misfit.reason}' if misfit else ''}"
+    return ProgramFault(fault.status, str(FileFault(path, misfit.line if misfit else 0, reason)))
 
 
 def _misfits_of(rule: str, path: Path, solution: Solution, week: Week, held: Iterable[Cell]) -> Iterator[Misfit]:
-    yield from (found for found in misfits(path, solution, week.scenario, week.history) if found.rule == rule)
+    yield from (misfit for misfit in misfits(path, solution, week.scenario, week.history) if misfit.rule == rule)
     if rule == "H2":
         yield from (Misfit(rule, 0, breach.reason) for breach in minimum_breaches(week, solution.cells))
     if rule == "H5":

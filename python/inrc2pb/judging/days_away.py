@@ -16,7 +16,7 @@ class DaysAway(NamedTuple):
 
     def of(self, nurse: str) -> "DaysAway":
         """Those of one nurse."""
-        training, free = (frozenset(one for one in days if one[0] == nurse) for days in (self.training, self.free))
+        training, free = (frozenset(place for place in days if place[0] == nurse) for days in (self.training, self.free))
         return self._replace(training=training, free=free)
 
 

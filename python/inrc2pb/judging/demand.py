@@ -24,15 +24,15 @@ class _Short(NamedTuple):
 
 def demand_warnings(scenario: Scenario, history: Optional[History], data: WeekData, paid: Paid = ()) -> Iterator[Warned]:
     """Warnings of days for which no choice of nurses fills all minimum numbers, and of more shifts than the contracts supply."""
-    found: Dict[Warned, List[str]] = {}
+    days_of: Dict[Warned, List[str]] = {}
     for day, name in enumerate(DAYS):
         always, there = _shortage(scenario, history, data, day, ()), _shortage(scenario, history, data, day, absences_of(data))
         if always:
-            found.setdefault(Warned(f"{always.text}: {IMPOSSIBLE}: {always.cure}", Reach.NONE), []).append(name)
+            days_of.setdefault(Warned(f"{always.text}: {IMPOSSIBLE}: {always.cure}", Reach.NONE), []).append(name)
         elif there:
             unkept = f"{there.text}: no roster that keeps every absence can meet it: {there.cure}, or shorten an absence"
-            found.setdefault(Warned(unkept, Reach.NOT_ALL), []).append(name)
-    for warned, days in found.items():
+            days_of.setdefault(Warned(unkept, Reach.NOT_ALL), []).append(name)
+    for warned, days in days_of.items():
         yield Warned(f"{joined(days)}: {warned}", warned.reach)
     asked, supplied = asked_shifts(data), supplied_shifts(scenario, history, paid)
     if asked[0] > supplied[1]:
@@ -42,7 +42,9 @@ def demand_warnings(scenario: Scenario, history: Optional[History], data: WeekDa
 
 def asked_shifts(data: WeekData) -> Tuple[int, int]:
     """The minimum and the best number of shifts of the week."""
-    return sum(one.minimum for one in data.requirements.values()), sum(max(one.minimum, one.optimal) for one in data.requirements.values())
+    return sum(needed.minimum for needed in data.requirements.values()), sum(
+        max(needed.minimum, needed.optimal) for needed in data.requirements.values()
+    )
 
 
 def supplied_shifts(scenario: Scenario, history: Optional[History], paid: Paid = ()) -> Tuple[int, int]:

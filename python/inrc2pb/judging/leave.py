@@ -32,11 +32,11 @@ class Counted(NamedTuple):
 
     def of_week(self, number: int) -> Dict[str, Fraction]:
         """The shifts of each nurse's days away in a week, counted from 0."""
-        found: Dict[str, Fraction] = {}
+        sums: Dict[str, Fraction] = {}
         for (nurse, day), shifts in self.days.items():
             if day // WEEK_DAYS == number:
-                found[nurse] = found.get(nurse, Fraction(0)) + shifts
-        return found
+                sums[nurse] = sums.get(nurse, Fraction(0)) + shifts
+        return sums
 
 
 def counted(scenario: Scenario, reasons: Mapping[NurseDay, str], words: Collection[str], lost: Mapping[NurseDay, int] = {}) -> Counted:
@@ -51,13 +51,13 @@ def counted(scenario: Scenario, reasons: Mapping[NurseDay, str], words: Collecti
     return Counted(days, shifts, weekends)
 
 
-def _shifts_of(scenario: Scenario, reasons: Mapping[NurseDay, str], one: NurseDay, lost: Mapping[NurseDay, int]) -> Fraction:
+def _shifts_of(scenario: Scenario, reasons: Mapping[NurseDay, str], place: NurseDay, lost: Mapping[NurseDay, int]) -> Fraction:
     """The shifts as which a day away counts."""
-    (nurse, day), word = one, reasons[one]
+    (nurse, day), word = place, reasons[place]
     if word == TRAINING:
         return Fraction(1)
-    if word == ILL and one in lost:
-        return Fraction(lost[one])
+    if word == ILL and place in lost:
+        return Fraction(lost[place])
     saturday = day - day % WEEK_DAYS + SATURDAY
     beside = (nurse, saturday - 1) in reasons or (nurse, saturday + 2) in reasons
     return Fraction(0) if day >= saturday and beside else _shifts_of_weekday(scenario, nurse)
@@ -76,15 +76,15 @@ def credit_line(nurse: str, days: int, shifts: int, file: str) -> str:
     return f"{readable(nurse)}: {plural(days, 'day')} away {'counts' if days == 1 else 'count'} as {plural(shifts, 'shift')} in {file}"
 
 
-def credited(history: History, found: Counted) -> History:
+def credited(history: History, days_away: Counted) -> History:
     """The history with the shifts and weekends as which days away count."""
     nurses = dict(history.nurses)
-    for nurse, shifts in found.shifts.items():
+    for nurse, shifts in days_away.shifts.items():
         past = nurses[nurse]
         total = past.assignments + shifts
         if total > MAX_NUMBER:
             raise Misuse(f"{nurse} would have more than {MAX_NUMBER} assignments: correct her history")
-        weekends = min(MAX_NUMBER, past.weekends + found.weekends.get(nurse, 0))
+        weekends = min(MAX_NUMBER, past.weekends + days_away.weekends.get(nurse, 0))
         nurses[nurse] = replace(past, assignments=total, weekends=weekends)
     return replace(history, nurses=nurses)
 
@@ -107,7 +107,7 @@ class PartContract(NamedTuple):
 
 def part_contract(name: str, contracts: Iterable[str]) -> Optional[PartContract]:
     """What the name of a contract says, if it is a part of another one of these."""
-    found = _NAME.fullmatch(name)
-    if not found or found[1] == name or found[1] not in contracts:
+    match = _NAME.fullmatch(name)
+    if not match or match[1] == name or match[1] not in contracts:
         return None
-    return PartContract(found[1], int(found[2] or 0), int(found[3] or 0), bool(found[4]))
+    return PartContract(match[1], int(match[2] or 0), int(match[3] or 0), bool(match[4]))

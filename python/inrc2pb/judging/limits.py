@@ -19,14 +19,14 @@ _KINDS = {("S2", "work above"): WORK_DAYS, ("S6", "above"): SHIFTS, ("S7", "abov
 def exceeded(week: Week, limits: Collection[KeptLimit], cells: Sequence[Cell]) -> List[Charge]:
     """What the roster of this week has above the limits; totals count from the first one above."""
     most = {(limit.nurse, limit.kind): limit.most for limit in limits}
-    found: List[Charge] = []
+    charges_above: List[Charge] = []
     for charge in charges(week, cells, early=True) if limits else ():
         key = charge.nurse or "", _KINDS.get((charge.rule, charge.what), "")
         if key in most:
             times = charge.times if key[1] == WORK_DAYS else charge.number - max(charge.limit + most[key], charge.before)
             if times > 0:
-                found.append(charge._replace(times=times))
-    return found
+                charges_above.append(charge._replace(times=times))
+    return charges_above
 
 
 def excess(charged: Iterable[Charge]) -> int:

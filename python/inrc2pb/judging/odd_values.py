@@ -29,9 +29,9 @@ class Warned(str):
 
     def __new__(cls, text: str, reach: Reach = Reach.ALL) -> "Warned":
         """The warning with this text."""
-        found = super().__new__(cls, text)
-        found.reach = reach
-        return found
+        warned = super().__new__(cls, text)
+        warned.reach = reach
+        return warned
 
 
 def reach_of(warnings: Iterable[Warned]) -> Reach:
@@ -117,12 +117,12 @@ def _totals(past: NurseHistory, week: int, leave: int) -> Iterator[str]:
 def week_warnings(scenario: Scenario, data: WeekData) -> Iterator[Warned]:
     """Warnings of a week's requirements."""
     have = {skill: sum(skill in nurse.skills for nurse in scenario.nurses.values()) for skill in scenario.skills}
-    found: Dict[Tuple[str, Warned], List[str]] = {}
+    days_of: Dict[Tuple[str, Warned], List[str]] = {}
     for place, required in data.requirements.items():
         warned = _odd_number(required, have[place.skill])
         if warned:
-            found.setdefault((f"{place.shift} {place.skill}", warned), []).append(DAYS[place.day])
-    for (row, warned), days in found.items():
+            days_of.setdefault((f"{place.shift} {place.skill}", warned), []).append(DAYS[place.day])
+    for (row, warned), days in days_of.items():
         yield Warned(f"{row} on {', '.join(days)}: {warned}", warned.reach)
     yield from map(Warned, _unasked(scenario, data))
 

@@ -107,11 +107,11 @@ def run_charges(base: Charge, has: Sequence[bool], before: int, limits: Limits) 
         # A run that goes on after Sunday may still grow.
         below = minimum - length if 0 < length and day < 7 else 0
         if above > 0 or below > 0:
-            found = base._replace(days=(first, day - 1) if first < day else None, number=length, before=before)
+            run = base._replace(days=(first, day - 1) if first < day else None, number=length, before=before)
             if above > 0:
-                yield found._replace(what=f"{base.what} above", limit=maximum, times=above)
+                yield run._replace(what=f"{base.what} above", limit=maximum, times=above)
             if below > 0:
-                yield found._replace(what=f"{base.what} below", limit=minimum, times=below)
+                yield run._replace(what=f"{base.what} below", limit=minimum, times=below)
         first, before = day + 1, 0
 
 
@@ -138,10 +138,10 @@ def charges(week: Week, roster: Sequence[Cell], early: bool = False) -> Iterator
 
 def requests_by_nurse(week: Week) -> Dict[str, List[Request]]:
     """The requests of each nurse."""
-    found: Dict[str, List[Request]] = {nurse: [] for nurse in week.scenario.nurses}
+    requests: Dict[str, List[Request]] = {nurse: [] for nurse in week.scenario.nurses}
     for request in week.data.requests:
-        found[request.nurse].append(request)
-    return found
+        requests[request.nurse].append(request)
+    return requests
 
 
 def nurse_charges(week: Week, shifts: Shifts, requests: Sequence[Request], nurse: str, early: bool = False) -> Iterator[Charge]:

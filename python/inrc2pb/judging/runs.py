@@ -101,10 +101,10 @@ class Runs:
 
     def steps(self, day: int, now: RunState) -> List[Step]:
         """For each choice on a day what it costs, in points, and the state at its end; NEVER, if a hard rule forbids it."""
-        found = self._known.get((day, now))
-        if found is None:
-            found = self._known[day, now] = self._steps(day, now) if self.charging else self._free_steps(now)
-        return found
+        steps = self._known.get((day, now))
+        if steps is None:
+            steps = self._known[day, now] = self._steps(day, now) if self.charging else self._free_steps(now)
+        return steps
 
     def _free_steps(self, now: RunState) -> List[Step]:
         forbidden = self.forbidden[now.choice]
@@ -115,18 +115,18 @@ class Runs:
         half = HALF_WEEKEND * (day % len(DAYS) == SUNDAY and self.contract.complete_weekends)
         closed = ended(now.shift_run, self.shifts[now.choice], self._shift_run)
         rest = closed + ended(now.work_run, work, WORK_RUN) + DAYS_OFF_RUN * (now.off_run + 1 > off.maximum) + half * (now.choice > 0)
-        found = [(rest, self.state(0, 0, 0, now.off_run + 1, left))]
+        steps = [(rest, self.state(0, 0, 0, now.off_run + 1, left))]
         above = now.work_run + 1 > work.maximum
         works = ended(now.off_run, off, DAYS_OFF_RUN) + (WORK_RUN + self._above) * above + half * (now.choice == 0)
         run, forbidden = shortened(now.work_run + 1, work, left), self.forbidden[now.choice]
         for choice, limits in enumerate(self.shifts[1:], 1):
             if choice in forbidden or works >= NEVER:
-                found.append((NEVER, now))
+                steps.append((NEVER, now))
             else:
                 length, cost = (now.shift_run + 1, works) if choice == now.choice else (1, works + closed)
                 cost += self._shift_run * (length > limits.maximum)
-                found.append((cost, RunState(choice, shortened(length, limits, left), run, 0)))
-        return [self._with_days_away(day, now, step) for step in found] if self._beside.cost or self._beside.call else found
+                steps.append((cost, RunState(choice, shortened(length, limits, left), run, 0)))
+        return [self._with_days_away(day, now, step) for step in steps] if self._beside.cost or self._beside.call else steps
 
     def _with_days_away(self, day: int, before: RunState, step: Step) -> Step:
         """The step with the run of work and training at the end of the day, and with what that, a night before and a call cost."""

@@ -52,8 +52,8 @@ def _remove_unlocked(path: Path) -> None:
     """Removes the folder, if it is old and nobody locks it."""
     lock = os.open(str(path), os.O_RDONLY | os.O_DIRECTORY | os.O_NOFOLLOW)
     try:
-        found = os.fstat(lock)
-        if found.st_uid == os.geteuid() and time.time() - found.st_mtime > MIN_AGE:
+        status = os.fstat(lock)
+        if status.st_uid == os.geteuid() and time.time() - status.st_mtime > MIN_AGE:
             fcntl.flock(lock, fcntl.LOCK_EX | fcntl.LOCK_NB)
             shutil.rmtree(str(path), ignore_errors=True)
     finally:

@@ -100,7 +100,7 @@ class Processes:
             )
             self._running[process] = ending
         try:
-            found = _output_of(process, seconds, ending, hear)
+            printed = _output_of(process, seconds, ending, hear)
         finally:
             with self._lock:
                 self._running.pop(process)
@@ -110,7 +110,7 @@ class Processes:
             _wait_without_reaping(process, EXIT_SECONDS)
             _signal_group(process, signal.SIGKILL)
             status = process.wait()
-        return Ended(status, found.output, found.timed_out, found.errors.decode("utf-8", errors="replace"), found.flooded)
+        return Ended(status, printed.output, printed.timed_out, printed.errors.decode("utf-8", errors="replace"), printed.flooded)
 
     def open(self, words: Sequence[str], folder: Path) -> "subprocess.Popen[bytes]":
         """Starts a process that answers on its standard output until `close`. It is ended with the others. Its words see to it that it ends

@@ -70,20 +70,20 @@ class Report:
     @property
     def last_o(self) -> Optional[int]:
         """The last number that the answer itself gave as its cost, if it gave one."""
-        found = re.search(r"^last o (.*)$", self.text, re.MULTILINE)
-        return int(found[1]) if found else None
+        match = re.search(r"^last o (.*)$", self.text, re.MULTILINE)
+        return int(match[1]) if match else None
 
 
 def find_program() -> Path:
     """`$INRC2PB`; else `inrc2pb` next to the running command, in `out` of its clone, or in PATH."""
     named = os.environ.get("INRC2PB")
     if named:
-        found = shutil.which(named)
-        if not found:
+        program = shutil.which(named)
+        if not program:
             raise ProgramFault(NO_PROGRAM, f"there is no program {named}: correct or unset the variable INRC2PB")
-        if not _is_inrc2pb(found):
+        if not _is_inrc2pb(program):
             raise ProgramFault(NO_PROGRAM, f"INRC2PB names {named}, which is not inrc2pb: correct or unset the variable")
-        return Path(found).absolute()
+        return Path(program).absolute()
     command = Path(sys.argv[0] or ".")
     in_path = shutil.which("inrc2pb")
     beside = [command.parent / "inrc2pb", command.resolve().parent / "inrc2pb", Path(__file__).resolve().parents[3] / "out" / "inrc2pb"]

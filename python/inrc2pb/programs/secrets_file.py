@@ -33,12 +33,12 @@ def _read(path: Path) -> str:
     if path.is_symlink():
         raise Misuse(f"--secret {path}: this is a link: name the file itself")
     with open(os.open(path, os.O_RDONLY | os.O_NOFOLLOW | os.O_NONBLOCK), "rb") as file:
-        found = os.fstat(file.fileno())
-        if not stat.S_ISREG(found.st_mode):
+        status = os.fstat(file.fileno())
+        if not stat.S_ISREG(status.st_mode):
             raise Misuse(f"--secret {path}: this is no file: name another one")
-        if found.st_uid != os.geteuid():
+        if status.st_uid != os.geteuid():
             raise Misuse(f"--secret {path}: this file is another user's: name one of your own")
-        if found.st_mode & 0o077:
+        if status.st_mode & 0o077:
             raise Misuse(f"--secret {path}: others may read this file: type chmod 600, or delete it, and a new secret is written")
         text = file.read(_MOST_BYTES).decode("ascii", errors="replace").strip()
     if not _SECRET.fullmatch(text):

@@ -32,11 +32,11 @@ def issue_now(before: Mapping[str, Collection[datetime.date]]) -> Issue:
 
 def shift_dates(view: RosterView, monday: datetime.date) -> Dict[str, List[datetime.date]]:
     """The dates of each nurse's shifts."""
-    found: Dict[str, List[datetime.date]] = {}
+    dates: Dict[str, List[datetime.date]] = {}
     for index, week in enumerate(view.weeks):
         for cell in week.cells:
-            found.setdefault(cell.nurse, []).append(monday + (7 * index + cell.day) * DAY)
-    return found
+            dates.setdefault(cell.nurse, []).append(monday + (7 * index + cell.day) * DAY)
+    return dates
 
 
 def _text(value: str) -> str:
@@ -110,7 +110,7 @@ def calendar(view: RosterView, nurse: str, monday: datetime.date, times: Mapping
 
 def file_names(nurses: Iterable[str]) -> Dict[str, str]:
     """A file's name for each nurse, which each system takes; no two differ in case only."""
-    found: Dict[str, str] = {}
+    names: Dict[str, str] = {}
     taken = set()
     for nurse in nurses:
         plain = re.sub(r'[/\\:*?"<>|\ufffd\t\n\r]|^\.', "_", allowed(nurse))[:60]
@@ -119,8 +119,8 @@ def file_names(nurses: Iterable[str]) -> Dict[str, str]:
             number += 1
             name = f"{plain}-{number}"
         taken.add(name.lower())
-        found[nurse] = f"{name}.ics"
-    return found
+        names[nurse] = f"{name}.ics"
+    return names
 
 
 def write_calendars(

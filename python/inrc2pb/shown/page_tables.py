@@ -246,7 +246,7 @@ class RosterTable:
         marks = {mark for week in self.view.weeks for row in week.cells for mark in self.page.marks(week.marks(row))}
         meanings = {**MEANINGS, CHANGED: self.page.changed}
         lines += [f"{mark} = {meaning}" for mark, meaning in meanings.items() if mark in marks or mark == CHANGED and self.changed]
-        if any(self.page.is_swapped(*one) for one in self.page.swapped):
+        if any(self.page.is_swapped(*place) for place in self.page.swapped):
             lines.append(f"{SWAPPED} = {SWAPPED_MEANING}")
         if self.page.holidays:
             lines.append(f"{HOLIDAY} = {HOLIDAY_MEANING}")
@@ -270,15 +270,15 @@ def _left(total: Totals, is_last: bool) -> str:
 
 def totals_table(page: Content) -> Optional[Markup]:
     """The totals of each nurse, if they are known."""
-    view, found = page.view, totals(page.view)
-    if not found:
+    view, by_nurse = page.view, totals(page.view)
+    if not by_nurse:
         return None
     is_last = any(week.week and week.week.is_last for week in view.weeks[-1:])
-    some_away = any(total.away for total in found.values())
+    some_away = any(total.away for total in by_nurse.values())
     heads = ["nurse", "shifts", *(["of them for days away"] if some_away else []), "contract", "difference", *map(readable, view.shifts)]
     heads += ["weekends", "at most", "wishes", "granted", "missed"]
     rows = []
-    for nurse, total in found.items():
+    for nurse, total in by_nurse.items():
         over = total.weekends - total.max_weekends
         numbers = [
             str(total.shifts),

@@ -28,7 +28,7 @@ class Result(NamedTuple):
 def result_of(name: str, text: str, seconds: Optional[float] = None) -> Result:
     """The result in the text of a report; the last numbers of each kind count."""
     penalties, bounds = _PENALTY.findall(text), _BOUND.findall(text)
-    penalty, bound = (int(found[-1]) if found else None for found in (penalties, bounds))
+    penalty, bound = (int(numbers[-1]) if numbers else None for numbers in (penalties, bounds))
     return Result(name, penalty, bound, _PROVED.search(text) is not None, seconds)
 
 
@@ -40,8 +40,8 @@ def read_results(reports: Sequence[Path], log: Optional[Path]) -> List[Result]:
 
 def _number_of(report: Path) -> str:
     """The number that the name of a report has, as parallel counts its jobs."""
-    found = re.search(r"([0-9]+)\D*$", report.stem)
-    return found[1].lstrip("0") if found else ""
+    match = re.search(r"([0-9]+)\D*$", report.stem)
+    return match[1].lstrip("0") if match else ""
 
 
 def _seconds_of(log: Path) -> Dict[str, float]:

@@ -124,6 +124,6 @@ def _other_weeks(
 ) -> Iterator[str]:
     """A warning for each file, one of each week, that is of another ward or week than it is shown with."""
     for index, path in enumerate(paths):
-        found = other_week(path, scenario, histories[index] if histories else None, texts[path]) if path else ""
-        if found:
-            yield f"{path}: {found}"
+        other = other_week(path, scenario, histories[index] if histories else None, texts[path]) if path else ""
+        if other:
+            yield f"{path}: {other}"

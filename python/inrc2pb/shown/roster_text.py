@@ -84,19 +84,19 @@ class TextTable:
 
     def _right(self) -> List[List[str]]:
         """The columns right of the days, each with its head and a text for each nurse: totals and costs, if they are known."""
-        found = []
+        rows = []
         counted = totals(self.view)
         if counted:
             of_types = [list(map(str, total.by_shift.values())) for total in counted.values()]
             table = [list(self.types.values()), *of_types]
             wide = [max(map(columns, column)) for column in zip(*table)]
-            found.append([" ".join(_filled(text, width) for text, width in zip(row, wide)) for row in table])
-            found += [[head, *texts] for head, *texts in zip(HEADS, *(total.texts() for total in counted.values()))]
+            rows.append([" ".join(_filled(text, width) for text, width in zip(row, wide)) for row in table])
+            rows += [[head, *texts] for head, *texts in zip(HEADS, *(total.texts() for total in counted.values()))]
         if self.view.has_costs:
-            found.append(
+            rows.append(
                 ["cost", *(f"{sum(self.view.costs[nurse].values()):4}  {costs_text(self.view.costs[nurse])}" for nurse in self.view.nurses)]
             )
-        return [[_filled(text, max(map(columns, column))) for text in column] for column in found]
+        return [[_filled(text, max(map(columns, column))) for text in column] for column in rows]
 
     def text(self, week: int, nurse: str, day: int) -> str:
         """The text of one nurse and day."""

@@ -235,14 +235,14 @@ class Covered(NamedTuple):
 
 def coverage(week: Week, cells: Iterable[Cell]) -> List[Tuple[str, str, List[Covered]]]:
     """The shift types and skills that are needed or filled, each with its seven days."""
-    number, found = rules.numbers(cells), []
+    number, covered = rules.numbers(cells), []
     for shift, skill in itertools.product(week.scenario.shift_types, week.scenario.skills):
         places = [Place(day, shift, skill) for day in range(7)]
         needs = [week.data.requirements.get(place, Requirement(0, 0)) for place in places]
         days = [Covered(number[place], need.minimum, need.optimal) for place, need in zip(places, needs)]
         if any(any(day) for day in days):
-            found.append((shift, skill, days))
-    return found
+            covered.append((shift, skill, days))
+    return covered
 
 
 def missing_nurses(week: Week, cells: Iterable[Cell]) -> Iterator[str]:

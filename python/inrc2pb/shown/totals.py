@@ -49,11 +49,11 @@ LEGEND = "shifts and weekends: in the period until now / the contract's limits; 
 def wishes_by_nurse(week: WeekView, index: int) -> Dict[str, List[Wish]]:
     """The wishes of a week, each once."""
     works = {(row.nurse, row.day, shift) for row in week.cells for shift in (row.shift, None)}
-    found: Dict[str, List[Wish]] = {}
+    wishes: Dict[str, List[Wish]] = {}
     for request in dict.fromkeys(wishes_of(week.data)) if week.data else ():
         refused = (request.nurse, request.day, request.shift) in works
-        found.setdefault(request.nurse, []).append(Wish(index, request, not refused))
-    return found
+        wishes.setdefault(request.nurse, []).append(Wish(index, request, not refused))
+    return wishes
 
 
 def totals(view: RosterView) -> Optional[Dict[str, Totals]]:
@@ -66,11 +66,11 @@ def totals(view: RosterView) -> Optional[Dict[str, Totals]]:
     days: Dict[str, List[int]] = {}
     for row in last.cells:
         days.setdefault(row.nurse, []).append(row.day)
-    found = {}
+    by_nurse = {}
     for nurse in view.nurses:
         past, contract = last.week.history.nurses[nurse], last.week.scenario.contract_of(nurse)
         mine = days.get(nurse, [])
-        found[nurse] = Totals(
+        by_nurse[nurse] = Totals(
             past.assignments + len(mine),
             contract.assignments,
             past.weekends + (SATURDAY in mine or SUNDAY in mine),
@@ -79,7 +79,7 @@ def totals(view: RosterView) -> Optional[Dict[str, Totals]]:
             wishes=[wish for of_week in wishes for wish in of_week.get(nurse, ())],
             away=view.credit.get(nurse, 0),
         )
-    return found
+    return by_nurse
 
 
 def worked(view: RosterView) -> Dict[str, List[int]]:
@@ -133,15 +133,15 @@ def sums_of(
     asked: Dict[str, List[Request]] = {}
     for wish in dict.fromkeys(wishes):
         asked.setdefault(wish.nurse, []).append(wish)
-    found = {}
+    sums = {}
     for nurse, row in rows.items():
-        own = asked.get(nurse, [])
-        found[nurse] = Sums(
+        mine = asked.get(nurse, [])
+        sums[nurse] = Sums(
             shifts=len(row),
             hours=sum((times[shift].length for shift in row.values() if shift in times), datetime.timedelta()),
             nights=sum(shift in nights for shift in row.values()),
             weekends=len({day // len(DAYS) for day in row if day % len(DAYS) >= SATURDAY}),
-            wishes=len(own),
-            granted=sum(row.get(wish.day) is None or wish.shift not in (None, row[wish.day]) for wish in own),
+            wishes=len(mine),
+            granted=sum(row.get(wish.day) is None or wish.shift not in (None, row[wish.day]) for wish in mine),
         )
-    return found
+    return sums

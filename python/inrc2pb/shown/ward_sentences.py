@@ -15,10 +15,10 @@ _Value = TypeVar("_Value")
 
 def together(pairs: Iterable[Tuple[_Key, _Value]]) -> Dict[_Key, List[_Value]]:
     """The values of each key, in their order."""
-    found: Dict[_Key, List[_Value]] = {}
+    values_of: Dict[_Key, List[_Value]] = {}
     for key, value in pairs:
-        found.setdefault(key, []).append(value)
-    return found
+        values_of.setdefault(key, []).append(value)
+    return values_of
 
 
 def ward_sentence(scenario: Scenario) -> str:
@@ -123,12 +123,12 @@ def history_sentences(history: History, counted: Counted = Counted()) -> Iterato
     if history.week:
         yield f"{plural(history.week, 'week')} of the period {'is' if history.week == 1 else 'are'} over."
     past = list(history.nurses.values())
-    lasts = together((one.last_shift, one) for one in sorted(past, key=lambda one: one.last_shift is not None))
+    lasts = together((row.last_shift, row) for row in sorted(past, key=lambda row: row.last_shift is not None))
     for shift, nurses in lasts.items():
-        rows = together((_row_text(one), one.nurse) for one in nurses)
+        rows = together((_row_text(row), row.nurse) for row in nurses)
         yield f"{shift or 'Off'} on Sunday: {'; '.join(f'{joined(names)} {text}' for text, names in rows.items())}."
-    days_away = {one.nurse: (counted.shifts.get(one.nurse, 0), counted.weekends.get(one.nurse, 0)) for one in past}
-    worked = {one.nurse: (one.assignments - days_away[one.nurse][0], one.weekends - days_away[one.nurse][1]) for one in past}
+    days_away = {row.nurse: (counted.shifts.get(row.nurse, 0), counted.weekends.get(row.nurse, 0)) for row in past}
+    worked = {row.nurse: (row.assignments - days_away[row.nurse][0], row.weekends - days_away[row.nurse][1]) for row in past}
     for label, numbers in (("In the period until now", worked), ("For days away in the whole period", days_away)):
         totals = together((_total_text(*both), nurse) for nurse, both in numbers.items() if any(both))
         if totals:

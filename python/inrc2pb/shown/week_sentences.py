@@ -44,10 +44,11 @@ def weeks_sentences(scenario: Scenario, weeks: Sequence[DescribedWeek], days_tex
     """Weeks in sentences. Their days count from the Monday of the first one, and have these texts."""
     yield from _needs_sentences(weeks)
     order = {nurse: number for number, nurse in enumerate(scenario.nurses)}
-    away = [(one.nurse, WEEK_DAYS * index + one.day, one.shift) for index, week in enumerate(weeks) for one in absences_of(week.data)]
-    away.sort(key=lambda one: (order[one[0]], one[1]))
+    absences = ((index, absence) for index, week in enumerate(weeks) for absence in absences_of(week.data))
+    away = [(absence.nurse, WEEK_DAYS * index + absence.day, absence.shift) for index, absence in absences]
+    away.sort(key=lambda absence: (order[absence[0]], absence[1]))
     for shift in scenario.shift_types:
-        never = ((nurse, day) for nurse, day, one in away if one == shift)
+        never = ((nurse, day) for nurse, day, what in away if what == shift)
         yield from _sentence(f"Never {shift}", never, lambda days: "" if len(days) == WEEK_DAYS * len(weeks) else days_text(days))
     whole = together((_reason(weeks, nurse, day), (nurse, day)) for nurse, day, shift in away if shift is None)
     yield from _sentence("Always off", whole.get(_ALWAYS, ()), lambda days: days_of_week({day % WEEK_DAYS for day in days}))
@@ -77,11 +78,11 @@ def _reason(weeks: Sequence[DescribedWeek], nurse: str, day: int) -> str:
 
 def _wishes_sentences(scenario: Scenario, weeks: Sequence[DescribedWeek], days_text: DaysText) -> Iterator[str]:
     """Wishes, and how many equal requests of a file they are."""
-    wishes = [(one.nurse, one.shift, WEEK_DAYS * index + one.day) for index, week in enumerate(weeks) for one in wishes_of(week.data)]
+    requests = ((index, request) for index, week in enumerate(weeks) for request in wishes_of(week.data))
+    wishes = [(request.nurse, request.shift, WEEK_DAYS * index + request.day) for index, request in requests]
 
     def days_and_requests(days: Collection[int]) -> str:
         times = f" ({len(days)} requests)" if len(days) > len(set(days)) else ""
-
         return f"{days_text(set(days))}{times}"
 
     for shift in (None, *scenario.shift_types):

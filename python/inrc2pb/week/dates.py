@@ -57,14 +57,14 @@ class WrittenDate(NamedTuple):
 
 def written_dates(text: str) -> Iterator[WrittenDate]:
     """The dates in a text, each written as `2026-11-30`, `30.11.2026`, or `30.11.` without its year."""
-    for found in _DATE.finditer(text):
-        year, month, day = found.groups()[:3] if found[1] else (found[6], found[5], found[4])
-        yield WrittenDate(found[0], int(year) if year else None, int(month), int(day))
+    for match in _DATE.finditer(text):
+        year, month, day = match.groups()[:3] if match[1] else (match[6], match[5], match[4])
+        yield WrittenDate(match[0], int(year) if year else None, int(month), int(day))
 
 
 def written_date(text: str) -> Optional[WrittenDate]:
     """The date that the whole text is, if it is one."""
-    return next((found for found in written_dates(text) if found.text == text), None)
+    return next((date for date in written_dates(text) if date.text == text), None)
 
 
 def read_monday(text: str, weeks: int) -> datetime.date:
@@ -94,7 +94,7 @@ def day_names(monday: Optional[datetime.date], week: int) -> Sequence[str]:
 
 def read_times(texts: Sequence[str], shifts: Collection[str]) -> Dict[str, Times]:
     """The times of all shift types or of none, each given as `Early=06:00-14:15`. A shift that ends before it begins ends a day later."""
-    found: Dict[str, Times] = {}
+    by_shift: Dict[str, Times] = {}
     for text in texts:
         shift, is_given, times = text.rpartition("=")
         if not is_given or not _TIMES.fullmatch(times):
@@ -102,13 +102,13 @@ def read_times(texts: Sequence[str], shifts: Collection[str]) -> Dict[str, Times
         if shift not in shifts:
             advice = did_you_mean(shift, shifts, f"give one of {quoted(shifts)}")
             raise Misuse(f"--times {text}: '{shift}' is no shift type: {advice}")
-        if shift in found:
+        if shift in by_shift:
             raise Misuse(f"--times {text}: {shift} has two times: give one")
-        found[shift] = times_of(times, f"--times {text}")
-    missing = [shift for shift in shifts if shift not in found]
-    if found and missing:
+        by_shift[shift] = times_of(times, f"--times {text}")
+    missing = [shift for shift in shifts if shift not in by_shift]
+    if by_shift and missing:
         raise Misuse(f"--times has no times of {quoted(missing)}: give them too, such as --times {missing[0]}=06:00-14:15")
-    return found
+    return by_shift
 
 
 def times_of(text: str, where: str) -> Times:
@@ -184,19 +184,19 @@ class PlanDays(NamedTuple):
         """The day that a text names. A day of the week is the first one from the day `near` on."""
         weekday, date, in_words = _WEEKDAY.fullmatch(text), written_date(text), _IN_WORDS.fullmatch(text)
         if in_words:
-            found = self.number(f"{in_words[2]}.{MONTHS.index(in_words[3].title()) + 1}.", near)
-            if in_words[1] and in_words[1].title() != DAYS[found % WEEK_DAYS]:
-                raise Misuse(f"'{text}' is a {DAYS[found % WEEK_DAYS]}: write {self.head(found)}, if you mean this day")
+            day = self.number(f"{in_words[2]}.{MONTHS.index(in_words[3].title()) + 1}.", near)
+            if in_words[1] and in_words[1].title() != DAYS[day % WEEK_DAYS]:
+                raise Misuse(f"'{text}' is a {DAYS[day % WEEK_DAYS]}: write {self.head(day)}, if you mean this day")
         elif weekday:
-            day = DAYS.index(weekday[1].title())
-            found = day + WEEK_DAYS * (int(weekday[2]) - 1) if weekday[2] else near + (day - near) % WEEK_DAYS
+            of_week = DAYS.index(weekday[1].title())
+            day = of_week + WEEK_DAYS * (int(weekday[2]) - 1) if weekday[2] else near + (of_week - near) % WEEK_DAYS
         elif date:
-            found = self._of_date(text, date)
+            day = self._of_date(text, date)
         else:
             raise Misuse(f"'{text}' is no day: write a day such as {self.head(near)}, or Fri for the next Friday of the plan")
-        if not 0 <= found < self.total:
+        if not 0 <= day < self.total:
             raise OtherPlan(f"'{text}' is not in this plan: it has the days {self.head(0)} to {self.head(self.total - 1)}")
-        return found
+        return day
 
     def _of_date(self, text: str, written: WrittenDate) -> int:
         if self.monday is None:

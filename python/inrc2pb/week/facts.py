@@ -77,12 +77,12 @@ def read_facts(path: PathLike, scenario: Scenario, weeks: int = MAX_WEEKS, text:
     slots.words("FACTS")
     slots.any_word("the scenario's name")
     slots.words("ROWS", "=")
-    found: List[Claim] = []
+    claims: List[Claim] = []
     for _ in range(slots.number("the number of facts")):
         holds = slots.known_name("word", (HOLDS, NOT), "a row").text == HOLDS
-        found.append(Claim(read_fact(slots, scenario, weeks), holds))
+        claims.append(Claim(read_fact(slots, scenario, weeks), holds))
     slots.end("fact")
-    return tuple(found)
+    return tuple(claims)
 
 
 def read_fact(slots: Slots, scenario: Scenario, weeks: int) -> Fact:
@@ -132,14 +132,14 @@ def _day(slots: Slots) -> int:
 
 def of_weeks(claims: Iterable[Claim], first: int, count: int) -> Tuple[Claim, ...]:
     """The claims about `count` weeks of a period, the first of which has this number from 0, with weeks counted from 1 in them."""
-    found: List[Claim] = []
+    claims_of_weeks: List[Claim] = []
     for fact, holds in claims:
         if isinstance(fact, (Choice, AtPlace)):
             if not 1 <= fact.week - first <= count:
                 continue
             fact = fact._replace(week=fact.week - first)
-        found.append(Claim(fact, holds))
-    return tuple(found)
+        claims_of_weeks.append(Claim(fact, holds))
+    return tuple(claims_of_weeks)
 
 
 class DayAway(NamedTuple):
@@ -166,14 +166,14 @@ def read_reasons(path: PathLike, scenario: Scenario, text: Optional[str] = None)
     slots.words("REASONS")
     slots.any_word("the scenario's name")
     slots.words("ROWS", "=")
-    found: Reasons = {}
+    reasons: Reasons = {}
     for _ in range(slots.number("the number of reasons")):
         week = slots.number("the week of a reason", 1, MAX_WEEKS)
         nurse = slots.known_name("nurse", scenario.nurses, "NURSES").text
         token = slots.known_name("day", DAYS, "the week")
         away = DayAway(week, nurse, DAYS.index(token.text))
-        if away in found:
+        if away in reasons:
             slots.fault(token, "repeated", f"{nurse} has two reasons on {token.text} of week {week}: remove one")
-        found[away] = slots.any_word("the reason of a day away").text
+        reasons[away] = slots.any_word("the reason of a day away").text
     slots.end("reason")
-    return found
+    return reasons

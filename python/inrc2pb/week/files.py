@@ -90,12 +90,12 @@ def _contracts(slots: Slots) -> Dict[str, Contract]:
 
 def _names_once(slots: Slots, count: int, kind: str, names: Iterable[str], source: str) -> Tuple[str, ...]:
     known = list(names)
-    found: List[str] = []
+    taken: List[str] = []
     for _ in range(count):
         token = slots.known_name(kind, known, source)
-        _only_once(slots, token, found, f"the {kind} '{token.text}' is")
-        found.append(token.text)
-    return tuple(found)
+        _only_once(slots, token, taken, f"the {kind} '{token.text}' is")
+        taken.append(token.text)
+    return tuple(taken)
 
 
 def _only_once(slots: Slots, token: Token, taken: Iterable[object], what: str, key: object = None) -> None:
@@ -192,17 +192,17 @@ def read_solution(path: PathLike, scenario: Optional[Scenario] = None, text: Opt
     week = slots.number("the week's number")
     name = slots.any_word("the scenario's name").text
     slots.words("ASSIGNMENTS", "=")
-    found: Dict[Cell, None] = {}
+    rows: Dict[Cell, None] = {}
     for _ in range(slots.number("the number of assignments")):
         nurse = slots.known_name("nurse", scenario.nurses, "NURSES") if scenario else slots.any_word("a nurse")
         day = _day(slots)
         shift = slots.known_name("shift type", scenario.shift_types, "SHIFT_TYPES") if scenario else slots.any_word("a shift type")
         skill = slots.known_name("skill", scenario.skills, "SKILLS") if scenario else slots.any_word("a skill")
         row = Cell(nurse.text, day, shift.text, skill.text)
-        _only_once(slots, skill, found, f"the row '{row.row()}' is", row)
-        found[row] = None
+        _only_once(slots, skill, rows, f"the row '{row.row()}' is", row)
+        rows[row] = None
     slots.end("assignment")
-    return Solution(week, name, tuple(found))
+    return Solution(week, name, tuple(rows))
 
 
 def _row(*words: object) -> str:

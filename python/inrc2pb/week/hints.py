@@ -43,15 +43,15 @@ def reasons(lines: Sequence[str], line: int, word: str, names: Collection[str] =
 
     Each of the names should have a line below the heading.
     """
-    found = [
+    likely = [
         *_wrong_count(lines, line),
         *_without_line(lines, names, heading),
         *_wrong_row(lines, line),
         *_wrong_number(lines[line - 1], word),
     ]
     if not word:
-        found += _no_requests(lines)
-    return "".join(f"; {reason}" for reason in found)
+        likely += _no_requests(lines)
+    return "".join(f"; {reason}" for reason in likely)
 
 
 def _heading_of(line: str) -> str:

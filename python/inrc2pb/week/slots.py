@@ -44,10 +44,10 @@ def text_of(path: PathLike) -> str:
 
 def tokens_of(text: str) -> List[Token]:
     """The words and signs of a text with their lines; blanks are space, tab, LF and CR."""
-    found = []
+    tokens = []
     for number, line in enumerate(text.split("\n"), 1):
-        found += [Token(token, number) for token in _TOKEN.findall(line)]
-    return found
+        tokens += [Token(token, number) for token in _TOKEN.findall(line)]
+    return tokens
 
 
 def is_utf8(word: str) -> bool:
