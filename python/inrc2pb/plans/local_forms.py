@@ -13,14 +13,6 @@ from .verbs import CHANGE_SECONDS, WEEK_SECONDS
 from .ward import WardPlan
 
 _MOST_SECONDS = 3600.0
-_NEW_PLAN = "a new plan, and its pages"
-_AWAY_TEXT = "on one day, or to the last day; who leaves the ward is away to the end of the plan; plans from the first day on"
-_BACK_TEXT = "from a day on, with few changes"
-_SWAP_TEXT = "what it costs, and who else could swap; writes nothing before a button of the answer"
-_SET_TEXT = "or a promised day off; the question says what it costs; later plans keep it"
-_OVER_TEXT = "as it was planned, or with corrections such as Chen Fri ill, Finn Sat off"
-_AWAY_FIELDS, _SWAP_FIELDS = ("nurse", "first", "last", "reason", "seconds"), ("nurse", "first", "other", "other day")
-_PAGES = "the page for the wall and the calendars"
 # The field of a form that writes, after the user was asked, and the one that says for which plan it was shown.
 SURE, STAMP = "sure", "stamp"
 
@@ -30,27 +22,87 @@ class Form(NamedTuple):
     a plan, and what it writes, if it does."""
 
     verb: str
-    heading: str
     button: str
     text: str
-    refused: str
+    heading: str = ""
+    refused: str = ""
     fields: Tuple[str, ...] = ()
     needs_plan: bool = True
-    writes: str = _NEW_PLAN
+    writes: str = "a new plan, and its pages"
 
 
 FORMS = (
-    Form("check", "", "Read the spreadsheet", "names its mistakes, and prints the ward in sentences; writes nothing", "", (), False, ""),
-    Form("plan", "Plan", "Plan", "the weeks that are not over", "a new plan was not written", ("from", "seconds", "free"), False),
-    Form("away", "A nurse is away", "Write an absence", _AWAY_TEXT, "the absence of {nurse} was not written", _AWAY_FIELDS),
-    Form("back", "A nurse is back", "Back", _BACK_TEXT, "it was not written that {nurse} is back", ("nurse", "first", "seconds")),
-    Form("swap", "Two nurses swap", "Look", _SWAP_TEXT, "the swap of {nurse} and {other} was not written", _SWAP_FIELDS),
     Form(
-        "set", "A nurse has another shift", "Set it", _SET_TEXT, "it was not written what {nurse} has", ("nurse", "first", "shift", "note")
+        verb="check",
+        button="Read the spreadsheet",
+        text="names its mistakes, and prints the ward in sentences; writes nothing",
+        needs_plan=False,
+        writes="",
     ),
-    Form("over", "The week is over", "End the week", _OVER_TEXT, "the end of the week was not written", ("corrections",)),
-    Form("page", "", "Publish", "the plan; from now on plans change little", "the plan was not published", (), True, _PAGES),
-    Form("undo", "", "Undo", "the plan before the last verb holds again", "nothing was taken back", (), False, "its pages"),
+    Form(
+        verb="plan",
+        heading="Plan",
+        button="Plan",
+        text="the weeks that are not over",
+        refused="a new plan was not written",
+        fields=("from", "seconds", "free"),
+        needs_plan=False,
+    ),
+    Form(
+        verb="away",
+        heading="A nurse is away",
+        button="Write an absence",
+        text="on one day, or to the last day; who leaves the ward is away to the end of the plan; plans from the first day on",
+        refused="the absence of {nurse} was not written",
+        fields=("nurse", "first", "last", "reason", "seconds"),
+    ),
+    Form(
+        verb="back",
+        heading="A nurse is back",
+        button="Back",
+        text="from a day on, with few changes",
+        refused="it was not written that {nurse} is back",
+        fields=("nurse", "first", "seconds"),
+    ),
+    Form(
+        verb="swap",
+        heading="Two nurses swap",
+        button="Look",
+        text="what it costs, and who else could swap; writes nothing before a button of the answer",
+        refused="the swap of {nurse} and {other} was not written",
+        fields=("nurse", "first", "other", "other day"),
+    ),
+    Form(
+        verb="set",
+        heading="A nurse has another shift",
+        button="Set it",
+        text="or a promised day off; the question says what it costs; later plans keep it",
+        refused="it was not written what {nurse} has",
+        fields=("nurse", "first", "shift", "note"),
+    ),
+    Form(
+        verb="over",
+        heading="The week is over",
+        button="End the week",
+        text="as it was planned, or with corrections such as Chen Fri ill, Finn Sat off",
+        refused="the end of the week was not written",
+        fields=("corrections",),
+    ),
+    Form(
+        verb="page",
+        button="Publish",
+        text="the plan; from now on plans change little",
+        refused="the plan was not published",
+        writes="the page for the wall and the calendars",
+    ),
+    Form(
+        verb="undo",
+        button="Undo",
+        text="the plan before the last verb holds again",
+        refused="nothing was taken back",
+        needs_plan=False,
+        writes="its pages",
+    ),
 )
 _BY_VERB = {form.verb: form for form in FORMS}
 _CHECKS = ("free",)
@@ -82,7 +134,8 @@ def event_of(fields: Fields, seconds: Optional[float] = None) -> Event:
         words = fields.get("corrections", "").split()
     if verb == "away":
         verb = _reason(fields)
-    return Event(verb, tuple(words), _seconds(fields) or seconds, "free" in fields, verb == "set" or "write it" in fields)
+    is_written = verb == "set" or "write it" in fields
+    return Event(verb, tuple(words), seconds=_seconds(fields) or seconds, free="free" in fields, do=is_written)
 
 
 def _seconds(fields: Fields) -> Optional[float]:
