@@ -177,11 +177,12 @@ class _Judge:
         return _Value(below, 0, MISSING_NURSE * missing, 0)
 
     def _nurse_value(self, nurse: str, cells: Mapping[int, Cell]) -> _Value:
-        """What the shifts of a nurse add: the hard rules that they break, what they do not keep of absences, of limits that hold and beside
-        days away, what they cost, and how much they change."""
+        """What the shifts of a nurse add: the hard rules that they break, what they do not keep of absences, of promises, of limits that
+        hold and beside days away, what they cost, and how much they change."""
         faults = self._alone.faults(nurse, cells)
         working = sum(fault.kind in (Kind.AWAY, Kind.NEVER) for fault in faults)
-        not_kept = working + self._alone.excess(nurse, cells) + self._alone.excess_beside(nurse, cells)
+        promised = sum(one.nurse == nurse and cells.get(one.day) != one.cell for one in self._plan.state.set_days)
+        not_kept = working + promised + self._alone.excess(nurse, cells) + self._alone.excess_beside(nurse, cells)
         return _Value(len(faults) - working, not_kept, self._points(nurse, cells), self._changes(nurse, cells))
 
     def _points(self, nurse: str, cells: Mapping[int, Cell]) -> int:

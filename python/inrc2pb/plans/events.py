@@ -142,7 +142,7 @@ def swap(old: WardPlan, asked: Swap, before: Optional[State], has_offers: bool) 
     if faults:
         return Swapped(old, new, asked, faults, offers=offers, status=Status.NOT_KEPT)
     takes_back = before is not None and _shifts(before.cells, asked) == _shifts(new.cells, asked)
-    kept = new.state.keeping(lambda one: one not in asked.places)
+    kept = new.state.agreeing(lambda one: one not in asked.places)
     agreed = [one for one in before.agreed if one in asked.places] if before and takes_back else asked.places
     new = new.with_state(replace(kept, agreed=(*kept.agreed, *agreed)))
     return Swapped(old, new, asked, takes_back=takes_back, offers=offers)
@@ -166,26 +166,43 @@ def set_day(old: WardPlan, event: Event) -> DaySet:
         return _set_back(old, place)
     shift, skill = wording.shift([*old.scenario.shift_types, OFF], old.scenario.nurses[place.nurse].skills)
     now = None if shift == OFF else Cell(*place, shift, skill or _skill(old, place, shift))
-    found = SetDay(*place, wording.rest())
+    found = SetDay(*place, wording.rest(), now.shift if now else "", now.skill if now else "")
     if now == old.works.get(place) and found in old.state.set_days:
         cure = f"set {readable(place.nurse)} {old.days.head(place.day)} {BACK} takes that back"
         raise Misuse(f"{readable(place.nurse)} has this on {old.days.text(place.day)} already, and later plans keep it: {cure}")
     swaps = Swaps(old)
     faults = tuple(swaps.day_faults(place, now))
-    others = old.state.keeping(lambda one: one != place)
-    new = old.with_state(replace(others, set_days=(*others.set_days, found))).with_cells(
-        [*(cell for one, cell in old.works.items() if one != place), *([now] if now else [])]
-    )
+    new = _with_set_day(old, found)
+    instead, replaces = tuple(swaps.instead(place, now)), old.state.promised.get(place)
     status = Status.NOT_KEPT if faults else Status.DONE
-    return DaySet(old, new, place, now, found.reason, faults=faults, instead=tuple(swaps.instead(place, now)), status=status)
+    return DaySet(old, new, found, faults=faults, instead=instead, replaces=replaces, status=status)
+
+
+def _with_set_day(old: WardPlan, found: SetDay) -> WardPlan:
+    """The plan in which this is so. A swap of the day holds on below it, if the nurse has the same shift."""
+    place, others = found.place, {one: cell for one, cell in old.works.items() if one != found.place}
+    is_same = old.works.get(place) == found.cell
+    state = old.state.agreeing(lambda one: is_same or one != place)
+    set_days = (*(one for one in state.set_days if one.place != place), found)
+    return old.with_state(replace(state, set_days=set_days)).with_cells([*others.values(), *([found.cell] if found.cell else [])])
 
 
 def _set_back(old: WardPlan, place: NurseDay) -> DaySet:
     """Later plans need not keep a nurse's day any more. Raises Misuse if it was not set."""
-    if place not in [one.place for one in old.state.set_days]:
-        raise Misuse(f"nothing is set for {readable(place.nurse)} on {old.days.text(place.day)}: set it first, or type undo")
+    promise = old.state.promised.get(place)
+    if promise is None:
+        raise Misuse(f"nothing is set for {readable(place.nurse)} on {old.days.text(place.day)}: {_no_promise(old, place)}")
     new = old.with_state(replace(old.state, set_days=tuple(one for one in old.state.set_days if one.place != place)))
-    return DaySet(old, new, place, old.works.get(place), takes_back=True)
+    return DaySet(old, new, promise, takes_back=True)
+
+
+def _no_promise(old: WardPlan, place: NurseDay) -> str:
+    """What to do about a nurse's day for which nothing is set."""
+    if place in old.held or old.away.get(place) == PROMISED:
+        return "the sheet plan promises it to her, so empty her cell of this day, and save the sheet"
+    if place in old.state.agreed:
+        return "the day is kept for a swap, which the same line as that of the swap, with --do, takes back"
+    return "set it first, or type undo"
 
 
 # ---- the end of a week, and publishing

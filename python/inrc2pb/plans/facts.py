@@ -14,7 +14,7 @@ from ..judging.rules import SATURDAY, Charge
 from ..shown.totals import Sums, sums_of
 from ..week.facts import SHIFTS, WORK_DAYS, Charged
 from ..week.records import WEEK_DAYS, Cell, NurseDay, Request
-from .ward import WardPlan
+from .ward import PROMISED, WardPlan
 
 # The rule on the shifts of a period.
 _TOTAL = "S6"
@@ -66,6 +66,21 @@ class Due(NamedTuple):
     charge: Charge
     points: int
     words: Tuple[str, ...]
+
+
+def promised_days(plan: WardPlan) -> List[NurseDay]:
+    """The nurses' days of the weeks that are not over that are promised and so planned: those that were set, and days off that the
+    spreadsheet promises."""
+    days_off = [one for one, word in plan.away.items() if word == PROMISED and one not in plan.works]
+    return [*(place for place, one in plan.state.promised.items() if plan.works.get(place) == one.cell), *days_off]
+
+
+class Agreement(NamedTuple):
+    """A nurse's day that later plans should keep, and the shift on it, or None for a day off: that of a swap, or one that was set."""
+
+    place: NurseDay
+    cell: Optional[Cell]
+    is_set: bool = False
 
 
 def unkept(plan: WardPlan) -> List[Unkept]:
@@ -218,6 +233,11 @@ def _away_words(plan: WardPlan, nurse: str, days: Iterable[int]) -> Tuple[str, .
     return tuple(dict.fromkeys(plan.ward.reasons[NurseDay(nurse, day)] for day in days if NurseDay(nurse, day) in plan.ward.reasons))
 
 
-def broken_agreements(old: WardPlan, new: WardPlan) -> List[NurseDay]:
-    """The days of swaps, and those that were set, on which a new plan has other shifts."""
-    return [one for one in old.state.kept if one not in new.state.kept]
+def broken_agreements(old: WardPlan, new: WardPlan) -> List[Agreement]:
+    """What a new plan does not keep of the days of swaps, and of those that were set. A promise to a nurse who is away is told once: the
+    older plan had kept it."""
+    kept = {*new.state.agreed, *new.state.promised}
+    swaps = [Agreement(one, old.works.get(one)) for one in old.state.agreed if one not in kept]
+    promises = [one for one in new.state.set_days if new.works.get(one.place) != one.cell]
+    told = [one for one in promises if one.place not in new.away or old.works.get(one.place) == one.cell]
+    return [*swaps, *(Agreement(one.place, one.cell, is_set=True) for one in told)]

@@ -13,7 +13,7 @@ from .events import offers_of
 from .local_forms import STAMP, button_markup
 from .sentences import cell_text
 from .swap_sentences import MOST_OFFERS, fault_text, nobody_text, offer_text
-from .state import BACK
+from .state import BACK, SetDay
 from .swaps import Swap, Swaps
 from .ward import ALWAYS_OFF, DAYS_OFF, PROMISED, WardPlan
 
@@ -33,16 +33,28 @@ class Actions:
     def __init__(self, plan: WardPlan, place: NurseDay, address: str, stamp: str, agreed: Optional[Swap] = None) -> None:
         self._plan, self._place, self._address, self._stamp, self._agreed = plan, place, address, stamp, agreed
         self._swaps = Swaps(plan)
+        self._promise = plan.state.promised.get(place)
         self._first = plan.days.head(place.day)
 
     def markup(self) -> Markup:
         """The section of the page: what she has, what can be done, and what her week costs."""
         nurse, day = self._place
-        cell = self._swaps.works(nurse, day)
-        has = cell_text(cell, self._plan.away.get(self._place, OFF))
-        heading = element("h2", f"{readable(nurse)}, {self._plan.days.text(day)}: {has}")
+        heading = element("h2", f"{readable(nurse)}, {self._plan.days.text(day)}: {self._has()}")
         groups = [group for group in (self._others(), self._shifts(), self._away(), self._back()) if group]
         return element("section", heading, self._days(), element("div", *groups, class_="actions"), self._charges(), id=CELL)
+
+    def _has(self) -> str:
+        """Her shift, or why she is off, and whether it is promised to her, with the reason."""
+        word = self._plan.away.get(self._place, OFF)
+        has = cell_text(self._swaps.works(*self._place), f"{OFF}, {PROMISED} by the spreadsheet" if word == PROMISED else word)
+        if not self._kept_promise:
+            return has
+        return f"{has}, {PROMISED}{f' ({self._kept_promise.reason})' if self._kept_promise.reason else ''}"
+
+    @property
+    def _kept_promise(self) -> Optional[SetDay]:
+        """What was promised for the day, if the plan has it so."""
+        return self._promise if self._promise and self._swaps.works(*self._place) == self._promise.cell else None
 
     def _days(self) -> Markup:
         """Links to her other days, and a form for one that is far away."""
@@ -78,6 +90,8 @@ class Actions:
             return None
         buttons, refused = [], []
         for shift, cell in self._choices():
+            if self._kept_promise and cell == self._kept_promise.cell:
+                continue
             name = cell_text(cell, f"{OFF}, {PROMISED}")
             faults = self._swaps.day_faults(self._place, cell)
             if faults:
@@ -125,8 +139,8 @@ class Actions:
     def _taken_back(self) -> Iterator[Markup]:
         if self._is_away:
             yield self._button(f"she is back from this day on ({self._plan.away[self._place]})", verb="back")
-        if self._place in [one.place for one in self._plan.state.set_days]:
-            yield self._button("what was set for this day: later plans may change it", verb="set", shift=BACK)
+        if self._promise:
+            yield self._button("what was promised for this day: swaps and later plans may change it", verb="set", shift=BACK)
         if self._agreed:
             one, other, days = self._agreed
             nurse = other if one == self._place.nurse else one

@@ -13,7 +13,7 @@ from ..search.bounds import PLAIN, Bound
 from ..search.why_none import Shortage
 from ..week.faults import FileFault, Misuse
 from ..week.records import Cell, NurseDay
-from .state import Record
+from .state import Record, SetDay
 from .swaps import Fault, Instead, Offer, Swap, Swaps
 from .ward import WardPlan
 from .ward_sheet import WeekRow
@@ -169,17 +169,26 @@ class Swapped(Outcome):
 
 @dataclass(frozen=True)
 class DaySet(Outcome):
-    """A nurse's day is set: the plans before and after it, her shift, or None if she is off, and the reason; why it cannot be; who could do
-    it instead; or, if it takes that back, that later plans need not keep it."""
+    """A nurse's day is set: the plans before and after it, what is promised for it; why it cannot be; who could do it instead; what was
+    promised for the day before; or, if it takes the promise back, that later plans need not keep it."""
 
     old: WardPlan
     new: WardPlan
-    place: NurseDay
-    now: Optional[Cell]
-    reason: str = ""
+    promise: SetDay
     faults: Tuple[Fault, ...] = ()
     instead: Tuple[Instead, ...] = ()
+    replaces: Optional[SetDay] = None
     takes_back: bool = False
+
+    @property
+    def place(self) -> NurseDay:
+        """The nurse's day."""
+        return self.promise.place
+
+    @property
+    def now(self) -> Optional[Cell]:
+        """Her shift; None if she is off."""
+        return self.promise.cell
 
 
 @dataclass(frozen=True)

@@ -4,7 +4,7 @@ import datetime
 import re
 from dataclasses import replace
 from pathlib import Path
-from typing import Collection, Dict, List, Mapping, Optional, Sequence, Set, Tuple
+from typing import Collection, Dict, Iterable, List, Mapping, Optional, Sequence, Set, Tuple
 
 from ..shown.calendars import file_names, issue_now, write_calendars
 from ..shown.page import page_text
@@ -13,9 +13,9 @@ from ..shown.totals import Sums
 from ..week.dates import DAY, PlanDays, date_text
 from ..week.words import readable
 from ..week.own_files import is_own_file, own_bytes, without_link
-from ..week.records import WEEK_DAYS
+from ..week.records import WEEK_DAYS, NurseDay
 from ..week.writing import write_own_text
-from .facts import sums, unkept
+from .facts import promised_days, sums, unkept
 from .outcome import Pages
 from .sentences import beside_lines, days_away_lines, unkept_lines
 from .ward import WardPlan
@@ -139,7 +139,12 @@ def roster_content(top: Path, plan: WardPlan, old: Optional[WardPlan] = None) ->
     before = old.view(plan.weeks) if old and old.is_planned else None
     holidays = {day - plan.first for day in plan.ward.holidays if day >= plan.first}
     notes = (*unkept_lines(plan, unkept(plan)), *days_away_lines(plan), *beside_lines(plan))
-    swapped = {(one.day // WEEK_DAYS - plan.state.open_week, one.nurse, one.day % WEEK_DAYS) for one in plan.state.agreed}
     now = datetime.datetime.now()
-    content = Content(plan.view(), before, monday, plan.ward.times, holidays=holidays, as_of=now, notes=notes, swapped=swapped)
+    content = Content(plan.view(), before, monday, plan.ward.times, holidays=holidays, as_of=now, notes=notes)
+    content = replace(content, swapped=_of_table(plan, plan.state.agreed), promised=_of_table(plan, promised_days(plan)))
     return replace(content, name=ward_name(top), since="the plan that was hung up before", sums=sums(plan))
+
+
+def _of_table(plan: WardPlan, places: Iterable[NurseDay]) -> Set[Tuple[int, str, int]]:
+    """These nurses' days as a table of the weeks that are not over counts them."""
+    return {(one.day // WEEK_DAYS - plan.state.open_week, one.nurse, one.day % WEEK_DAYS) for one in places}

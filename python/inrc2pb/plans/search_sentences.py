@@ -7,7 +7,7 @@ from ..shown.ward_sentences import part_sentences
 from ..week.records import WEEK_DAYS, NurseDay, week_name
 from ..week.words import plural, readable
 from .changes import BESIDE_POINTS, CALL_POINTS, POINTS, shift_changes
-from .facts import broken_agreements, unkept
+from .facts import Agreement, broken_agreements, unkept
 from .outcome import Asked, Away, KnownBound, NoPlan, Planned, Status
 from .sentences import (
     beside_lines,
@@ -102,7 +102,7 @@ def planned_lines(planned: Planned, write: str) -> List[str]:
     if len(missing) > len(unkept(for_leavers(new, planned.asked.first))):
         said.append(f"shifts before {new.days.text(planned.asked.first)} stay: plan from an earlier day can take some of them away")
     said += [*days_away_lines(new), *_changed_lines(planned)]
-    said += [_agreement_text(planned.old, new, place) for place in broken_agreements(planned.old, new)]
+    said += [_agreement_text(new, broken) for broken in broken_agreements(planned.old, new)]
     said += [*beside_lines(new), *due_lines(new), *wish_lines(planned.before, new), *cost_lines(planned.penalties)]
     said += evenness_lines(new)
     if not missing and not planned.asked.few_changes:
@@ -130,11 +130,11 @@ def _changed_lines(planned: Planned) -> List[str]:
     return [*change_lines(changes, new.days, new.away, before.away), *calls]
 
 
-def _agreement_text(old: WardPlan, new: WardPlan, place: NurseDay) -> str:
-    """That a plan does not keep what two nurses have agreed on, or what was set."""
-    now, agreed = readable(new.away.get(place) or cell_text(new.works.get(place))), cell_text(old.works.get(place))
-    what, was = ("an agreed swap", "agreed was") if place in old.state.agreed else ("what was set", "set was")
-    return f"this breaks {what}: {readable(place.nurse)}, {new.days.text(place.day)}: {now}, {was} {agreed}"
+def _agreement_text(new: WardPlan, broken: Agreement) -> str:
+    """That a plan does not keep what two nurses have agreed on, or what was promised."""
+    place, now = broken.place, readable(new.away.get(broken.place) or cell_text(new.works.get(broken.place)))
+    what, was = ("a promise", "promised was") if broken.is_set else ("an agreed swap", "agreed was")
+    return f"this breaks {what}: {readable(place.nurse)}, {new.days.text(place.day)}: {now}, {was} {cell_text(broken.cell)}"
 
 
 def cost_lines(penalties: Mapping[int, int]) -> List[str]:

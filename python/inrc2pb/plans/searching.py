@@ -3,7 +3,7 @@
 import tempfile
 from dataclasses import replace
 from pathlib import Path
-from typing import Collection, Dict, Iterator, List, NamedTuple, Optional, Sequence, Tuple
+from typing import Dict, Iterator, List, Mapping, NamedTuple, Optional, Sequence, Tuple
 
 from ..judging.absences import is_broken_by
 from ..judging.days_away import DaysAway
@@ -90,23 +90,27 @@ def _files(old: WardPlan, asked: Asked, folder: Path) -> PeriodFiles:
     history, given = folder / history_name(old.state.open_week), folder / _FACTS
     agreed = _kept_agreed(old, asked)
     claims = [*_later_claims(old, asked.first), *_past_claims(old, asked.first)]
-    claims += _agreed_off(old, agreed) if asked.agreed is not Keep.MOST else []
+    claims += [_off(one) for one, cell in agreed.items() if cell is None and asked.agreed is not Keep.MOST]
     write_text(folder / "ward.txt", old.ward.texts["ward.txt"])
     write_text(history, history_text(old.past))
     write_text(given, facts_text(old.scenario.name, claims))
     held = [cell for cell in old.held.values() if cell.day >= asked.first] + [cell for cell in old.cells if cell.day < asked.first]
     if asked.agreed is not Keep.MOST:
-        held += [old.works[one] for one in agreed if one in old.works]
+        held += [cell for cell in agreed.values() if cell]
     weeks, fixes = [], {}
     for number in old.weeks:
         path, fixes[number] = folder / f"week-{number}.txt", folder / f"fix-{number}.txt"
-        write_text(path, week_text(_week(old, number, asked, agreed if asked.agreed is Keep.MOST else ())))
+        write_text(path, week_text(_week(old, number, asked, agreed if asked.agreed is Keep.MOST else {})))
         write_text(fixes[number], solution_text(Solution(number, old.scenario.name, in_week(held, number))))
         weeks.append(path)
     return PeriodFiles(folder / "ward.txt", history, weeks, dict(enumerate(fixes.values())), given=given)
 
 
-def _week(old: WardPlan, number: int, asked: Asked, agreed: Collection[NurseDay]) -> WeekData:
+# The shifts on nurses' days that a search keeps; None is a day off.
+_Agreed = Mapping[NurseDay, Optional[Cell]]
+
+
+def _week(old: WardPlan, number: int, asked: Asked, agreed: _Agreed) -> WeekData:
     """The file of a week, in which few shifts change, if that is asked for, and as few of these agreed ones as possible."""
     if not old.is_planned:
         return old.data[number]
@@ -116,24 +120,22 @@ def _week(old: WardPlan, number: int, asked: Asked, agreed: Collection[NurseDay]
     of_week, beside = (
         [(one.nurse, one.day - first) for one in days if one.day // WEEK_DAYS == number] for days in (agreed, days_off_beside_absences(old))
     )
-    return with_few_changes(old.scenario, old.data[number], old.state.roster(number), softly, agreed=of_week, new=new, beside=beside)
+    works: Dict[NurseDay, Optional[Cell]] = {**old.works, **agreed}
+    roster = in_week([cell for cell in works.values() if cell], number)
+    return with_few_changes(old.scenario, old.data[number], roster, softly, agreed=of_week, new=new, beside=beside)
 
 
-def _kept_agreed(old: WardPlan, asked: Asked) -> List[NurseDay]:
-    """The days of swaps, and those that were set, that can be kept: nobody is away on them, and the spreadsheet holds no shift."""
+def _kept_agreed(old: WardPlan, asked: Asked) -> Dict[NurseDay, Optional[Cell]]:
+    """The days of swaps, and those that were set, that can be kept: nobody is away on them, who works has the skill, and the spreadsheet
+    holds no shift."""
 
-    def can_be_kept(one: NurseDay) -> bool:
-        cell = old.works.get(one)
-        is_away = cell is not None and is_broken_by(old.absences, cell)
-        return one.day >= asked.first and one not in old.held and not is_away
+    def can_be_kept(one: NurseDay, cell: Optional[Cell]) -> bool:
+        is_possible = cell is None or (cell.skill in old.scenario.nurses[one.nurse].skills and not is_broken_by(old.absences, cell))
+        return one.day >= asked.first and one not in old.held and is_possible
 
-    asked_for = [one.place for one in old.state.set_days] if asked.agreed is Keep.NONE else old.state.kept
-    return [one for one in asked_for if old.is_planned and can_be_kept(one)]
-
-
-def _agreed_off(old: WardPlan, agreed: Sequence[NurseDay]) -> List[Claim]:
-    """That nurses are off on agreed days on which they have no shift."""
-    return [_off(one) for one in agreed if one not in old.works]
+    swaps = {} if asked.agreed is Keep.NONE else {one: old.works.get(one) for one in old.state.agreed}
+    asked_for = {**swaps, **{one.place: one.cell for one in old.state.set_days}} if old.is_planned else {}
+    return {one: cell for one, cell in asked_for.items() if can_be_kept(one, cell)}
 
 
 def _off(one: NurseDay) -> Claim:

@@ -40,16 +40,25 @@ class DayWord(NamedTuple):
 
 
 class SetDay(NamedTuple):
-    """A nurse's day whose shift, or day off, was set: later plans keep it. `reason` is what was written with it, or empty."""
+    """A nurse's day whose shift, or day off, was set: it is promised to her, and later plans and swaps keep it until it is taken back.
+    `reason` is what was written with it, or empty; `shift` is empty for a day off, and None in the file of an older version, which has it
+    in the roster only."""
 
     nurse: str
     day: int
     reason: str = ""
+    shift: Optional[str] = ""
+    skill: str = ""
 
     @property
     def place(self) -> NurseDay:
         """The nurse's day."""
         return NurseDay(self.nurse, self.day)
+
+    @property
+    def cell(self) -> Optional[Cell]:
+        """The shift that is promised; None for a day off."""
+        return Cell(self.nurse, self.day, self.shift, self.skill) if self.shift else None
 
 
 class Record(NamedTuple):
@@ -89,9 +98,14 @@ class State:
     set_days: Tuple[SetDay, ...] = ()
 
     @property
+    def promised(self) -> Dict[NurseDay, SetDay]:
+        """The nurses' days that were set."""
+        return {one.place: one for one in self.set_days}
+
+    @property
     def kept(self) -> Tuple[NurseDay, ...]:
         """The nurses' days that later plans keep as they are: those of swaps, and those that were set."""
-        return (*self.agreed, *(one.place for one in self.set_days))
+        return tuple(dict.fromkeys((*self.agreed, *self.promised)))
 
     @property
     def first(self) -> int:
@@ -120,10 +134,13 @@ class State:
             set_days=self.set_days,
         )
 
+    def agreeing(self, fits: Callable[[NurseDay], bool]) -> "State":
+        """The same with those days of swaps that fit. Days that were set stay until they are taken back."""
+        return replace(self, agreed=tuple(one for one in self.agreed if fits(one)))
+
     def keeping(self, fits: Callable[[NurseDay], bool]) -> "State":
         """The same with those days of swaps, and those that were set, that fit."""
-        agreed = tuple(one for one in self.agreed if fits(one))
-        return replace(self, agreed=agreed, set_days=tuple(one for one in self.set_days if fits(one.place)))
+        return replace(self.agreeing(fits), set_days=tuple(one for one in self.set_days if fits(one.place)))
 
 
 # ---- the words of days away
@@ -219,7 +236,7 @@ def _record_of(values: Any) -> Record:
     is_day, open_week = _is_number_to(days.total - 1), _taken(values, "weeks over", _is_number_to(weeks))
     absences = _rows(values, "days away", [_is_text, is_day, _is_text, _is_number_to(1)], least=3)
     agreed = _rows(values, "agreed days", [_is_text, is_day])
-    set_days = _rows(values, _SET, [_is_text, is_day, lambda value: isinstance(value, str)])
+    set_days = _rows(values, _SET, [_is_text, is_day, *[lambda value: isinstance(value, str)] * 3], least=3)
     return Record(
         _taken(values, "verb", _is_text),
         _time(values, "time", "%Y-%m-%d %H:%M"),
@@ -228,7 +245,7 @@ def _record_of(values: Any) -> Record:
         published=_taken(values, "published", lambda value: isinstance(value, bool)),
         absences=tuple(DayWord(*row) for row in absences),
         agreed=tuple(NurseDay(*row) for row in agreed),
-        set_days=tuple(SetDay(*row) for row in set_days),
+        set_days=tuple(SetDay(*(row if len(row) > 3 else [*row, None])) for row in set_days),
     )
 
 
@@ -280,7 +297,17 @@ def read_state(folder: Path) -> State:
         published=record.published,
         absences=record.absences,
         agreed=record.agreed,
-        set_days=record.set_days,
+        set_days=_with_shifts(record.set_days, cells),
+    )
+
+
+def _with_shifts(set_days: Sequence[SetDay], cells: Sequence[Cell]) -> Tuple[SetDay, ...]:
+    """The days that were set, those of an older version with the shifts of the rosters."""
+    works = {NurseDay(cell.nurse, cell.day): cell for cell in cells}
+    found = ((one, works.get(one.place)) for one in set_days)
+    return tuple(
+        one if one.shift is not None else one._replace(shift=cell.shift if cell else "", skill=cell.skill if cell else "")
+        for one, cell in found
     )
 
 

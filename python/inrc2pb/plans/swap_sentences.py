@@ -5,14 +5,15 @@ from typing import List
 from ..judging.limits import limits_in_words
 from ..shown.changes import Charged, charge_lines, sum_text
 from ..shown.why import in_words as charge_text
-from ..week.records import NurseDay
-from ..week.words import plural, readable
+from ..week.records import DAYS, WEEK_DAYS, NurseDay
+from ..week.words import OFF, plural, readable
 from .changes import shift_changes
 from .facts import beside_days_away
 from .outcome import DaySet, Offers, Swapped
 from .sentences import beside_text, call_lines, cell_text, change_lines, exceeded_lines, pages_lines, wish_lines
+from .state import BACK, SetDay
 from .swaps import Fault, Instead, Kind, Offer, Swaps
-from .ward import WardPlan
+from .ward import ALWAYS_OFF, PROMISED, WardPlan
 
 # The most swaps that are offered.
 MOST_OFFERS = 8
@@ -29,15 +30,32 @@ def fault_text(plan: WardPlan, fault: Fault) -> str:
         return f"{', '.join(above)}, and this limit holds"
     if fault.kind is Kind.BESIDE and fault.beside:
         return beside_text(plan.days, fault.beside)
+    if fault.promise:
+        return promise_fault_text(plan, fault.promise)
+    away = {
+        ALWAYS_OFF: f"{nurse} is always off on {DAYS[fault.day % WEEK_DAYS]}, by the sheet nurses",
+        PROMISED: f"{nurse} is promised {OFF} on {day} by the sheet plan: empty her cell of this day, and save the sheet",
+    }
     texts = {
         Kind.HELD: f"{nurse} has her shift on {day} for certain, by the spreadsheet",
-        Kind.AWAY: f"{nurse} is away on {day} ({fault.what})",
+        Kind.AWAY: away.get(fault.what, f"{nurse} is away on {day} ({fault.what})"),
         Kind.NEVER: f"{nurse} never works {fault.what}",
         Kind.SKILL: f"{nurse} does not have the skill {fault.what}",
         Kind.FOLLOWS: f"{nurse} may not work {fault.what} on {day} after {fault.before}",
         Kind.MINIMUM: f"{fault.what} on {day} needs at least {plural(fault.number, 'nurse')}, and without {nurse} has fewer",
     }
     return readable(texts[fault.kind])
+
+
+def promise_fault_text(plan: WardPlan, promise: SetDay) -> str:
+    """That a swap would take what was promised, and what to do first."""
+    nurse, day = readable(promise.nurse), plan.days.text(promise.day)
+    first = f"take that back first, with set {nurse} {plan.days.head(promise.day)} {BACK} --do, and then swap"
+    return f"{nurse} is promised {cell_text(promise.cell)} on {day}{_reason_text(promise)}: {first}"
+
+
+def _reason_text(promise: SetDay) -> str:
+    return f" ({promise.reason})" if promise.reason else ""
 
 
 def _refused_lines(plan: WardPlan, faults: List[Fault]) -> List[str]:
@@ -58,9 +76,12 @@ def offer_text(swaps: Swaps, offer: Offer) -> str:
 
 def nobody_text(none: Offers) -> str:
     """Why nobody can take a shift, and what to do."""
-    if NurseDay(none.nurse, none.day) in none.swaps.plan.held:
+    place, plan = NurseDay(none.nurse, none.day), none.swaps.plan
+    if place in plan.state.promised:
+        return promise_fault_text(plan, plan.state.promised[place])
+    if place in plan.held:
         return f"the sheet plan fixes it for {readable(none.nurse)}: empty her cell of this day, save the sheet, and look again"
-    fault = "each swap would break a hard rule, a limit that holds or an absence, or move a fixed shift"
+    fault = "each swap would break a hard rule, a limit that holds, an absence or a promise, or move a fixed shift"
     return f"{fault}: look at a swap with one nurse, which says what it breaks"
 
 
@@ -119,27 +140,30 @@ def _charged(plan: WardPlan) -> List[Charged]:
 def day_set_lines(day_set: DaySet, write: str) -> List[str]:
     """Why a nurse's day cannot be set, or what that changes and costs, and whether it is written; who could do it instead."""
     if day_set.takes_back:
-        said = [f"{_set_text(day_set)}: later plans may change it again"]
+        said = [f"{_promise_text(day_set.old, day_set.promise)}: swaps and later plans may change it again"]
     elif day_set.faults:
         return [*_refused_lines(day_set.old, [*day_set.faults]), *_instead_lines(day_set)]
     else:
-        said = [*changed_lines(day_set.old, day_set.new), f"{_set_text(day_set)}: later plans keep it, until it is taken back"]
+        older = [f"this replaces what was promised: {_promise_text(day_set.old, day_set.replaces)}"] if day_set.replaces else []
+        said = [*older, *changed_lines(day_set.old, day_set.new)]
+        said.append(f"{_promise_text(day_set.old, day_set.promise)}: swaps and later plans keep it, until it is taken back")
     if not day_set.is_written:
         instead = [] if day_set.takes_back else _instead_lines(day_set)
         return [*said, f"nothing is written: {write}", *instead] if write else said
     return [*said, *exceeded_lines(day_set.new), *pages_lines(day_set.pages)]
 
 
-def _set_text(day_set: DaySet) -> str:
-    """Whose day is set, and to what."""
-    reason = f" ({day_set.reason})" if day_set.reason else ""
-    return f"{readable(day_set.place.nurse)}, {day_set.old.days.text(day_set.place.day)}: {cell_text(day_set.now)}{reason}"
+def _promise_text(plan: WardPlan, promise: SetDay) -> str:
+    """Whose day is promised, what she has then, and why."""
+    return f"{readable(promise.nurse)}, {plan.days.text(promise.day)}: {cell_text(promise.cell)}{_reason_text(promise)}"
 
 
 def _instead_lines(day_set: DaySet) -> List[str]:
     """Who could do it instead, or swap for it, and how that is written."""
+    if day_set.replaces and not day_set.instead:
+        return ["who else could do it is known after the older promise is taken back"]
     if not day_set.instead:
-        return ["nobody else could do it without a broken rule"]
+        return ["nobody else could do it without a broken rule or promise"]
     nurse, day = readable(day_set.place.nurse), day_set.old.days.head(day_set.place.day)
     shown = day_set.instead[:MOST_OFFERS]
     ways = [f"swap {nurse} {day} NAME" if way.swap or not day_set.now else f"set NAME {day} {readable(day_set.now.shift)}" for way in shown]

@@ -19,6 +19,7 @@ from ..judging.rules import Charge, costs
 from ..week.records import Cell, History, NurseDay, Place, Week, WeekData, exchanged, in_week
 from ..week.soft_rules import MISSING_NURSE
 from .facts import Beside, beside_of
+from .state import SetDay
 from .ward import WardPlan
 
 # A nurse's shifts, by the days of the plan.
@@ -35,8 +36,8 @@ class Above(NamedTuple):
 
 class Kind(enum.Enum):
     """Why a nurse cannot have some shifts: a limit that holds, a row or a night beside days away, a shift that is held, a day on which she
-    is away, a shift type that she never works, a skill that she does not have, a shift type that may not follow another one, and a place
-    that has its minimum number of nurses only with her."""
+    is away, a shift type that she never works, a skill that she does not have, a shift type that may not follow another one, a place
+    that has its minimum number of nurses only with her, and a day that was promised to her."""
 
     LIMIT = enum.auto()
     BESIDE = enum.auto()
@@ -46,11 +47,13 @@ class Kind(enum.Enum):
     SKILL = enum.auto()
     FOLLOWS = enum.auto()
     MINIMUM = enum.auto()
+    PROMISED = enum.auto()
 
 
 class Fault(NamedTuple):
     """Why a nurse cannot have some shifts: on a day, a word for why she is away, a shift type or a skill, and the shift type before it;
-    or what she has above limits, or what is wrong beside her days away; or the place that she leaves, and its minimum number."""
+    or what she has above limits, or what is wrong beside her days away; or the place that she leaves, and its minimum number; or what was
+    promised to her."""
 
     kind: Kind
     nurse: str
@@ -60,6 +63,7 @@ class Fault(NamedTuple):
     above: Tuple[Above, ...] = ()
     beside: Optional[Beside] = None
     number: int = 0
+    promise: Optional[SetDay] = None
 
 
 class NurseWeeks:
@@ -204,8 +208,18 @@ class Swaps:
         return sum(self._alone.cost(nurse, cells) - self._costs[nurse] for nurse, cells in self._after(swap))
 
     def faults(self, swap: Swap) -> List[Fault]:
-        """Why the swap cannot be: hard rules, limits, absences and held shifts that it breaks, and what it makes worse beside days away."""
-        return [fault for nurse, cells in self._after(swap) for fault in self._faults(nurse, cells, swap.days)]
+        """Why the swap cannot be: promises, hard rules, limits, absences and held shifts that it breaks, and what it makes worse beside
+        days away."""
+        after = list(self._after(swap))
+        promises = [fault for nurse, cells in after for fault in self._broken_promises(nurse, cells, swap.days)]
+        return [*promises, *(fault for nurse, cells in after for fault in self._faults(nurse, cells, swap.days))]
+
+    def _broken_promises(self, nurse: str, cells: NurseCells, days: Sequence[int]) -> Iterator[Fault]:
+        """The promised days of the nurse, of these days, on which such shifts are other ones than now, and not those that were promised."""
+        promised = self.plan.state.promised
+        for one in (promised[place] for place in (NurseDay(nurse, day) for day in days) if place in promised):
+            if cells.get(one.day) not in (one.cell, self.works(nurse, one.day)):
+                yield Fault(Kind.PROMISED, nurse, one.day, promise=one)
 
     def offers(self, nurse: str, day: int) -> List[Offer]:
         """All swaps by which another nurse takes this shift, the cheapest and nearest first: alone, or for one of her shifts."""
@@ -248,7 +262,8 @@ class Swaps:
             same = before.shift == now.shift and not self.faults(swap)
             return Instead(self.cost(swap), other, swap) if same else None
         her, hers = NurseDay(other, place.day), now._replace(nurse=other)
-        return None if self.day_faults(her, hers) else Instead(self.day_cost(her, hers), other)
+        is_refused = her in self.plan.state.promised or self.day_faults(her, hers)
+        return None if is_refused else Instead(self.day_cost(her, hers), other)
 
     def _with_day(self, place: NurseDay, now: Optional[Cell]) -> Dict[int, Cell]:
         """The nurse's shifts with this one on her day, or with none."""

@@ -158,7 +158,7 @@ def _searched(store: PlanStore, verb: str, old: WardPlan, asked: Asked, absence:
         if not asked.few_changes:
             found = found._replace(plan=_evened(found.plan, asked))
         works, before = found.plan.works, old.works
-        new = found.plan.with_state(found.plan.state.keeping(lambda one: works.get(one) == before.get(one)))
+        new = found.plan.with_state(found.plan.state.agreeing(lambda one: works.get(one) == before.get(one)))
         older = absence.old if absence else old
         seen = older if old.is_planned else None
         status = Status.NOT_KEPT if unkept(new) else Status.DONE
@@ -262,7 +262,7 @@ def _set(store: PlanStore, event: Event) -> DaySet:
 
 
 def _agreed_swap(store: PlanStore, plan: WardPlan, place: NurseDay) -> Optional[Swap]:
-    """The last swap that was written for a nurse's day, by the verbs of the plans, if the plan keeps it."""
+    """The last swap that was written for a nurse's day, by the verbs of the plans, if the plan keeps it, and a swap may move its days."""
     records = (known_record(path) for path in reversed(store.folder.all_plans())) if place in plan.state.agreed else ()
     for record in records:
         words = record.verb.split(" ") if record and record.days == plan.days else []
@@ -270,7 +270,8 @@ def _agreed_swap(store: PlanStore, plan: WardPlan, place: NurseDay) -> Optional[
             heads = f" {' '.join(words[3:])} "
             swap = Swap(words[1], words[2], tuple(day for day in range(plan.days.total) if f" {plan.days.head(day)} " in heads))
             if place in swap.places:
-                return swap if set(swap.places) <= set(plan.state.agreed) else None
+                is_kept = set(swap.places) <= set(plan.state.agreed) and not set(swap.places) & {*plan.state.promised}
+                return swap if is_kept else None
     return None
 
 

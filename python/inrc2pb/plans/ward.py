@@ -304,6 +304,7 @@ def continued(ward: Ward, state: State) -> WardPlan:
     cells = tuple(cell for cell in state.cells if cell not in unknown)
     now = replace(state, days=ward.days, start=_start(ward, state.start), cells=cells)
     now = now.keeping(lambda one: one.nurse in ward.scenario.nurses and state.first <= one.day < ward.days.total)
+    now = replace(now, set_days=tuple(one for one in now.set_days if one.cell is None or ward.knows(one.cell)))
     return plan_of(ward, now, unknown)
 
 

@@ -10,7 +10,7 @@ from ..week.words import OFF, readable
 from .changes import Change, changes, shifts_text
 from .markup import Markup, element, hidden, joined, shown
 from .roster_text import COLORS, cuts
-from .roster_view import AWAY, MEANINGS, Covered, RosterView, ShownCell, coverage
+from .roster_view import AWAY, HELD, MEANINGS, Covered, RosterView, ShownCell, coverage
 from .totals import Sums, Totals, sum_heads, totals, worked
 
 # Weeks next to one another in a table of the roster and of the coverage, so that it fits a page.
@@ -32,6 +32,7 @@ MEANINGS_OF_SUMS = {
 }
 HOLIDAY, HOLIDAY_MEANING = "\u2022", "other numbers of nurses are needed, as on a bank holiday"
 SWAPPED, SWAPPED_MEANING = "\u21c4", "a swap that was written"
+PROMISED, PROMISED_MEANING = "\u2713", "promised: swaps and later plans keep it"
 MINUS = "\u2212"
 
 
@@ -43,8 +44,8 @@ class Content:
     in a week of the table, if its cells are links. `name` is that of the ward for people, if the roster's own one is not, and `since`
     says which the older roster is. `holidays` are days from the first Monday on with numbers of their own, as bank holidays have, `as_of`
     says when the page was made, `notes` are lines on what to look at, `swapped` has the weeks of the table, nurses and days of swaps that
-    were written, and `plan` is the name of the plan of a ward's folder that the page shows. `sums` has what each nurse has in the whole
-    period, and `all_sums` in that and all earlier ones of the folder, if there are some.
+    were written, `promised` those of days that were promised, and `plan` is the name of the plan of a ward's folder that the page shows.
+    `sums` has what each nurse has in the whole period, and `all_sums` in that and all earlier ones of the folder, if there are some.
     """
 
     view: RosterView
@@ -59,6 +60,7 @@ class Content:
     as_of: Optional[datetime.datetime] = None
     notes: Sequence[str] = ()
     swapped: Collection[Tuple[int, str, int]] = ()
+    promised: Collection[Tuple[int, str, int]] = ()
     plan: str = ""
     sums: Mapping[str, Sums] = field(default_factory=dict)
     all_sums: Mapping[str, Sums] = field(default_factory=dict)
@@ -81,6 +83,17 @@ class Content:
     def is_swapped(self, week: int, nurse: str, day: int) -> bool:
         """Whether the page shows that a nurse's day is of a swap that was written."""
         return (week, nurse, day) in self.swapped and not self.only_table
+
+    def is_promised(self, week: int, nurse: str, day: int) -> bool:
+        """Whether a nurse's day is promised to her. On a wall a held shift is promised too, since nothing else says that it is held."""
+        is_held = any(HELD in cell.marks for cell in self.view.cells(week, nurse, day))
+        return (week, nurse, day) in self.promised or (self.only_table and is_held)
+
+    @property
+    def has_promises(self) -> bool:
+        """Whether some nurse's day is promised to her."""
+        weeks = range(len(self.view.weeks))
+        return any(self.is_promised(week, nurse, day) for week in weeks for nurse in self.view.nurses for day in range(len(DAYS)))
 
     def marks(self, marks: str) -> str:
         """Those marks of a cell that the page shows."""
@@ -203,25 +216,32 @@ class RosterTable:
         change = self.changed.get((week, nurse, day))
         parts = [self._shift(cell) for cell in cells]
         if not cells and self.view.is_away(week, nurse, day):
-            # On a wall nobody reads why, and a day off is one for whatever reason.
-            why = self.view.reason(week, nurse, day)
-            if self.page.only_table:
-                why = "" if why in _DAYS_OFF else "away"
-            parts.append(element("span", why, class_="away"))
+            parts.append(element("span", self._why(week, nurse, day), class_="away"))
         elif not cells and change:
             parts.append(element("span", OFF, class_="away"))
         if change:
             before = shifts_text(change.before) if self.page.only_table else change.before_text
             older = f" {self.page.changed}, instead of {readable(before)}"
             parts.append(joined(shown(CHANGED, class_="mark"), hidden(older)))
-        if self.page.is_swapped(week, nurse, day):
-            parts.append(joined(shown(SWAPPED, class_="mark"), hidden(f", {SWAPPED_MEANING}")))
+        for sign, meaning, is_so in (
+            (SWAPPED, SWAPPED_MEANING, self.page.is_swapped(week, nurse, day)),
+            (PROMISED, PROMISED_MEANING, self.page.is_promised(week, nurse, day)),
+        ):
+            if is_so:
+                parts.append(joined(shown(sign, class_="mark"), hidden(f", {meaning}")))
         number = self.view.shifts.index(cells[0].shift) % len(COLORS) if cells else None
         kinds = [_weekend(day), f"s{number}" if cells else None, "changed" if change else None]
         if self.page.link:
             named = hidden(f"{readable(nurse)}, {self.page.days(week)[day]}: ")
             parts = [element("a", named, *(parts or [shown("\u00b7")]), href=self.page.link(week, nurse, day), tabindex="-1")]
         return element("td", *parts, class_=" ".join(kind for kind in kinds if kind) or None)
+
+    def _why(self, week: int, nurse: str, day: int) -> str:
+        """Why a nurse is away on a day. On a wall nobody reads why, and a day off is one for whatever reason."""
+        why = self.view.reason(week, nurse, day)
+        if self.page.only_table:
+            return "" if why in _DAYS_OFF else "away"
+        return "off" if why in _DAYS_OFF else why
 
     def _shift(self, cell: ShownCell) -> Markup:
         shift, skill = readable(cell.shift), readable(cell.skill)
@@ -248,6 +268,8 @@ class RosterTable:
         lines += [f"{mark} = {meaning}" for mark, meaning in meanings.items() if mark in marks or mark == CHANGED and self.changed]
         if any(self.page.is_swapped(*place) for place in self.page.swapped):
             lines.append(f"{SWAPPED} = {SWAPPED_MEANING}")
+        if self.page.has_promises:
+            lines.append(f"{PROMISED} = {PROMISED_MEANING}")
         if self.page.holidays:
             lines.append(f"{HOLIDAY} = {HOLIDAY_MEANING}")
         if self.page.only_table and self.page.sums:

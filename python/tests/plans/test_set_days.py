@@ -36,13 +36,13 @@ class Asked(SetTest):
         found = self.asked("Grace", "Sat", "Day", "she", "asked", "for", "it")
         self.assertEqual((type(found), found.status, found.is_written), (DaySet, Status.DONE, False))
         self.assertEqual((found.place, found.now), (NurseDay("Grace", 5), Cell("Grace", 5, "Day", "Nurse")))
-        self.assertEqual(found.new.state.set_days, (SetDay("Grace", 5, "she asked for it"),))
+        self.assertEqual(found.new.state.set_days, (SetDay("Grace", 5, "she asked for it", "Day", "Nurse"),))
         self.assertEqual(Swaps(found.old).day_cost(found.place, found.now), 30 + 15 + 30 + 30 - 20)
         self.assertEqual({one for one in found.new.works.items() if one not in found.old.works.items()}, {(found.place, found.now)})
         said = lines(found, WRITE)
         self.assertIn("Grace, Sat 5 Dec: Day Nurse instead of off", said)
         self.assertIn("1 nurse to call: Grace", said)
-        self.assertIn("Grace, Sat 5 Dec: Day Nurse (she asked for it): later plans keep it, until it is taken back", said)
+        self.assertIn("Grace, Sat 5 Dec: Day Nurse (she asked for it): swaps and later plans keep it, until it is taken back", said)
         self.assertIn(f"nothing is written: {WRITE}", said)
         before, now = (plan.view().penalty for plan in (found.old, found.new))
         self.assertEqual(now - before, 85)
@@ -134,13 +134,14 @@ class Written(SetTest):
         self.does("set", "Grace", "Sat", "Day")
         self.assertEqual(self.last(), before)
         printed = self.set("Grace", "Sat", "Day", "asked", "for")
-        self.assertIn("later plans keep it", printed)
+        self.assertIn("swaps and later plans keep it", printed)
         self.assertEqual(self.cells()["Grace", 5], ("Day", "Nurse"))
-        self.assertEqual(read_state(self.last()).set_days, (SetDay("Grace", 5, "asked for"),))
+        self.assertEqual(read_state(self.last()).set_days, (SetDay("Grace", 5, "asked for", "Day", "Nurse"),))
         self.assertEqual(read_record(self.last()).verb, "set Grace 2026-12-05 Day")
         status, _, said = run("plan", self.ward, "set", "Grace", "Sat", "Day", "asked", "for")
         self.assertEqual((status, said.split(": ")[2]), (1, "set Grace 2026-12-05 back takes that back\n"))
-        self.assertIn("Grace, Sat 5 Dec: Day Nurse: later plans may change it again\n", self.set("Grace", "Sat", "back"))
+        says = "Grace, Sat 5 Dec: Day Nurse (asked for): swaps and later plans may change it again\n"
+        self.assertIn(says, self.set("Grace", "Sat", "back"))
         self.assertEqual((read_state(self.last()).set_days, self.cells()["Grace", 5]), ((), ("Day", "Nurse")))
 
     def test_what_cannot_be_is_not_written(self):
@@ -192,8 +193,11 @@ class Kept(SetTest):
     def test_an_illness_on_its_day_is_named(self):
         self.does("set", "Grace", "Sat", "Day", "--do")
         printed = self.does("ill", "Grace", "Sat")
-        self.assertIn("this breaks what was set: Grace, Sat 5 Dec: ill, set was Day Nurse\n", printed)
-        self.assertEqual(read_state(self.last()).set_days, ())
+        self.assertIn("this breaks a promise: Grace, Sat 5 Dec: ill, promised was Day Nurse\n", printed)
+        # The promise stays below the illness: she has the shift again if she is back.
+        self.assertEqual([one.place for one in read_state(self.last()).set_days], [("Grace", 5)])
+        self.assertIn("Grace, Sat 5 Dec: Day Nurse instead of off\n", self.does("back", "Grace", "Sat"))
+        self.assertEqual(self.cells()["Grace", 5], ("Day", "Nurse"))
 
 
 class Promised(KeptTest):

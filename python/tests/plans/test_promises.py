@@ -1,0 +1,215 @@
+"""Tests of promises: what `set` has promised stays in swaps, offers and later plans, is seen on the pages, and is taken back by `set .. back`
+after whatever came between."""
+
+import json
+import random
+import unittest
+from dataclasses import replace
+from test_set_days import WRITE, SetTest
+from unittest import mock
+from ward import HAS_CBC
+from xml.etree import ElementTree
+
+from inrc2pb.plans import events, pages
+from inrc2pb.plans.changes import without_needless_changes
+from inrc2pb.plans.facts import broken_agreements
+from inrc2pb.plans.fairness import more_even
+from inrc2pb.plans.outcome import Asked, Event, Keep, Status
+from inrc2pb.plans.render import lines
+from inrc2pb.plans.searching import _kept_agreed
+from inrc2pb.plans.sentences import promise_text
+from inrc2pb.plans.state import SetDay, read_record, read_state
+from inrc2pb.plans.swaps import Kind, Swap, Swaps
+from inrc2pb.plans.ward import continued
+from inrc2pb.shown.page import page_text
+from inrc2pb.week.faults import Misuse
+from inrc2pb.week.records import NurseDay
+
+# Grace works Day on each weekday, Finn Late on Monday, Tuesday and from Friday on, and Chen Night from Friday on.
+FRIDAY = SetDay("Grace", 4, "her sister marries", "Day", "Nurse")
+FREE = SetDay("Grace", 5, "", "", "")
+
+
+class PromiseTest(SetTest):
+    def promising(self, *promises, plan=None):
+        """The stored plan with these promises."""
+        plan = plan or self.plan
+        return plan.with_state(replace(plan.state, set_days=promises))
+
+
+class Swapping(PromiseTest):
+    def test_a_swap_of_a_promised_day_is_refused_with_the_promise_and_the_way_out(self):
+        plan = self.promising(FRIDAY)
+        (fault,) = [one for one in Swaps(plan).faults(Swap("Grace", "Finn", (4,))) if one.kind is Kind.PROMISED]
+        self.assertEqual((fault.nurse, fault.day, fault.promise), ("Grace", 4, FRIDAY))
+        found = events.swap(plan, Swap("Finn", "Grace", (4,)), None, has_offers=False)
+        says = (
+            "not possible: Grace is promised Day Nurse on Fri 4 Dec (her sister marries): take that back first, with "
+            "set Grace 2026-12-04 back --do, and then swap"
+        )
+        self.assertEqual((found.status, lines(found, WRITE)[:2]), (Status.NOT_KEPT, [says, "nothing is written"]))
+        self.assertEqual(events.swap(self.plan, Swap("Finn", "Grace", (4,)), None, has_offers=False).status, Status.DONE)
+
+    def test_a_promised_day_off_is_taken_by_no_swap(self):
+        plan = self.promising(FREE)
+        # Finn has Late on Saturday.
+        self.assertIn(Kind.PROMISED, [one.kind for one in Swaps(plan).faults(Swap("Grace", "Finn", (5,)))])
+        self.assertEqual([one for one in Swaps(plan).faults(Swap("Grace", "Finn", (4,))) if one.kind is Kind.PROMISED], [])
+
+    def test_offers_have_no_promised_day(self):
+        swaps = Swaps(self.plan)
+        # Each offer of the stored plan is gone if a day that it moves is promised, and others stay.
+        tried = 0
+        for nurse, day in (("Grace", 4), ("Finn", 5), ("Chen", 4)):
+            for offer in swaps.offers(nurse, day):
+                for place in offer.swap.places:
+                    cell = self.plan.works.get(place)
+                    one = SetDay(*place, "", cell.shift if cell else "", cell.skill if cell else "")
+                    left = Swaps(self.promising(one)).offers(nurse, day)
+                    moves = {NurseDay(who, on) for who in (offer.swap.one, offer.swap.other) for on in offer.swap.days}
+                    self.assertIn(place, moves)
+                    self.assertFalse([other for other in left if place in other.swap.places and self.moved(other.swap, place)])
+                    tried += 1
+        self.assertGreater(tried, 10)
+
+    def moved(self, swap, place):
+        """Whether a swap gives a nurse another shift on her day."""
+        other = swap.other if place.nurse == swap.one else swap.one
+        cells = [self.plan.works.get(NurseDay(nurse, place.day)) for nurse in (place.nurse, other)]
+        return (cells[0] and cells[0][2:]) != (cells[1] and cells[1][2:])
+
+    def test_a_shift_that_is_promised_is_offered_to_nobody(self):
+        found = events.offers_of(Swaps(self.promising(FRIDAY)), "Grace", 4)
+        self.assertEqual(found.offers, ())
+        (said,) = lines(found)
+        self.assertIn("nobody can take Grace's Day on Fri 4 Dec: Grace is promised Day Nurse on Fri 4 Dec (her sister marries): take", said)
+
+    def test_who_else_could_have_a_shift_is_nobody_with_a_promise(self):
+        found = self.asked("Grace", "Mon", "Late")
+        self.assertEqual({one.nurse for one in found.instead}, {"Chen", "Ewa"})
+        found = events.set_day(self.promising(SetDay("Chen", 0)), Event("set", ("Grace", "Mon", "Late")))
+        self.assertEqual({one.nurse for one in found.instead}, {"Ewa"})
+
+
+class Replacing(PromiseTest):
+    def test_what_is_replaced_is_said(self):
+        found = events.set_day(self.promising(FRIDAY), Event("set", ("Grace", "Fri", "off", "she", "asked")))
+        self.assertEqual(found.replaces, FRIDAY)
+        self.assertEqual(found.new.state.set_days, (SetDay("Grace", 4, "she asked", "", ""),))
+        said = lines(found, WRITE)
+        self.assertEqual(said[0], "this replaces what was promised: Grace, Fri 4 Dec: Day Nurse (her sister marries)")
+        self.assertEqual(said[-1], "who else could do it is known after the older promise is taken back")
+        self.assertNotIn("this replaces", "\n".join(self.said("Grace", "Fri", "off")))
+
+    def test_a_swap_stays_below_a_promise_of_the_same_shift(self):
+        agreed = (NurseDay("Grace", 4), NurseDay("Finn", 4))
+        plan = self.plan.with_state(replace(self.plan.state, agreed=agreed))
+        same = events.set_day(plan, Event("set", ("Grace", "Fri", "Day"))).new
+        self.assertEqual((same.state.agreed, len(same.state.kept)), (agreed, 2))
+        other = events.set_day(plan, Event("set", ("Grace", "Fri", "off"))).new
+        self.assertEqual(other.state.agreed, agreed[1:])
+
+    def test_what_there_is_to_take_back(self):
+        self.rows["plan"][7][1:3] = ["off", "Day"]
+        self.write()
+        plan = self.read()
+        plan = plan.with_state(replace(plan.state, agreed=(NurseDay("Grace", 3),)))
+        sheet = "the sheet plan promises it to her, so empty her cell of this day, and save the sheet"
+        for day, cure in (
+            ("Mon", sheet),
+            ("Tue", sheet),
+            ("Thu", "the day is kept for a swap, which the same line as that of the swap, with --do, takes back"),
+            ("Fri", "set it first, or type undo"),
+        ):
+            with self.subTest(day), self.assertRaises(Misuse) as caught:
+                events.set_day(plan, Event("set", ("Grace", day, "back")))
+            self.assertRegex(str(caught.exception), f"^nothing is set for Grace on {day} .*: {cure}$")
+
+
+class LaterPlans(PromiseTest):
+    def test_a_search_keeps_what_is_promised_and_not_what_is_planned(self):
+        # An illness has taken the promised shift of Friday, and the plan has another one on Thursday.
+        promises = FRIDAY, FREE, SetDay("Grace", 3, "", "Late", "Nurse")
+        plan = self.promising(*promises)
+        for how in Keep:
+            kept = _kept_agreed(plan, Asked(0, True, 1.0, how))
+            self.assertEqual(kept, {one.place: one.cell for one in promises})
+        # What cannot be is not kept: she is away, never works it, has not the skill, or the day is before the first one.
+        self.assertEqual(set(_kept_agreed(plan, Asked(4, True, 1.0))), {FRIDAY.place, FREE.place})
+        self.rows["plan"][7][5] = "ill"
+        self.write()
+        plan = self.promising(FRIDAY, SetDay("Grace", 3, "", "Day", "Charge"), SetDay("Finn", 3, "", "Night", "Nurse"), plan=self.read())
+        self.assertEqual(_kept_agreed(plan, Asked(0, True, 1.0)), {})
+
+    def test_needless_changes_are_not_taken_back_to_a_broken_promise(self):
+        # The old plan has Grace off on Friday, against the promise; the new one has it.
+        old = self.promising(FRIDAY).with_cells(cell for cell in self.plan.cells if (cell.nurse, cell.day) != ("Grace", 4))
+        new = old.with_cells(self.plan.cells)
+        self.assertEqual(without_needless_changes(old, new).works[FRIDAY.place], FRIDAY.cell)
+
+    def test_exchanges_that_cost_nothing_leave_promises(self):
+        plan = self.promising(*(SetDay(cell.nurse, cell.day, "", cell.shift, cell.skill) for cell in self.plan.cells))
+        self.assertEqual(more_even(plan, 0, 2.0).works, plan.works)
+
+    def test_a_broken_promise_is_told_once_while_she_is_away_and_else_each_time(self):
+        without = [cell for cell in self.plan.cells if (cell.nurse, cell.day) != ("Grace", 4)]
+        old, broken = self.promising(FRIDAY), self.promising(FRIDAY).with_cells(without)
+        self.assertEqual(broken_agreements(old, old), [])
+        self.assertEqual([one.place for one in broken_agreements(old, broken)], [FRIDAY.place])
+        self.assertEqual([one.place for one in broken_agreements(broken, broken)], [FRIDAY.place])
+        self.rows["plan"][7][5] = "ill"
+        self.write()
+        away = self.promising(FRIDAY, plan=self.read(without))
+        self.assertEqual([one.place for one in broken_agreements(old, away)], [FRIDAY.place])
+        self.assertEqual(broken_agreements(away, away), [])
+
+    def test_a_promise_whose_names_the_spreadsheet_has_not_any_more(self):
+        plan = self.promising(FREE, SetDay("Grace", 4, "", "Twilight", "Nurse"))
+        self.assertEqual(continued(plan.ward, plan.state).state.set_days, (FREE,))
+
+
+class Seen(PromiseTest):
+    def marked(self, content):
+        """The nurses and columns whose cells say that they are promised."""
+        table = next(ElementTree.fromstring(page_text(content).partition("\n")[2]).iter("table"))
+        return {
+            (row[0].text, column)
+            for row in table.iter("tr")
+            for column, cell in enumerate(row)
+            if "promised: swaps and later plans keep it" in "".join(cell.itertext())
+        }
+
+    def test_a_promise_is_marked_on_the_roster_and_on_the_wall(self):
+        plan = self.promising(FRIDAY, FREE)
+        content = pages.roster_content(self.ward, plan)
+        for page in (content, replace(content, only_table=True)):
+            self.assertEqual(self.marked(page), {("Grace", 5), ("Grace", 6)})
+            self.assertIn("<li>\u2713 = promised: swaps and later plans keep it</li>", page_text(page))
+        self.assertNotIn("\u2713", page_text(pages.roster_content(self.ward, self.plan)))
+
+    def test_a_promise_that_the_plan_does_not_keep_has_no_mark(self):
+        plan = self.promising(FRIDAY).with_cells(cell for cell in self.plan.cells if (cell.nurse, cell.day) != ("Grace", 4))
+        self.assertEqual(self.marked(pages.roster_content(self.ward, plan)), set())
+
+    def test_promises_of_the_spreadsheet_are_marked_too(self):
+        # A fixed shift has its own mark beside the costs, and the same one as other promises on the wall.
+        self.rows["plan"][7][6], self.rows["plan"][7][1] = "off", "Day"
+        self.write()
+        content = pages.roster_content(self.ward, self.read())
+        self.assertEqual(self.marked(content), {("Grace", 6)})
+        self.assertEqual(self.marked(replace(content, only_table=True)), {("Grace", 1), ("Grace", 6)})
+
+
+class Files(PromiseTest):
+    def test_the_file_of_a_plan_has_the_promised_shift(self):
+        self.does("set", "Grace", "Sat", "Day", "asked", "for", "--do")
+        path = self.last() / "plan.json"
+        self.assertEqual(json.loads(path.read_text())["set days"], [["Grace", 5, "asked for", "Day", "Nurse"]])
+        self.assertEqual(read_record(self.last()).set_days, (SetDay("Grace", 5, "asked for", "Day", "Nurse"),))
+        # An older version has kept nothing of the shift, which is that of the roster.
+        path.write_text(path.read_text().replace(', "Day", "Nurse"]', "]"))
+        self.assertEqual(read_state(self.last()).set_days, (SetDay("Grace", 5, "asked for", "Day", "Nurse"),))
+
+
+if __name__ == "__main__":
+    unittest.main()
