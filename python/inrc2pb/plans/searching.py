@@ -88,7 +88,7 @@ def _weeks(files: PeriodFiles, beside: DaysAway, calls: Calls) -> PlannedWeeks:
 def _files(old: WardPlan, asked: Asked, folder: Path) -> PeriodFiles:
     """The files of a search, in this folder."""
     history, given = folder / history_name(old.state.open_week), folder / _FACTS
-    agreed = _kept_agreed(old, asked)
+    agreed = kept_agreed(old, asked)
     claims = [*_later_claims(old, asked.first), *_past_claims(old, asked.first)]
     claims += [_off(one) for one, cell in agreed.items() if cell is None and asked.agreed is not Keep.MOST]
     write_text(folder / "ward.txt", old.ward.texts["ward.txt"])
@@ -125,7 +125,7 @@ def _week(old: WardPlan, number: int, asked: Asked, agreed: _Agreed) -> WeekData
     return with_few_changes(old.scenario, old.data[number], roster, softly, agreed=of_week, new=new, beside=beside)
 
 
-def _kept_agreed(old: WardPlan, asked: Asked) -> Dict[NurseDay, Optional[Cell]]:
+def kept_agreed(old: WardPlan, asked: Asked) -> Dict[NurseDay, Optional[Cell]]:
     """The days of swaps, and those that were set, that can be kept: nobody is away on them, who works has the skill, and the spreadsheet
     holds no shift."""
 

@@ -1,5 +1,5 @@
-"""Tests of promises: what `set` has promised stays in swaps, offers and later plans, is seen on the pages, and is taken back by `set .. back`
-after whatever came between."""
+"""Tests of promises: what `set` has promised stays in swaps, offers and later plans, is seen on the pages, and is taken back by
+`set .. back` after whatever came between."""
 
 import json
 import random
@@ -7,20 +7,23 @@ import unittest
 from dataclasses import replace
 from test_set_days import WRITE, SetTest
 from unittest import mock
-from ward import HAS_CBC
+from ward import HAS_CBC, run
 from xml.etree import ElementTree
 
-from inrc2pb.plans import events, pages
+from inrc2pb.commands.plan import read_sheet
+from inrc2pb.plans import events, pages, verbs
 from inrc2pb.plans.changes import without_needless_changes
 from inrc2pb.plans.facts import broken_agreements
 from inrc2pb.plans.fairness import more_even
-from inrc2pb.plans.outcome import Asked, Event, Keep, Status
+from inrc2pb.plans.outcome import Asked, Event, Keep, Pages, Status
 from inrc2pb.plans.render import lines
-from inrc2pb.plans.searching import _kept_agreed
-from inrc2pb.plans.sentences import promise_text
+from inrc2pb.plans.searching import Found, kept_agreed
 from inrc2pb.plans.state import SetDay, read_record, read_state
+from inrc2pb.plans.store import Means, PlanStore, WardFolder
 from inrc2pb.plans.swaps import Kind, Swap, Swaps
+from inrc2pb.plans.verbs import Verbs
 from inrc2pb.plans.ward import continued
+from inrc2pb.programs.progress import Progress
 from inrc2pb.shown.page import page_text
 from inrc2pb.week.faults import Misuse
 from inrc2pb.week.records import NurseDay
@@ -132,14 +135,14 @@ class LaterPlans(PromiseTest):
         promises = FRIDAY, FREE, SetDay("Grace", 3, "", "Late", "Nurse")
         plan = self.promising(*promises)
         for how in Keep:
-            kept = _kept_agreed(plan, Asked(0, True, 1.0, how))
+            kept = kept_agreed(plan, Asked(0, True, 1.0, how))
             self.assertEqual(kept, {one.place: one.cell for one in promises})
         # What cannot be is not kept: she is away, never works it, has not the skill, or the day is before the first one.
-        self.assertEqual(set(_kept_agreed(plan, Asked(4, True, 1.0))), {FRIDAY.place, FREE.place})
+        self.assertEqual(set(kept_agreed(plan, Asked(4, True, 1.0))), {FRIDAY.place, FREE.place})
         self.rows["plan"][7][5] = "ill"
         self.write()
         plan = self.promising(FRIDAY, SetDay("Grace", 3, "", "Day", "Charge"), SetDay("Finn", 3, "", "Night", "Nurse"), plan=self.read())
-        self.assertEqual(_kept_agreed(plan, Asked(0, True, 1.0)), {})
+        self.assertEqual(kept_agreed(plan, Asked(0, True, 1.0)), {})
 
     def test_needless_changes_are_not_taken_back_to_a_broken_promise(self):
         # The old plan has Grace off on Friday, against the promise; the new one has it.
@@ -209,6 +212,135 @@ class Files(PromiseTest):
         # An older version has kept nothing of the shift, which is that of the roster.
         path.write_text(path.read_text().replace(', "Day", "Nurse"]', "]"))
         self.assertEqual(read_state(self.last()).set_days, (SetDay("Grace", 5, "asked for", "Day", "Nurse"),))
+
+
+def searched(old, asked, progress):
+    """In place of a search: the plan as it was, but for days away, with what a search keeps."""
+    kept = kept_agreed(old, asked)
+    works = {one: cell for one, cell in old.works.items() if one not in old.away}
+    return Found(old.with_cells(cell for cell in {**works, **kept}.values() if cell))
+
+
+class Sequences(PromiseTest):
+    """Verbs one after another in a random order that is always the same. `promised` has what should be promised, and `older` what was so
+    before each verb that has written something."""
+
+    def setUp(self):
+        super().setUp()
+        self.verbs = Verbs(WardFolder(self.ward), Means(read_sheet, Progress(None), lambda line: None))
+        self.promised, self.older, self.refused = {}, [], 0
+        for where, name, made in (
+            (verbs, "search_plan", searched),
+            (verbs, "penalties", lambda plan: {}),
+            (PlanStore, "pages", lambda store, plan: Pages()),
+        ):
+            patch = mock.patch.object(where, name, made)
+            patch.start()
+            self.addCleanup(patch.stop)
+
+    def done(self, verb, *words):
+        """What comes of a verb; None if it is refused."""
+        try:
+            return self.verbs.done(Event(verb, words, seconds=0.2, do=True))
+        except Misuse:
+            return None
+
+    def head(self, day):
+        return self.plan.days.head(day)
+
+    def event(self, chance, first):
+        """The words of a verb, and what is promised after it, if it writes something."""
+        nurse, other = chance.sample([*self.plan.scenario.nurses], 2)
+        day = self.head(chance.randrange(first, 14))
+        kind = chance.choice(["set"] * 5 + ["swap"] * 5 + ["ill", "back", "back", "plan", "undo", "undo", "take back", "take back"])
+        if kind == "set":
+            return ("set", nurse, day, chance.choice(["off", "Day", "Late", "Night"]))
+        if kind == "swap":
+            place = chance.choice([NurseDay(nurse, self.plan.days.number(day, 0)), *self.promised])
+            return ("swap", place.nurse, self.head(place.day), other if other != place.nurse else nurse)
+        if kind == "take back" and self.promised:
+            place = chance.choice([*self.promised])
+            return ("set", place.nurse, self.head(place.day), "back")
+        if kind in ("ill", "back"):
+            return (kind, nurse, day)
+        return ("undo",) if kind == "undo" else ("plan",)
+
+    def check(self, words):
+        """What is promised is in the plan, unless the nurse is away, and no swap that is offered moves it."""
+        plan = self.verbs.current()
+        self.assertEqual({place: one.cell for place, one in plan.state.promised.items()}, self.promised, words)
+        for place, cell in self.promised.items():
+            if plan.away.get(place, "off") == "off":
+                self.assertEqual(plan.works.get(place), cell, (words, place))
+
+    def does_next(self, words):
+        """Does a verb, and keeps count of what should be promised."""
+        before, stack = dict(self.promised), [*self.older]
+        place = NurseDay(words[1], self.plan.days.number(words[2], 0)) if words[0] == "set" else None
+        outcome = self.done(*words)
+        if outcome is None or not outcome.is_written:
+            self.refused += any(fault.promise for fault in getattr(outcome, "faults", ()))
+            self.assertNotEqual(words[3:], ("back",), "what is promised can be taken back")
+        elif words[0] == "undo":
+            self.promised = self.older.pop()
+        else:
+            self.older = [*stack, before]
+            if place and outcome.takes_back:
+                del self.promised[place]
+            elif place:
+                self.promised[place] = outcome.now
+        self.check(words)
+
+    def test_promises_hold_and_can_be_taken_back_after_any_verbs(self):
+        for seed in range(3):
+            chance = random.Random(seed)
+            with self.subTest(seed=seed):
+                for _ in range(40):
+                    if not self.older:
+                        # The stored plan is not undone.
+                        self.does_next(("set", "Grace", self.head(chance.randrange(5)), "off"))
+                    self.does_next(self.event(chance, 0))
+        self.assertGreater(self.refused, 2)
+
+    def test_the_end_of_a_week_ends_its_promises_and_undo_brings_them_back(self):
+        for words in (("set", "Grace", self.head(5), "Day"), ("set", "Grace", self.head(7), "off"), ("ill", "Grace", self.head(5))):
+            self.does_next(words)
+        both = dict(self.promised)
+        self.done("over")
+        self.promised = {NurseDay("Grace", 7): None}
+        self.check("over")
+        self.assertIsNone(self.done("set", "Grace", self.head(5), "back"))
+        self.done("undo")
+        self.promised = both
+        self.check("undo")
+        self.assertTrue(self.done("set", "Grace", self.head(5), "back").takes_back)
+
+
+@unittest.skipUnless(HAS_CBC, "cbc is not installed")
+class Searches(PromiseTest):
+    def test_set_ill_swap_plan_back_undo_and_set_back(self):
+        saturday = ("Grace", 5)
+        self.does("page")
+        self.does("set", "Grace", "Sat", "Day", "--do")
+        # Finn has Late on Saturday.
+        status, printed, _ = run("plan", self.ward, "swap", "Grace", "Sat", "Finn", "--do")
+        self.assertEqual(status, 6)
+        self.assertIn("not possible: Grace is promised Day Nurse on Sat 5 Dec: take that back first, ", printed)
+        self.assertNotIn("Grace takes it", self.does("swap", "Finn", "Sat"))
+        for words, kept in (
+            (("plan",), True),
+            (("ill", "Grace", "Fri", "Sat"), False),
+            (("plan", "--free"), False),
+            (("back", "Grace", "Sat"), True),
+            (("ill", "Dilek", "Mon"), True),
+        ):
+            with self.subTest(words):
+                self.does(*words)
+                self.assertEqual(self.cells().get(saturday), ("Day", "Nurse") if kept else None)
+                self.assertEqual([one.place for one in read_state(self.last()).set_days], [saturday])
+        self.does("undo")
+        self.assertIn("swaps and later plans may change it again", self.does("set", "Grace", "Sat", "back", "--do"))
+        self.assertEqual(read_state(self.last()).set_days, ())
 
 
 if __name__ == "__main__":
