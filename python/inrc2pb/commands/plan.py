@@ -123,7 +123,7 @@ def read_sheet(path: Path, name: Optional[str], absences: Sequence[DayWord]) -> 
 
 def _ward_of(sheets: Book, name: str, absences: Sequence[DayWord]) -> Ward:
     """The ward of a spreadsheet that was read."""
-    book = with_written(sheets, read_days(sheets), absences)
+    book = with_written(sheets, ward.days_of(sheets), absences)
     days = read_days(book)
     files = ward.ward_files(book, name, days, COUNTED, lost=lost_shifts(absences))
     scenario, history, claims, weeks = files.records
@@ -146,7 +146,7 @@ def _ward_of(sheets: Book, name: str, absences: Sequence[DayWord]) -> Ward:
         counted=files.counted,
         times=shift_times(book),
         holidays=files.holidays,
-        week_rows=week_rows(book),
+        week_rows=week_rows(book, days),
         with_absences=functools.partial(_ward_of, sheets, name),
     )
 

@@ -12,14 +12,14 @@ from ..judging.leave import Counted, counted, credit_line, credited
 from ..judging.limits import with_given
 from ..judging.odd_values import Reach, Warned, history_warnings, reach_of, scenario_warnings, week_warnings
 from ..plans.store import has_spreadsheet
-from ..sheets.plan_sheets import AWAY, Days, WeekSheet, check_held, plan_warnings, read_days, read_weeks
+from ..sheets.plan_sheets import AWAY, Days, WeekSheet, check_held, plan_warnings, read_days, read_needs, read_weeks, week_of_row_warnings
 from ..sheets.sheet_facts import absence_reasons, claims_of, look_warnings, with_part_contracts
 from ..sheets.sheet_files import Book, read_book
 from ..sheets.sheet_rows import tidy
-from ..sheets.ward_sheets import book_warnings, read_ward, skill_warnings, ward_warnings
+from ..sheets.ward_sheets import book_warnings, read_ward, skill_warnings, table_of, ward_warnings
 from ..sheets.ward_template import write_template
 from ..week.facts import Claim, facts_text, reasons_text
-from ..week.faults import FileFault, Misuse
+from ..week.faults import FileFault, FileFaults, Gathering, Misuse
 from ..week.files import history_text, scenario_text, solution_text, week_text
 from ..week.own_files import is_own_file, own_bytes
 from ..week.records import History, NurseDay, Scenario, Solution, WeekData, week_name
@@ -69,13 +69,27 @@ class WardFiles(NamedTuple):
     records: WardRecords
 
 
+def days_of(book: Book) -> Days:
+    """The days of the sheet plan. Raises their faults together with those of the other sheets."""
+    try:
+        return read_days(book)
+    except (FileFault, FileFaults) as of_days:
+        with Gathering() as faults:
+            with faults.step():
+                raise of_days
+            ward = read_ward(book, "ward", 1, faults)
+            read_needs(table_of(book, "needs"), ward, None, [], faults)
+        raise
+
+
 def ward_files(
     book: Book, name: str, days: Days, reasons: Sequence[str], requests: bool = False, lost: Mapping[NurseDay, int] = {}
 ) -> WardFiles:
     """The files of a ward with this name, for these days. Absences for these reasons count as work, illnesses as the shifts that they have
     taken from plans on the wall, as far as `lost` has them."""
-    ward = read_ward(book, name, days.weeks)
-    sheets = read_weeks(book, ward, days)
+    with Gathering() as faults:
+        ward = read_ward(book, name, days.weeks, faults)
+        sheets = read_weeks(book, ward, days, faults)
     check_held(ward, sheets)
     away = {NurseDay(nurse, 7 * number + day): word for number, sheet in enumerate(sheets) for (nurse, day), word in sheet.reasons.items()}
     as_shifts = counted(ward.scenario, away, reasons, lost)
@@ -93,6 +107,7 @@ def ward_files(
     warnings += [f"sheet nurses: {line}" for line in skill_warnings(ward, asked)]
     warnings += [*book_warnings(book), *look_warnings(book, days), *ward_warnings(ward)]
     warnings += [f"sheet plan: {line}" for line in plan_warnings(days, ward.scenario)]
+    warnings += [f"sheet needs, {line}" for line in week_of_row_warnings(table_of(book, "needs"), days)]
     datas = [_week(ward.scenario, sheet, claims, number) for number, sheet in enumerate(sheets)]
     odd: Dict[Warned, List[int]] = {}
     for number, (sheet, data) in enumerate(zip(sheets, datas)):
@@ -182,7 +197,7 @@ def files(tables: Path, out: Path, credit: str, requests: bool) -> List[str]:
     """
     reasons = _reasons(credit)
     book = read_book(tables)
-    found = ward_files(book, ward_name(tables), read_days(book), reasons, requests)
+    found = ward_files(book, ward_name(tables), days_of(book), reasons, requests)
     old = list(_old_histories(out, found.texts["history-0.txt"], sum(name.startswith("week-") for name in found.texts)))
     _write(out, found.texts)
     days = Counter(nurse for nurse, _ in found.counted.days)

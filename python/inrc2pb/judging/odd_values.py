@@ -91,7 +91,7 @@ def _last_days(past: NurseHistory) -> Iterator[str]:
     """Warnings of days in a row that contradict one another."""
     if past.last_shift is None:
         if past.consecutive_shifts or past.working_days:
-            yield f"{past.nurse} was off on Sunday (None), but has consecutive shifts or working days: {_CORRECT}"
+            yield f"{past.nurse} was off on Sunday, but has consecutive shifts or working days: {_CORRECT}"
         return
     worked = f"{past.nurse} worked on Sunday ({past.last_shift})"
     if past.days_off:

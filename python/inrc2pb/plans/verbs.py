@@ -20,7 +20,7 @@ from ..week.words import OFF
 from . import events
 from .changes import without_needless_changes
 from .facts import newly_exceeded, unkept
-from .fairness import more_even
+from .exchanges import more_even
 from .outcome import Asked, Away, Checked, DaySet, Event, Keep, Made, NoPlan, Offers, Outcome, Pages, Planned, Published, Status, Swapped
 from .outcome import Undone, WeekOver
 from .render import warning_lines

@@ -5,7 +5,7 @@ In the next period the weeks of such rows, as those of bank holidays, count anew
 
 from typing import Iterable, List, Mapping, NamedTuple, Sequence
 
-from ..sheets.plan_sheets import AWAY, Days, needed
+from ..sheets.plan_sheets import AWAY, Days, needed, week_of_row
 from ..sheets.sheet_files import Book
 from ..sheets.sheet_rows import SheetCell, SheetRow, tidy
 from ..sheets.ward_sheets import table_of
@@ -24,10 +24,11 @@ class WeekRow(NamedTuple):
     needs: Needs
 
 
-def week_rows(book: Book) -> List[WeekRow]:
-    """The rows that have a week. The book has no faults."""
-    rows = [row for row in table_of(book, "needs").rows if row.of("week").text]
-    return [WeekRow(row.number, row.of("week").number() - 1, _needs_of(row)) for row in rows]
+def week_rows(book: Book, days: Days) -> List[WeekRow]:
+    """The rows that have a week of these days, by its number, since a date is of one period only. The book has no faults."""
+    rows = [row for row in table_of(book, "needs").rows if row.of("week").text.isdecimal()]
+    weeks = ((row, week_of_row(row.of("week"), days)) for row in rows)
+    return [WeekRow(row.number, week, _needs_of(row)) for row, week in weeks if week is not None]
 
 
 def _needs_of(row: SheetRow) -> Needs:
@@ -49,6 +50,8 @@ def unchanged_rows(rows: Iterable[WeekRow], older: Mapping[int, Needs]) -> List[
 
 def with_written(book: Book, days: Days, written: Sequence[DayWord]) -> Book:
     """The spreadsheet with these absences in its plan. A nurse without a row there gets one, unless she has none in the sheet nurses."""
+    if not written:
+        return book
     rows = [list(row) for row in book.sheets["plan"]]
     head = days.plan.columns["nurse"]
     places = {_name(row.of("nurse")): row.of("nurse").row - 1 for row in days.plan.rows}

@@ -5,7 +5,7 @@ import re
 from typing import Dict, Iterator, List, NamedTuple, Optional, Set, Tuple
 
 from ..judging.absences import is_broken_by
-from ..week.dates import DAY, written_dates
+from ..week.dates import DAY, PlanDays, written_dates
 from ..week.faults import Gathering
 from ..week.records import DAYS, Absence, Cell, Place, Request, Requirement, Scenario
 from ..week.slots import MAX_NUMBER
@@ -29,6 +29,9 @@ _OTHER_DATE = re.compile(r"\b([0-9]{1,2})[/-]([0-9]{1,2})[/-]([0-9]{4})\b")
 # A date as a spreadsheet counts it, from 1954 on.
 _SERIAL = re.compile(r"\b[2-9][0-9]{4}\b")
 _FIRST_YEAR = 1954
+_CALENDAR_WEEK = re.compile("cw|kw|calendar", re.IGNORECASE)
+# The week of a row that is for no week of the plan.
+NO_WEEK = -1
 # What else may help if a name in the first cell of a row is not known.
 _NO_ROW = ", or delete the row"
 
@@ -89,15 +92,17 @@ def read_days(book: Book) -> Days:
     return Days(plan, columns, monday)
 
 
-def read_weeks(book: Book, ward: Ward, days: Days) -> List[WeekSheet]:
+def read_weeks(book: Book, ward: Ward, days: Days, faults: Gathering) -> List[WeekSheet]:
     """The weeks of the sheets needs and plan."""
     weeks = [WeekSheet() for _ in range(days.weeks)]
-    _read_needs(table_of(book, "needs"), ward.scenario, weeks, days.monday)
-    with Gathering() as faults:
-        for nurse, row in _plan_rows(days, ward.scenario, faults).items():
-            for index, head in enumerate(days.columns):
-                with faults.step():
-                    _read_day(row.at(head.column), nurse, index, ward.scenario, weeks)
+    before = faults.number
+    read_needs(table_of(book, "needs"), ward, days, weeks, faults)
+    # The skill of a fixed shift is known from the needs, if these can be read.
+    is_known = faults.number == before and ward.unknown.shifts is faults
+    for nurse, row in _plan_rows(days, ward, faults).items():
+        for index, head in enumerate(days.columns):
+            with ward.unknown.shifts.step():
+                _read_day(row.at(head.column), nurse, index, ward.scenario, weeks, is_known)
     for nurse, (shifts, weekdays) in ward.never.items():
         for week in weeks:
             week.absences += [Absence(nurse, day, shift) for shift in shifts for day in range(len(DAYS))]
@@ -105,16 +110,17 @@ def read_weeks(book: Book, ward: Ward, days: Days) -> List[WeekSheet]:
     return weeks
 
 
-def _plan_rows(days: Days, scenario: Scenario, faults: Gathering) -> Dict[str, SheetRow]:
+def _plan_rows(days: Days, ward: Ward, faults: Gathering) -> Dict[str, SheetRow]:
     """The row of each nurse in the plan."""
     rows: Dict[str, SheetRow] = {}
     for row in days.plan.rows:
+        cell = row.of("nurse")
+        nurse = ward.unknown.nurses.tried(lambda: cell.known("nurse of the sheet nurses", ward.scenario.nurses, (), _NO_ROW), "")
         with faults.step():
-            cell = row.of("nurse")
-            nurse = cell.known("nurse of the sheet nurses", scenario.nurses, (), _NO_ROW)
             if nurse in rows:
                 cell.fault(f"{readable(nurse)} has a row already: put everything into one row")
-            rows[nurse] = row
+        if nurse:
+            rows.setdefault(nurse, row)
     return rows
 
 
@@ -135,44 +141,72 @@ class _Asked(NamedTuple):
     skill: str
 
 
-def _read_needs(table: Table, scenario: Scenario, weeks: List[WeekSheet], monday: Optional[datetime.date]) -> None:
-    """Rows without a week are for all weeks, but for the days that a row of one week has."""
-    given: Dict[_Asked, List[SheetCell]] = {}
-    with Gathering() as faults:
-        for row in table.rows:
-            with faults.step():
-                week = _week_number(row.of("week"), len(weeks), monday)
-                shift = row.of("shift").known("shift type", scenario.shift_types, (), _NO_ROW)
-                skill = row.of("skill").known("skill of the sheet nurses", scenario.skills, (), _NO_ROW)
-                asked = _Asked(week, shift, skill)
-                if asked in given:
-                    row.of("shift").fault(f"{readable(shift)} {readable(skill)} has a row already: delete one, or write its week")
-                given[asked] = [row.of(name.casefold()) for name in DAYS]
-                for cell in given[asked]:
-                    needed(cell)
+def read_needs(table: Table, ward: Ward, days: Optional[Days], weeks: List[WeekSheet], faults: Gathering) -> None:
+    """Rows without a week are for all weeks, but for the days that a row of one week has. If the days are not known, only what the rows
+    have beside their week is looked at."""
+    given: Dict[_Asked, List[Tuple[SheetCell, Requirement]]] = {}
+    for row in table.rows:
+        cells = [row.of(name.casefold()) for name in DAYS]
+        numbers = [(cell, faults.tried(lambda: needed(cell), Requirement(0, 0))) for cell in cells]
+        week = _tried_week(row.of("week"), days, faults)
+        shift = ward.unknown.shifts.tried(lambda: row.of("shift").known("shift type", ward.scenario.shift_types, (), _NO_ROW), "")
+        skill = faults.tried(lambda: row.of("skill").known("skill of the sheet nurses", ward.scenario.skills, (), _NO_ROW), "")
+        asked = _Asked(week, shift, skill)
+        with faults.step():
+            if asked in given and shift and skill and week != NO_WEEK:
+                row.of("shift").fault(f"{readable(shift)} {readable(skill)} has a row already: delete one, or write its week")
+        given.setdefault(asked, numbers)
     for shift, skill in dict.fromkeys((asked.shift, asked.skill) for asked in given):
         of_all = given.get(_Asked(None, shift, skill))
         for number, sheet in enumerate(weeks):
             of_week = given.get(_Asked(number, shift, skill), of_all)
-            for day, cell in enumerate(of_week or ()):
-                base = of_all[day] if of_all and not cell.text else cell
-                sheet.requirements[Place(day, shift, skill)] = needed(base)
-                if of_all and needed(base) != needed(of_all[day]):
+            for day, (cell, own) in enumerate(of_week or ()):
+                base = of_all[day][1] if of_all and not cell.text else own
+                sheet.requirements[Place(day, shift, skill)] = base
+                if of_all and base != of_all[day][1]:
                     sheet.holidays.add(day)
 
 
-def _week_number(cell: SheetCell, weeks: int, monday: Optional[datetime.date]) -> Optional[int]:
-    """The week of a row of the needs, from 0; None: all weeks."""
+def _tried_week(cell: SheetCell, days: Optional[Days], faults: Gathering) -> Optional[int]:
+    """The week of a row; NO_WEEK if it has a fault, or the days are not known."""
+    with faults.step():
+        return week_of_row(cell, days) if days else NO_WEEK
+    return NO_WEEK
+
+
+def week_of_row(cell: SheetCell, days: Days) -> Optional[int]:
+    """The week of a row of the needs, from 0, by its number, a calendar week or a date in it; None: all weeks; NO_WEEK: a date that is not
+    in the plan, so that the row counts for none of its weeks."""
     if not cell.text:
         return None
-    date = date_of(cell)
-    if date:
-        number = (date - monday).days // len(DAYS) if monday else -1
-        cell.fault(f"'{date_shown(cell, date)}' is a date: write {number + 1 if 0 <= number < weeks else 'the number'}, its week from 1")
-    week = cell.number()
-    if not 1 <= week <= weeks:
-        cell.fault(f"there is no week {week}: weeks are counted from 1, so write {weeks} for the last one")
-    return week - 1
+    plan, date = PlanDays(days.monday, days.weeks), date_of(cell)
+    if date and days.monday is None:
+        cell.fault(f"'{date_shown(cell, date)}' is a date, and the sheet plan has none: write the week's number, from 1")
+    if date and days.monday:
+        week = (date - days.monday).days // len(DAYS)
+        return week if 0 <= week < days.weeks else NO_WEEK
+    number = plan.week_number(cell.text)
+    if number is None:
+        if not _CALENDAR_WEEK.match(cell.text):
+            cell.number()
+        others = "" if days.monday is None else f", a calendar week such as CW {plan.calendar_week(days.weeks - 1)}, or a date"
+        cell.fault(f"there is no week {cell.text}: weeks are counted from 1, so write {days.weeks} for the last one{others}")
+    return number
+
+
+def week_of_row_warnings(table: Table, days: Days) -> Iterator[str]:
+    """Warnings of rows of the needs whose week the plan does not have, and of numbers that may mean another week of the calendar."""
+    plan = PlanDays(days.monday, days.weeks)
+    for row in table.rows:
+        cell = row.of("week")
+        week = week_of_row(cell, days)
+        if week == NO_WEEK:
+            yield f"row {row.number}: {cell.text} is not in this plan, so the row counts for no week: correct the date, or delete the row"
+        elif week is not None and days.monday and cell.text.isdecimal():
+            other = plan.week_number(f"CW {cell.text}")
+            if other is not None and other != week:
+                span = plan.span([len(DAYS) * week, len(DAYS) * week + len(DAYS) - 1])
+                yield f"row {row.number}: {cell.text} is the week of the plan, {span}: write CW {cell.text} for the calendar week"
 
 
 def needed(cell: SheetCell) -> Requirement:
@@ -206,8 +240,9 @@ def _pair_for(text: str) -> str:
     return f"{minimum}+{best - minimum} for {minimum} at least and better {best}"
 
 
-def _read_day(cell: SheetCell, nurse: str, index: int, scenario: Scenario, weeks: List[WeekSheet]) -> None:
-    """One cell of the plan: a wish, an absence, a promised day off, or a shift that is held."""
+def _read_day(cell: SheetCell, nurse: str, index: int, scenario: Scenario, weeks: List[WeekSheet], is_known: bool) -> None:
+    """One cell of the plan: a wish, an absence, a promised day off, or a shift that is held, whose skill the needs tell, if they are
+    known."""
     week, day = weeks[index // len(DAYS)], index % len(DAYS)
     text = cell.text.casefold()
     if text in _NO_WISH:
@@ -224,7 +259,7 @@ def _read_day(cell: SheetCell, nurse: str, index: int, scenario: Scenario, weeks
         parts = cell._replace(text=_no_shift(cell.text, scenario)).parts()
         week.wishes += [Request(nurse, part.known("shift type", scenario.shift_types), day) for part in parts]
     else:
-        week.held.append(_held(cell, nurse, day, week, scenario))
+        week.held.append(_held(cell, nurse, day, week, scenario, is_known))
 
 
 def _no_shift(text: str, scenario: Scenario) -> str:
@@ -235,7 +270,7 @@ def _no_shift(text: str, scenario: Scenario) -> str:
     return found[2] if text[len(found[1])] == " " or readable(found[2]).casefold() in names else ""
 
 
-def _held(cell: SheetCell, nurse: str, day: int, week: WeekSheet, scenario: Scenario) -> Held:
+def _held(cell: SheetCell, nurse: str, day: int, week: WeekSheet, scenario: Scenario, is_known: bool) -> Held:
     """A shift, or a shift and a skill."""
     named, _, with_skill = (part.strip() for part in cell.text.partition("/"))
     others = ("wish", PROMISED_OFF, *AWAY, f"no {readable(next(iter(scenario.shift_types)))}")
@@ -244,9 +279,9 @@ def _held(cell: SheetCell, nurse: str, day: int, week: WeekSheet, scenario: Scen
     if with_skill:
         return Held(Cell(nurse, day, shift, cell._replace(text=with_skill).known(f"skill of {readable(nurse)}", own)), cell)
     asked = [skill for skill in own if week.requirements.get(Place(day, shift, skill), Requirement(0, 0)).optimal]
-    if len(asked or own) > 1:
+    if len(asked or own) > 1 and is_known:
         cell.fault(f"{readable(nurse)} has more than one skill for it: write {readable(shift)}/{readable((asked or own)[0])}, for example")
-    return Held(Cell(nurse, day, shift, (asked or own)[0]), cell)
+    return Held(Cell(nurse, day, shift, (asked or own or ("",))[0]), cell)
 
 
 def check_held(ward: Ward, weeks: List[WeekSheet]) -> None:

@@ -60,9 +60,9 @@ class SheetCell(NamedTuple):
         """The cell as several, if it has a list with commas, semicolons or slashes."""
         return [self._replace(text=part.strip()) for part in _SEVERAL.split(self.text) if part.strip()]
 
-    def number(self, default: Optional[int] = None, most: int = MAX_NUMBER, pair: str = "") -> int:
+    def number(self, default: Optional[int] = None, most: int = MAX_NUMBER, pair: str = "", typed: str = "") -> int:
         """The whole number of the cell; an empty one has the default, if there is one. `pair` says how two numbers are written, if it may
-        have them: a fault names it."""
+        have them: a fault names it, and quotes what was `typed`, if that has more than the number."""
         if not self.text and default is not None:
             return default
         added = SUM.fullmatch(self.text)
@@ -74,7 +74,7 @@ class SheetCell(NamedTuple):
         digits = re.sub(r"[.,](?!000$)0*$", "", self.text)
         if not re.fullmatch("[0-9]{1,9}", digits):
             otherwise = ", or leave the cell empty" if default is not None else ""
-            self.fault(f"'{self.text}' is no whole number: {self._advice(pair, otherwise)}")
+            self.fault(f"'{typed or self.text}' is no whole number: {self._advice(pair, otherwise)}")
         if int(digits) > MAX_NUMBER:
             self.fault(f"{digits} is more than {most}: a spreadsheet makes such a number of 2-3 or 2/3, so write {pair or 'one number'}")
         if int(digits) > most:

@@ -1,7 +1,7 @@
 """The ward and its first history, from the sheets shifts, contracts and nurses of a spreadsheet."""
 
 import re
-from typing import Collection, Dict, Iterator, List, NamedTuple, Optional, Set, Tuple
+from typing import Collection, Dict, Iterator, List, NamedTuple, Optional, Sequence, Set, Tuple
 
 from ..week.dates import Times, times_of
 from ..week.facts import SHIFTS, WEEKENDS, WORK_DAYS
@@ -37,40 +37,71 @@ _KEPT = {"shifts max": SHIFTS, "work max": WORK_DAYS, "weekends": WEEKENDS}
 
 class Ward(NamedTuple):
     """A ward, its first history, each nurse's shift types that she never works and days of the week on which she is always off, the
-    kinds of maxima that each contract never exceeds, and the first cell with each skill."""
+    kinds of maxima that each contract never exceeds, the first cell with each skill, and where faults of unknown names go."""
 
     scenario: Scenario
     history: History
     never: Dict[str, Tuple[List[str], List[int]]]
     kept: Dict[str, Set[str]]
     skills: Dict[str, SheetCell]
+    unknown: "Unknown"
 
 
-def read_ward(book: Book, name: str, weeks: int) -> Ward:
-    """The ward of these sheets, with this name and number of weeks."""
-    shift_types = _shift_types(table_of(book, "shifts"))
-    _check_number(book, "shifts", "shift types", len(shift_types), MAX_SHIFTS)
-    contracts, kept = _contracts(table_of(book, "contracts"))
-    _check_number(book, "contracts", "contracts", len(contracts), MAX_CONTRACTS)
-    asked = [cell.text for row in table_of(book, "needs").rows for cell in [row.of("skill")] if cell.text]
-    skills = _Skills(asked)
+class Unknown(NamedTuple):
+    """Where faults of names that these sheets do not have are kept: with all others, or, if a name of them has a fault itself, apart from
+    them, since it may be the one that is meant."""
+
+    shifts: Gathering
+    nurses: Gathering
+
+
+def read_ward(book: Book, name: str, weeks: int, faults: Gathering) -> Ward:
+    """The ward of these sheets, with this name and number of weeks. What has a fault gets a value that no later fault comes from. Raises
+    the faults at once if a sheet has no rows that can be read, or not the names of others."""
+    shifts, contract_rows, nurse_rows, needs = [faults.tried(lambda: table_of(book, sheet), None) for sheet in _HEADS]
+    shift_types, of_shifts = _shift_types(shifts, faults) if shifts else ({}, faults)
+    contracts, kept, of_contracts = _contracts(contract_rows, faults) if contract_rows else ({}, {}, faults)
+    for table, kind, number, most in (
+        (shifts, "shift types", len(shift_types), MAX_SHIFTS),
+        (contract_rows, "contracts", len(contracts), MAX_CONTRACTS),
+    ):
+        if table and not 1 <= number <= most:
+            with faults.step():
+                _check_number(table, kind, number, most)
+            faults.end()
+    if not (shifts and contract_rows and nurse_rows and needs):
+        faults.end()
+    skills = _Skills([cell.text for row in _rows(needs) for cell in [row.of("skill")] if cell.text])
     nurses: Dict[str, Nurse] = {}
     past: Dict[str, NurseHistory] = {}
     never: Dict[str, Tuple[List[str], List[int]]] = {}
-    with Gathering() as faults:
-        for row in table_of(book, "nurses").rows:
-            with faults.step():
-                nurse = row.of("nurse").new_name("nurse", nurses)
-                nurses[nurse] = Nurse(nurse, row.of("contract").known("contract", contracts), skills.of(row.of("skills")))
-                past[nurse] = _past(row, nurse, shift_types)
-                never[nurse] = (
-                    [part.known("shift type", shift_types) for part in row.of("never").parts()],
-                    _days_off(row.of("always off")),
-                )
+    of_nurses = faults
+    for row in _rows(nurse_rows):
+        before = faults.number
+        nurse = _new_name(row.of("nurse"), "nurse", nurses, faults)
+        of_nurses = Gathering() if faults.number > before else of_nurses
+        contract = of_contracts.tried(lambda: row.of("contract").known("contract", contracts), next(iter(contracts)))
+        found = Nurse(nurse, contract, skills.of(row.of("skills"), faults))
+        shift_names = [of_shifts.tried(lambda: part.known("shift type", shift_types), "") for part in row.of("never").parts()]
+        no_days: List[int] = []
+        off = faults.tried(lambda: _days_off(row.of("always off")), no_days)
+        of_past = _past(row, nurse, shift_types, faults, of_shifts)
+        if nurse and nurse not in nurses:
+            nurses[nurse], past[nurse], never[nurse] = found, of_past, ([shift for shift in shift_names if shift], off)
+    for kind, number, most in (("nurses", len(nurses), MAX_NURSES), ("skills", len(skills.cells), MAX_SKILLS)):
+        with faults.step():
+            _check_number(table_of(book, "nurses"), kind, number, most)
     scenario = Scenario(name, weeks, tuple(skills.cells), shift_types=shift_types, contracts=contracts, nurses=nurses)
-    _check_number(book, "nurses", "nurses", len(nurses), MAX_NURSES)
-    _check_number(book, "nurses", "skills", len(skills.cells), MAX_SKILLS)
-    return Ward(scenario, History(0, name, past), never, kept, skills.cells)
+    return Ward(scenario, History(0, name, past), never, kept, skills.cells, Unknown(of_shifts, of_nurses))
+
+
+def _rows(table: Optional[Table]) -> Sequence[SheetRow]:
+    return table.rows if table else ()
+
+
+def _new_name(cell: SheetCell, kind: str, taken: Collection[str], faults: Gathering) -> str:
+    """A new name. One that has a fault is known from now on too, since other sheets may have it; an empty one is none."""
+    return faults.tried(lambda: cell.new_name(kind, taken), cell.text.replace(" ", "_"))
 
 
 def table_of(book: Book, name: str) -> Table:
@@ -79,9 +110,9 @@ def table_of(book: Book, name: str) -> Table:
     return Table(book, name, heads, optional)
 
 
-def _check_number(book: Book, sheet: str, kind: str, number: int, most: int) -> None:
+def _check_number(table: Table, kind: str, number: int, most: int) -> None:
     if not 1 <= number <= most:
-        table_of(book, sheet).fault(f"it has {number} {kind}, and a ward has 1 to {most}: correct the rows")
+        table.fault(f"it has {number} {kind}, and a ward has 1 to {most}: correct the rows")
 
 
 def _days_off(cell: SheetCell) -> List[int]:
@@ -95,23 +126,27 @@ def _days_off(cell: SheetCell) -> List[int]:
     return days
 
 
-def _shift_types(table: Table) -> Dict[str, ShiftType]:
+def _shift_types(table: Table, faults: Gathering) -> Tuple[Dict[str, ShiftType], Gathering]:
+    """The shift types, and where faults of names that are none of them go."""
     names: Dict[str, SheetRow] = {}
-    found: Dict[str, ShiftType] = {}
-    with Gathering() as faults:
-        for row in table.rows:
-            with faults.step():
-                cell = row.of("shift")
-                name = cell.new_name("shift type", names)
-                if name.casefold() in OWN_WORDS:
-                    cell.fault(f"'{cell.text}' has a meaning of its own in the ward's files: use another name")
-                names[name] = row
-    with Gathering() as faults:
-        for name, row in names.items():
-            with faults.step():
-                after = dict.fromkeys(part.known("shift type", names) for part in row.of("not followed by").parts())
-                found[name] = ShiftType(name, _limits(row, "min in a row", "max in a row"), tuple(after))
-    return found
+    before = faults.number
+    for row in table.rows:
+        cell = row.of("shift")
+        name = _new_name(cell, "shift type", names, faults)
+        with faults.step():
+            if name.casefold() in OWN_WORDS:
+                cell.fault(f"'{cell.text}' has a meaning of its own in the ward's files: use another name")
+        if name:
+            names.setdefault(name, row)
+    unknown = faults if faults.number == before else Gathering()
+    return {name: _shift_type(row, name, names, faults, unknown) for name, row in names.items()}, unknown
+
+
+def _shift_type(row: SheetRow, name: str, names: Collection[str], faults: Gathering, unknown: Gathering) -> ShiftType:
+    parts = row.of("not followed by").parts()
+    after = [unknown.tried(lambda: part.known("shift type", names), "") for part in parts]
+    limits = _limits(row, "min in a row", "max in a row", faults)
+    return ShiftType(name, limits, tuple(dict.fromkeys(other for other in after if other)))
 
 
 def shift_times(book: Book) -> Dict[str, Times]:
@@ -130,32 +165,35 @@ def shift_times(book: Book) -> Dict[str, Times]:
     return found
 
 
-def _contracts(table: Table) -> Tuple[Dict[str, Contract], Dict[str, Set[str]]]:
-    """The contracts, and the kinds of maxima that each of them never exceeds."""
+def _contracts(table: Table, faults: Gathering) -> Tuple[Dict[str, Contract], Dict[str, Set[str]], Gathering]:
+    """The contracts, the kinds of maxima that each of them never exceeds, and where faults of names that are none of them go."""
     found: Dict[str, Contract] = {}
     kept: Dict[str, Set[str]] = {}
-    with Gathering() as faults:
-        for head, cell in table.kept.items():
-            with faults.step():
-                if head not in _KEPT:
-                    cell.fault(f"the sign {KEPT} is for {', '.join(_KEPT)}: delete it here")
-        for row in table.rows:
-            with faults.step():
-                name = row.of("contract").new_name("contract", found)
-                found[name] = _contract(row, name)
-                texts = {head: row.of(head).text for head in _KEPT}
-                kept[name] = {_KEPT[head] for head, text in texts.items() if text.endswith(KEPT) or (head in table.kept and text)}
-    return found, kept
+    unknown = faults
+    for head, cell in table.kept.items():
+        with faults.step():
+            if head not in _KEPT:
+                cell.fault(f"the sign {KEPT} is for {', '.join(_KEPT)}: delete it here")
+    for row in table.rows:
+        before = faults.number
+        name = _new_name(row.of("contract"), "contract", found, faults)
+        unknown = Gathering() if faults.number > before else unknown
+        contract = _contract(row, name, faults)
+        texts = {head: row.of(head).text for head in _KEPT}
+        if name and name not in found:
+            found[name] = contract
+            kept[name] = {_KEPT[head] for head, text in texts.items() if text.endswith(KEPT) or (head in table.kept and text)}
+    return found, kept, unknown
 
 
-def _contract(row: SheetRow, name: str) -> Contract:
+def _contract(row: SheetRow, name: str, faults: Gathering) -> Contract:
     return Contract(
         name,
-        _limits(row, "shifts min", "shifts max"),
-        _limits(row, "work min", "work max"),
-        days_off=_limits(row, "off min", "off max"),
-        max_weekends=_maximum(row, "weekends"),
-        complete_weekends=_is_yes(row.of("complete weekends")),
+        _limits(row, "shifts min", "shifts max", faults),
+        _limits(row, "work min", "work max", faults),
+        days_off=_limits(row, "off min", "off max", faults),
+        max_weekends=faults.tried(lambda: _maximum(row, "weekends"), MAX_NUMBER),
+        complete_weekends=faults.tried(lambda: _is_yes(row.of("complete weekends")), False),
     )
 
 
@@ -164,18 +202,21 @@ def _maximum(row: SheetRow, head: str) -> int:
     cell = row.of(head)
     if head not in _KEPT or not cell.text.endswith(KEPT):
         return cell.number(MAX_NUMBER)
-    number = cell._replace(text=cell.text[: -len(KEPT)].strip())
+    number = cell._replace(text=cell.text.rstrip(f"{KEPT} "))
     if not number.text:
         cell.fault(f"there is no number before the sign {KEPT}: write one, such as 10{KEPT}")
-    return number.number()
+    if cell.text.count(KEPT) > 1:
+        cell.fault(f"'{cell.text}' has the sign {KEPT} more than once: write {number.text}{KEPT}")
+    return number.number(typed=cell.text)
 
 
-def _limits(row: SheetRow, least: str, most: str) -> Limits:
+def _limits(row: SheetRow, least: str, most: str, faults: Gathering) -> Limits:
     """A minimum and a maximum; empty cells set no limit."""
-    limits = Limits(row.of(least).number(0), _maximum(row, most))
-    if limits.minimum > limits.maximum:
-        empty = "; for no limit leave the cell empty" if limits.maximum == 0 else ""
-        row.of(least).fault(f"the minimum {limits.minimum} is above the maximum {limits.maximum}: correct one of the two{empty}")
+    limits = Limits(faults.tried(lambda: row.of(least).number(0), 0), faults.tried(lambda: _maximum(row, most), MAX_NUMBER))
+    with faults.step():
+        if limits.minimum > limits.maximum:
+            empty = "; for no limit leave the cell empty" if limits.maximum == 0 else ""
+            row.of(least).fault(f"the minimum {limits.minimum} is above the maximum {limits.maximum}: correct one of the two{empty}")
     return limits
 
 
@@ -189,24 +230,33 @@ class _Skills:
     """The skills that the needs ask for, as they are written, and the first cell with each skill of a nurse."""
 
     def __init__(self, asked: Collection[str]) -> None:
-        self._asked = {name.casefold() for name in asked}
+        self._asked, self._names = {name.casefold() for name in asked}, [name.replace(" ", "_") for name in asked]
         one = "|".join(map(re.escape, sorted(self._asked, key=len, reverse=True)))
         self._several = re.compile(f"({one})((?: and | ?[&+] ?| )({one}))+")
         self.cells: Dict[str, SheetCell] = {}
 
-    def of(self, cell: SheetCell) -> Tuple[str, ...]:
-        """The skills of a nurse."""
-        if not cell.parts():
-            cell.fault("the cell is empty: write the nurse's skills, such as Charge, Nurse")
+    def of(self, cell: SheetCell, faults: Gathering) -> Tuple[str, ...]:
+        """The skills of a nurse. After a fault all that the needs ask for are known, since she may have meant any of them."""
         found: List[str] = []
+        with faults.step():
+            if not cell.parts():
+                cell.fault("the cell is empty: write the nurse's skills, such as Charge, Nurse")
         for part in cell.parts():
-            if part.text.casefold() not in self._asked and self._several.fullmatch(part.text.casefold()):
-                part.fault(f"'{part.text}' is no skill of the sheet needs, and has several in it: write commas between skills")
-            own = part.new_name("skill", found)
-            known = next((name for name in self.cells if name.casefold() == own.casefold()), own)
-            self.cells.setdefault(known, part)
-            found.append(known)
+            own = faults.tried(lambda: self._one(part, found), "")
+            if own:
+                self.cells.setdefault(own, part)
+                found.append(own)
+        if len(found) < max(1, len(cell.parts())):
+            for name in self._names:
+                self.cells.setdefault(name, cell)
         return tuple(found)
+
+    def _one(self, part: SheetCell, before: Collection[str]) -> str:
+        """One skill of a nurse, who has those before it."""
+        if part.text.casefold() not in self._asked and self._several.fullmatch(part.text.casefold()):
+            part.fault(f"'{part.text}' is no skill of the sheet needs, and has several in it: write commas between skills")
+        own = part.new_name("skill", before)
+        return next((name for name in self.cells if name.casefold() == own.casefold()), own)
 
 
 def skill_warnings(ward: Ward, asked: Collection[str]) -> Iterator[str]:
@@ -224,11 +274,17 @@ def skill_warnings(ward: Ward, asked: Collection[str]) -> Iterator[str]:
 
 
 def book_warnings(book: Book) -> Iterator[str]:
-    """Warnings of rows that count though nobody sees them, and of days without a number in rows that have some."""
+    """Warnings of rows that count though nobody sees them, of names that are numbers, as if they were in a wrong column, and of days
+    without a number in rows that have some."""
     for sheet in _HEADS:
         rows = [row.number for row in table_of(book, sheet).rows if row.number in book.hidden.get(sheet, ())]
         if rows:
             yield f"sheet {sheet}: row {', '.join(map(str, rows))} hidden, and counted: show it, or delete it"
+    for sheet, head in (("shifts", "shift"), ("contracts", "contract"), ("nurses", "nurse")):
+        for row in table_of(book, sheet).rows:
+            if row.of(head).text.isdecimal():
+                number = f"the name of the {'shift type' if head == 'shift' else head} is the number {row.of(head).text}"
+                yield f"sheet {sheet}, row {row.number}: {number}: write a name, or leave it if it is meant so"
     for row in table_of(book, "needs").rows:
         days = [row.of(day.casefold()) for day in DAYS]
         empty = [day for day, cell in zip(DAYS, days) if not cell.text]
@@ -249,10 +305,13 @@ def ward_warnings(ward: Ward) -> Iterator[str]:
             yield f"sheet shifts: {name} may not follow {later[0]}, and each shift type may follow {name}: {turned}"
 
 
-def _past(row: SheetRow, nurse: str, shift_types: Dict[str, ShiftType]) -> NurseHistory:
+def _past(row: SheetRow, nurse: str, shift_types: Dict[str, ShiftType], faults: Gathering, unknown: Gathering) -> NurseHistory:
     """The nurse's history; empty cells are 0, and an empty last shift is a day off."""
     cell = row.of("last shift")
-    last: Optional[str] = None if cell.text.casefold() in ("", "none", "off", "-") else cell.known("shift type", shift_types)
-    totals = [row.of(head).number(0) for head in ("worked", "worked weekends")]
-    runs = [row.of(head).number(0) for head in ("days on it", "days of work", "days off")]
+    is_off = cell.text.casefold() in ("", "none", "off", "-")
+    last = None if is_off else unknown.tried(lambda: cell.known("shift type", shift_types), None)
+    totals, runs = (
+        [faults.tried(lambda: row.of(head).number(0), 0) for head in heads]
+        for heads in (("worked", "worked weekends"), ("days on it", "days of work", "days off"))
+    )
     return NurseHistory(nurse, totals[0], totals[1], last, *runs)

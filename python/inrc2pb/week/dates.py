@@ -6,7 +6,7 @@ import re
 from typing import Collection, Dict, Iterator, NamedTuple, Optional, Sequence
 
 from .faults import Misuse
-from .records import DAYS, WEEK_DAYS
+from .records import DAYS, WEEK_DAYS, week_name
 from .slots import did_you_mean
 from .words import joined, quoted
 
@@ -16,6 +16,7 @@ DAY = datetime.timedelta(days=1)
 _NIGHT_ENDS = datetime.timedelta(hours=3)
 _TIMES = re.compile("([0-9]{1,2}:[0-9]{2}) ?[-\u2013] ?([0-9]{1,2}:[0-9]{2})")
 _WEEKDAY = re.compile("(mon|tue|wed|thu|fri|sat|sun)[a-z]* ?([0-9]{1,2})?", re.IGNORECASE)
+_CALENDAR_WEEK = re.compile(r"(?:cw|kw|calendar week)\.? ?([0-9]{1,2})", re.IGNORECASE)
 _IN_WORDS = re.compile(f"(?:(mon|tue|wed|thu|fri|sat|sun)[a-z]* )?([0-9]{{1,2}}) ({'|'.join(MONTHS)})", re.IGNORECASE)
 _DATE = re.compile(r"([0-9]{4})-([0-9]{1,2})-([0-9]{1,2})|([0-9]{1,2})\.([0-9]{1,2})\.?([0-9]{4})?")
 
@@ -142,8 +143,8 @@ def is_day(word: str) -> bool:
 
 
 class PlanDays(NamedTuple):
-    """The days of some weeks, counted from 0; in words weeks count from 1. The date of the first Monday is None if the sheet has no
-    dates."""
+    """The days of some weeks, counted from 0; in words weeks count from 1, with the calendar week beside it. The date of the first Monday
+    is None if the sheet has no dates."""
 
     monday: Optional[datetime.date]
     weeks: int
@@ -161,6 +162,25 @@ class PlanDays(NamedTuple):
         """The date of a day of a plan with dates."""
         assert self.monday is not None
         return self.monday + day * DAY
+
+    def calendar_week(self, week: int) -> int:
+        """The calendar week of a week of a plan with dates."""
+        return self.date(WEEK_DAYS * week).isocalendar()[1]
+
+    def week_text(self, week: int) -> str:
+        """A week in a sentence, as `week 1 (calendar week 49)`, or `week 1`."""
+        name = week_name(week)
+        return name if self.monday is None else f"{name} (calendar week {self.calendar_week(week)})"
+
+    def week_number(self, text: str) -> Optional[int]:
+        """The week that a text names: `2` is the second one of the plan, and `CW 49`, or `49` in a plan of fewer weeks, a calendar week.
+        None if the plan does not have it, or it is none."""
+        calendar, number = _CALENDAR_WEEK.fullmatch(text), int(text) if re.fullmatch("[0-9]{1,2}", text) else 0
+        if not calendar and 1 <= number <= self.weeks:
+            return number - 1
+        wanted = int(calendar[1]) if calendar else number
+        weeks = range(0 if self.monday is None else self.weeks)
+        return next((week for week in weeks if self.calendar_week(week) == wanted), None)
 
     def text(self, day: int) -> str:
         """A day in a sentence, as `Fri 4 Dec`, or `Fri of week 1`."""
@@ -188,8 +208,10 @@ class PlanDays(NamedTuple):
             if in_words[1] and in_words[1].title() != DAYS[day % WEEK_DAYS]:
                 raise Misuse(f"'{text}' is a {DAYS[day % WEEK_DAYS]}: write {self.head(day)}, if you mean this day")
         elif weekday:
-            of_week = DAYS.index(weekday[1].title())
-            day = of_week + WEEK_DAYS * (int(weekday[2]) - 1) if weekday[2] else near + (of_week - near) % WEEK_DAYS
+            of_week, week = DAYS.index(weekday[1].title()), self.week_number(weekday[2]) if weekday[2] else None
+            # A week that the plan does not have is said below.
+            beyond = WEEK_DAYS * (self.weeks if week is None else week)
+            day = beyond + of_week if weekday[2] else near + (of_week - near) % WEEK_DAYS
         elif date:
             day = self._of_date(text, date)
         else:

@@ -4,7 +4,7 @@ import contextlib
 import errno
 import re
 from pathlib import Path
-from typing import Iterator, List, Optional, Sequence, Type, Union
+from typing import Callable, Iterator, List, Optional, Sequence, Type, TypeVar, Union
 
 # Signs that a terminal obeys, such as the first one of a color, those that turn the direction of a text, and bytes of such signs.
 _CONTROL = re.compile("[\x00-\x08\x0b\x0c\x0e-\x1f\x7f-\x9f\u202a-\u202e\u2066-\u2069\udc80-\udc9f]")
@@ -60,6 +60,9 @@ class FileFaults(Exception):
         self.faults = faults
 
 
+_Value = TypeVar("_Value")
+
+
 class Gathering:
     """A block at whose end the faults of its steps are raised together."""
 
@@ -71,15 +74,33 @@ class Gathering:
 
     @contextlib.contextmanager
     def step(self) -> Iterator[None]:
-        """A fault within this step is kept for the end of the block."""
+        """A fault within this step, or several, are kept for the end of the block."""
         try:
             yield
         except FileFault as fault:
             self._found.append(fault)
+        except FileFaults as several:
+            self._found += several.faults
+
+    def tried(self, make: Callable[[], _Value], otherwise: _Value) -> _Value:
+        """What is made; if that has a fault, which is kept, the other value, so that what comes after it is looked at too."""
+        with self.step():
+            return make()
+        return otherwise
+
+    @property
+    def number(self) -> int:
+        """How many faults were found until now."""
+        return len(self._found)
+
+    def end(self) -> None:
+        """Raises the faults that were found until now, if there are some."""
+        if self._found:
+            raise FileFaults(self._found) if len(self._found) > 1 else self._found[0]
 
     def __exit__(self, kind: Optional[Type[BaseException]], *_: object) -> None:
-        if kind is None and self._found:
-            raise FileFaults(self._found) if len(self._found) > 1 else self._found[0]
+        if kind is None:
+            self.end()
 
 
 class ProgramFault(Exception):

@@ -6,8 +6,9 @@ from dataclasses import replace
 from test_kept_plans import KeptTest
 from ward import HAS_CBC
 
+from inrc2pb.plans.exchanges import more_even
 from inrc2pb.plans.facts import beside_days_away, unkept
-from inrc2pb.plans.fairness import Evenness, Share, Spread, evenness, may_work_nights, may_work_weekends, more_even, shares
+from inrc2pb.plans.fairness import Evenness, Share, Spread, evenness, may_work_nights, may_work_weekends, shares
 from inrc2pb.plans.sentences import evenness_lines
 from inrc2pb.plans.state import SetDay
 from inrc2pb.plans.store import penalties

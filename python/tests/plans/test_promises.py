@@ -13,8 +13,8 @@ from xml.etree import ElementTree
 from inrc2pb.commands.plan import read_sheet
 from inrc2pb.plans import events, pages, verbs
 from inrc2pb.plans.changes import without_needless_changes
+from inrc2pb.plans.exchanges import more_even
 from inrc2pb.plans.facts import broken_agreements
-from inrc2pb.plans.fairness import more_even
 from inrc2pb.plans.outcome import Asked, Event, Keep, Pages, Status
 from inrc2pb.plans.render import lines
 from inrc2pb.plans.searching import Found, kept_agreed

@@ -11,6 +11,7 @@ from pathlib import Path
 from ward import HelperTest, files, run
 
 from inrc2pb.commands import ward
+from inrc2pb.commands.ward import days_of
 from inrc2pb.judging.absences import absences_of
 from inrc2pb.judging.limits import with_given
 from inrc2pb.judging.rules import charges
@@ -270,8 +271,10 @@ class Contents(unittest.TestCase):
                 "row 1, column B: a spreadsheet makes 1900-01-29 of the number of a day: write whole dates, such as 2026-11-30",
             ),
             ("contracts", 2, 2, "1,000", "row 2, column C: '1,000' is no whole number: write 1 or 1000"),
-            ("needs", 2, 0, "46381", "row 2, column A: '2026-12-25' is a date: write the number, its week from 1"),
-            ("needs", 2, 0, "25.12.2026", "row 2, column A: '25.12.2026' is a date: write the number, its week from 1"),
+            *(
+                ("needs", 2, 0, text, f"row 2, column A: '{shown}' is a date, and the sheet plan has none: write the week's number, from 1")
+                for text, shown in (("46381", "2026-12-25"), ("25.12.2026", "25.12.2026"))
+            ),
             *(
                 (
                     "contracts",
@@ -461,12 +464,99 @@ class Contents(unittest.TestCase):
         for column in (5, 6):
             self.assertEqual(texts(changed("nurses", 2, column, ""))["history-0.txt"], texts(SHEETS)["history-0.txt"])
 
-    def test_the_date_of_a_bank_holiday(self):
-        sheets = changed("needs", 6, 0, "2026-12-08")
+    def dated(self, *weeks):
+        """The example with dates from 30 November on, and these texts in the column week of the row of its second week, and of others."""
+        sheets = copy.deepcopy(SHEETS)
         sheets["plan"][0] = ["nurse", *(f"2026-{'11-30' if not day else f'12-{day:02}'}" for day in range(14))]
+        for row, week in enumerate(weeks, 5):
+            sheets["needs"][row : row + 1] = [[week, *SHEETS["needs"][5][1:]]]
+        return sheets
+
+    def test_the_week_of_a_bank_holiday(self):
+        # Calendar week 50 begins on 7 December.
+        for text in ("2", "2026-12-07", "2026-12-13", "9.12.2026", "50", "CW 50", "cw50", "KW 50", "Calendar week 50", str(46365)):
+            with self.subTest(text):
+                self.assertEqual(texts(self.dated(text)), texts(self.dated("2")))
+                self.assertEqual(made(self.dated(text)).warnings, made(self.dated("2")).warnings)
+        for text, said in (
+            ("3", "there is no week 3: weeks are counted from 1, so write 2 for the last one, a calendar week such as CW 50, or a date"),
+            ("CW 2", "there is no week CW 2: weeks are counted from 1, so write 2 for the last one, a calendar week such as CW 50, or a date"),
+            ("soon", "'soon' is no whole number: write a number such as 2"),
+        ):
+            with self.subTest(text), self.assertRaises(FileFault) as caught:
+                texts(self.dated(text))
+            self.assertEqual(caught.exception.message, f"sheet needs, row 6, column A: {said}")
         with self.assertRaises(FileFault) as caught:
+            texts(changed("needs", 6, 0, "2026-12-08"))
+        cure = "'2026-12-08' is a date, and the sheet plan has none: write the week's number, from 1"
+        self.assertEqual(caught.exception.message, f"sheet needs, row 6, column A: {cure}")
+
+    def test_a_date_of_another_period_counts_for_no_week(self):
+        without = self.dated()
+        del without["needs"][5:]
+        for text in ("2026-11-29", "2026-12-14", "2025-12-25"):
+            found = made(self.dated(text))
+            line = f"sheet needs, row 6: {text} is not in this plan, so the row counts for no week: correct the date, or delete the row"
+            self.assertEqual(([one for one in found.warnings if "row 6" in one], found.texts), ([line], texts(without)))
+
+    def test_a_number_that_is_also_another_week_of_the_calendar(self):
+        # The plan begins in calendar week 2.
+        sheets = self.dated("2")
+        sheets["plan"][0] = ["nurse", *(f"2027-01-{day}" for day in range(11, 25))]
+        line = "sheet needs, row 6: 2 is the week of the plan, Mon 18 Jan to Sun 24 Jan: write CW 2 for the calendar week"
+        self.assertIn(line, made(sheets).warnings)
+        sheets["needs"][5][0] = "CW 2"
+        self.assertEqual([one for one in made(sheets).warnings if "row 6" in one], [])
+        self.assertNotEqual(texts(sheets)["week-0.txt"], texts(self.dated("2"))["week-0.txt"])
+
+    def test_all_mistakes_of_all_sheets_are_reported_at_once(self):
+        sheets = copy.deepcopy(SHEETS)
+        for sheet, row, column, text in (
+            ("shifts", 2, 2, "5x"),
+            ("contracts", 2, 2, "11 !!"),
+            ("contracts", 2, 4, "6!x"),
+            ("nurses", 3, 1, "Ful"),
+            ("nurses", 3, 3, "Nihgt"),
+            ("needs", 3, 4, "1 or 2 or 3"),
+            ("plan", 2, 3, "trainin"),
+            ("plan", 4, 0, "Brno"),
+        ):
+            sheets[sheet][row - 1][column] = text
+        with self.assertRaises(FileFaults) as caught:
             texts(sheets)
-        self.assertEqual(caught.exception.message, "sheet needs, row 6, column A: '2026-12-08' is a date: write 2, its week from 1")
+        self.assertEqual([one.message for one in caught.exception.faults], [
+            "sheet shifts, row 2, column C: '5x' is no whole number: write 5",
+            "sheet contracts, row 2, column C: '11 !!' has the sign ! more than once: write 11!",
+            "sheet contracts, row 2, column E: '6!x' is no whole number: write a number such as 2",
+            "sheet nurses, row 3, column B: 'Ful' is no contract: did you mean Full?",
+            "sheet nurses, row 3, column D: 'Nihgt' is no shift type: did you mean Night?",
+            "sheet needs, row 3, column E: '1 or 2 or 3' is no whole number: write a number such as 2, or 2+1 for 2 at least and better 3",
+            "sheet plan, row 4, column A: 'Brno' is no nurse of the sheet nurses: did you mean Bruno?",
+            "sheet plan, row 2, column D: 'trainin' is no shift type: did you mean training?",
+        ])  # fmt: skip
+
+    def test_mistakes_of_heads_are_reported_with_the_rows_of_other_sheets(self):
+        sheets = copy.deepcopy(SHEETS)
+        sheets["plan"][0][3], sheets["contracts"][1][1], sheets["nurses"][0][1] = "Midweek", "many", "kontrakt"
+        with self.assertRaises(FileFaults) as caught:
+            days_of(Book(Path("ward.ods"), sheets))
+        self.assertEqual([one.message.split(": ")[0] for one in caught.exception.faults], [
+            "sheet plan, row 1, column D", "sheet nurses, row 1, column B", "sheet contracts, row 2, column B",
+        ])  # fmt: skip
+
+    def test_a_name_with_a_mistake_is_no_mistake_wherever_it_stands(self):
+        # The shift type and the nurse stand in other sheets as they are meant.
+        for sheet, row, column, text in (("shifts", 2, 0, "off"), ("nurses", 4, 0, "Chen (new)"), ("contracts", 2, 0, "")):
+            with self.subTest(sheet), self.assertRaises(FileFault) as caught:
+                texts(changed(sheet, row, column, text))
+            self.assertTrue(caught.exception.message.startswith(f"sheet {sheet}, row {row}, column A: "))
+
+    def test_names_that_are_numbers(self):
+        sheets = copy.deepcopy(SHEETS)
+        for sheet in ("nurses", "plan"):
+            sheets[sheet][3][0] = "12"
+        line = "sheet nurses, row 4: the name of the nurse is the number 12: write a name, or leave it if it is meant so"
+        self.assertIn(line, made(sheets).warnings)
 
     def test_signs_without_a_width(self):
         self.assertEqual(texts(changed("plan", 4, 0, "Chen\u200b")), texts(SHEETS))
