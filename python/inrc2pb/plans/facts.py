@@ -69,10 +69,12 @@ class Due(NamedTuple):
 
 
 def promised_days(plan: WardPlan) -> List[NurseDay]:
-    """The nurses' days of the weeks that are not over that are promised and so planned: those that were set, and days off that the
-    spreadsheet promises."""
-    days_off = [one for one, word in plan.away.items() if word == PROMISED and one not in plan.works]
-    return [*(place for place, one in plan.state.promised.items() if plan.works.get(place) == one.cell), *days_off]
+    """The nurses' days of the weeks that are not over that are promised, and so planned: those that were set, and the days off and the
+    shifts that the spreadsheet promises."""
+    promised: Dict[NurseDay, Optional[Cell]] = {**plan.held}
+    promised.update((place, None) for place, word in plan.away.items() if word == PROMISED)
+    promised.update((place, promise.cell) for place, promise in plan.state.promised.items())
+    return [place for place, cell in promised.items() if plan.works.get(place) == cell]
 
 
 class Agreement(NamedTuple):

@@ -85,19 +85,13 @@ class Content:
         return (week, nurse, day) in self.swapped and not self.only_table
 
     def is_promised(self, week: int, nurse: str, day: int) -> bool:
-        """Whether a nurse's day is promised to her. On a wall a held shift is promised too, since nothing else says that it is held."""
-        is_held = any(HELD in cell.marks for cell in self.view.cells(week, nurse, day))
-        return (week, nurse, day) in self.promised or (self.only_table and is_held)
+        """Whether a nurse's day is promised to her."""
+        return (week, nurse, day) in self.promised
 
-    @property
-    def has_promises(self) -> bool:
-        """Whether some nurse's day is promised to her."""
-        weeks = range(len(self.view.weeks))
-        return any(self.is_promised(week, nurse, day) for week in weeks for nurse in self.view.nurses for day in range(len(DAYS)))
-
-    def marks(self, marks: str) -> str:
-        """Those marks of a cell that the page shows."""
-        return "".join(mark for mark in marks if mark == AWAY or not self.only_table)
+    def marks(self, week: int, nurse: str, day: int, marks: str) -> str:
+        """Those marks of a nurse's shift that the page shows. One that is promised has a sign for that."""
+        shown_marks = (mark for mark in marks if mark == AWAY or not self.only_table)
+        return "".join(mark for mark in shown_marks if mark != HELD or not self.is_promised(week, nurse, day))
 
     @property
     def changed(self) -> str:
@@ -214,7 +208,7 @@ class RosterTable:
     def _cell(self, week: int, nurse: str, day: int) -> Markup:
         cells = self.view.cells(week, nurse, day)
         change = self.changed.get((week, nurse, day))
-        parts = [self._shift(cell) for cell in cells]
+        parts = [self._shift(cell, self.page.marks(week, nurse, day, cell.marks)) for cell in cells]
         if not cells and self.view.is_away(week, nurse, day):
             parts.append(element("span", self._why(week, nurse, day), class_="away"))
         elif not cells and change:
@@ -243,15 +237,16 @@ class RosterTable:
             return "" if why in _DAYS_OFF else "away"
         return "off" if why in _DAYS_OFF else why
 
-    def _shift(self, cell: ShownCell) -> Markup:
+    def _shift(self, cell: ShownCell, marks: str) -> Markup:
+        """A shift, and its skill, with these marks."""
         shift, skill = readable(cell.shift), readable(cell.skill)
-        marks = [joined(shown(mark, class_="mark"), hidden(f", {MEANINGS[mark]}")) for mark in self.page.marks(cell.marks)]
+        signs = [joined(shown(mark, class_="mark"), hidden(f", {MEANINGS[mark]}")) for mark in marks]
         if self.single:
-            return joined(element("b", shift), " ", element("small", skill), *marks)
+            return joined(element("b", shift), " ", element("small", skill), *signs)
         short = element("b", self.short[cell.shift])
         if len(self.skills) > 1:
             short = joined(short, element("small", self.skills[cell.skill]))
-        return joined(shown(short), hidden(f"{shift} {skill}"), *marks)
+        return joined(shown(short), hidden(f"{shift} {skill}"), *signs)
 
     def legend(self) -> List[str]:
         """The meaning of short names, the times of shift types, and the marks."""
@@ -263,12 +258,13 @@ class RosterTable:
                 lines.append(f"{short}{readable(shift)}{times}")
         if not self.single and len(self.skills) > 1:
             lines += [f"{short} = {readable(skill)}" for skill, short in self.skills.items() if short != skill]
-        marks = {mark for week in self.view.weeks for row in week.cells for mark in self.page.marks(week.marks(row))}
+        rows = [(number, row, week.marks(row)) for number, week in enumerate(self.view.weeks) for row in week.cells]
+        marks = {mark for week, row, some in rows for mark in self.page.marks(week, row.nurse, row.day, some)}
         meanings = {**MEANINGS, CHANGED: self.page.changed}
         lines += [f"{mark} = {meaning}" for mark, meaning in meanings.items() if mark in marks or mark == CHANGED and self.changed]
         if any(self.page.is_swapped(*place) for place in self.page.swapped):
             lines.append(f"{SWAPPED} = {SWAPPED_MEANING}")
-        if self.page.has_promises:
+        if self.page.promised:
             lines.append(f"{PROMISED} = {PROMISED_MEANING}")
         if self.page.holidays:
             lines.append(f"{HOLIDAY} = {HOLIDAY_MEANING}")

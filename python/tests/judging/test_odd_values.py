@@ -13,7 +13,7 @@ WARNINGS = [
      "and 28 days have 20 with at most 5 working days and at least 2 off in a row"),
     (SCENARIO, "WEEKS = 4", "WEEKS = 2", "--sce", "contract Full: at least 17 assignments are asked for, and the period has 14 days: count shifts, not hours"),
     (SCENARIO, "(17,21)", "(20,21)", "--sce", None),
-    (HISTORY, "Bruno 0 0 None 0 0 2", "Bruno 0 0 None 0 1 2", "--his", "Bruno was off on Sunday (None), but has consecutive shifts or working days: correct one of the two"),
+    (HISTORY, "Bruno 0 0 None 0 0 2", "Bruno 0 0 None 0 1 2", "--his", "Bruno was off on Sunday, but has consecutive shifts or working days: correct one of the two"),
     (HISTORY, "Amara 0 0 Day 2 2 0", "Amara 0 0 Day 2 2 1", "--his", "Amara worked on Sunday (Day), but has 1 day off in a row: correct one of the two"),
     (HISTORY, "Amara 0 0 Day 2 2 0", "Amara 0 0 Day 0 2 0", "--his", "Amara worked on Sunday (Day), but has 0 days in a row on this shift type: correct one of the two"),
     (HISTORY, "Amara 0 0 Day 2 2 0", "Amara 0 0 Day 3 2 0", "--his", "Amara has 3 days in a row on Day, and only 2 with work: correct one of the two"),

@@ -195,12 +195,13 @@ class Seen(PromiseTest):
         self.assertEqual(self.marked(pages.roster_content(self.ward, plan)), set())
 
     def test_promises_of_the_spreadsheet_are_marked_too(self):
-        # A fixed shift has its own mark beside the costs, and the same one as other promises on the wall.
         self.rows["plan"][7][6], self.rows["plan"][7][1] = "off", "Day"
         self.write()
         content = pages.roster_content(self.ward, self.read())
-        self.assertEqual(self.marked(content), {("Grace", 6)})
-        self.assertEqual(self.marked(replace(content, only_table=True)), {("Grace", 1), ("Grace", 6)})
+        for page in (content, replace(content, only_table=True)):
+            self.assertEqual(self.marked(page), {("Grace", 1), ("Grace", 6)})
+            # One sign says it.
+            self.assertNotIn("= held", page_text(page))
 
 
 class Files(PromiseTest):
