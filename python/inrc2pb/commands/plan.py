@@ -1,6 +1,7 @@
 """Plans a ward from one folder: its spreadsheet, and what verbs have made of it."""
 
 import argparse
+import datetime
 import functools
 import ipaddress
 import re
@@ -22,7 +23,7 @@ from ..plans.ward import Ward
 from ..plans.ward_sheet import week_rows, with_written
 from ..programs.interrupts import interrupts
 from ..programs.program import find_program
-from ..programs.progress import Progress
+from ..programs.progress import WardProgress
 from ..programs.secrets_file import kept_secret
 from ..sheets.plan_sheets import AWAY, COUNTED, read_days
 from ..sheets.sheet_files import Book, read_book
@@ -36,7 +37,7 @@ from .command import check_seconds, number_of_seconds, parser
 
 # The verbs and their effects, in the order of the help. Verbs that only read need no lock.
 VERBS = {
-    "new": "write an example spreadsheet into the folder, which is made if there is none",
+    "new": "write an example spreadsheet into the folder, which is made if there is none; it begins on the next Monday",
     "check": "name the mistakes of the spreadsheet, and print the ward in sentences",
     "plan [DAY]": "plan the weeks that are not over, from this day on",
     "ill NAME DAY [DAY]": "she is ill from the first to the last day: a plan with few changes; also leave, unpaid, training, away",
@@ -244,7 +245,7 @@ def _files(given: argparse.Namespace) -> List[str]:
 
 def _verbs(folder: WardFolder) -> Verbs:
     """The verbs of a folder. Their progress counts from now on."""
-    return Verbs(folder, Means(read_sheet, Progress(sys.stderr), _say))
+    return Verbs(folder, Means(read_sheet, WardProgress(sys.stderr), _say))
 
 
 def main() -> Optional[int]:
@@ -252,7 +253,7 @@ def main() -> Optional[int]:
     given = _options().parse_args(_options_first(sys.argv[1:]))
     _check(given)
     if given.verb == "new":
-        print("\n".join(ward.new(given.folder)))
+        print("\n".join(ward.new(given.folder, datetime.date.today())))
         return 0
     if given.verb == "files":
         print("\n".join(_files(given)))

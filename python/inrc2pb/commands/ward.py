@@ -1,6 +1,7 @@
 """The verbs `new` and `files` of `inrc2pb-plan`: an example spreadsheet, and the text files of a ward that its spreadsheet says."""
 
 import contextlib
+import datetime
 import re
 from collections import Counter
 from pathlib import Path
@@ -17,7 +18,7 @@ from ..sheets.sheet_facts import absence_reasons, claims_of, look_warnings, with
 from ..sheets.sheet_files import Book, read_book
 from ..sheets.sheet_rows import tidy
 from ..sheets.ward_sheets import book_warnings, read_ward, skill_warnings, table_of, ward_warnings
-from ..sheets.ward_template import write_template
+from ..sheets.ward_template import next_monday, write_template
 from ..week.facts import Claim, facts_text, reasons_text
 from ..week.faults import FileFault, FileFaults, Gathering, Misuse
 from ..week.files import history_text, scenario_text, solution_text, week_text
@@ -176,8 +177,9 @@ def _write(folder: Path, found: Dict[str, str]) -> None:
             target.flush()
 
 
-def new(folder: Path) -> List[str]:
-    """Writes an example spreadsheet into the folder, which is made if there is none. Returns the lines to print.
+def new(folder: Path, today: datetime.date) -> List[str]:
+    """Writes an example spreadsheet into the folder, which is made if there is none; its plan begins on the Monday after this day. Returns
+    the lines to print.
 
     Raises Misuse if the folder has a spreadsheet.
     """
@@ -185,7 +187,7 @@ def new(folder: Path) -> List[str]:
     target = folder / TEMPLATE
     if has_spreadsheet(folder):
         raise Misuse(f"{folder} has a spreadsheet: give a new folder")
-    write_template(target)
+    write_template(target, next_monday(today))
     return [f"written: {target}; change its rows into those of your ward, then type: {as_typed(('inrc2pb-plan', folder, 'check'))}"]
 
 

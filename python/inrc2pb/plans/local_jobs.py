@@ -5,7 +5,7 @@ import threading
 from typing import List, Mapping, NamedTuple, Optional
 
 from ..programs.interrupts import Interrupts
-from ..programs.progress import Progress
+from ..programs.progress import WardProgress
 from ..week.faults import FileFault, FileFaults, Misuse, ProgramFault, fault_line
 from . import render
 from .kept import KeptSheet
@@ -69,7 +69,7 @@ class Jobs:
     def verbs(self, spoken: Optional[io.StringIO] = None) -> Verbs:
         """The verbs of the folder, which say to this text how far they are."""
         text = spoken or io.StringIO()
-        return Verbs(self.folder, Means(self._read, Progress(text), lambda line: print(line, file=text), ""))
+        return Verbs(self.folder, Means(self._read, WardProgress(text), lambda line: print(line, file=text), ""))
 
     def asked(self, event: Event) -> Said:
         """What an event comes to before it is done, as a question says it, or the fault that it would have."""

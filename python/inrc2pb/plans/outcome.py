@@ -29,6 +29,11 @@ class Event(NamedTuple):
     free: bool = False
     do: bool = False
 
+    @property
+    def typed(self) -> str:
+        """The words that the user typed, with the option that changes what comes of them."""
+        return " ".join(" ".join((self.verb, *self.words, *(["--free"] if self.free else []))).split())
+
 
 class Status(enum.Enum):
     """How an event ended."""

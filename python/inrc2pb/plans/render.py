@@ -7,7 +7,7 @@ from ..shown.ward_sentences import history_sentences, limit_sentences, scenario_
 from ..shown.week_sentences import DescribedWeek, weeks_sentences
 from ..shown.why import plain_breach_lines
 from ..week.faults import fault_line
-from ..week.records import WEEK_DAYS, in_week, week_name
+from ..week.records import WEEK_DAYS, in_week
 from ..week.words import readable
 from .changes import shift_changes
 from .facts import broken
@@ -81,9 +81,17 @@ def _ward_lines(plan: WardPlan) -> List[str]:
     """The ward and the weeks that are not over in sentences: first its size, and what its weeks ask for and the contracts supply."""
     limits = limit_sentences(plan.scenario, plan.data[plan.state.open_week]) if plan.weeks else ()
     past = history_sentences(plan.past, plan.ward.counted)
-    weeks = [DescribedWeek(number, plan.data[number], plan.reasons(number), in_week(plan.ward.held, number)) for number in plan.weeks]
+    weeks = [
+        DescribedWeek(number, plan.data[number], plan.reasons(number), in_week(plan.ward.held, number), _calendar_name(plan, number))
+        for number in plan.weeks
+    ]
     sentences = weeks_sentences(plan.scenario, weeks, lambda days: plan.days.spans([plan.first + day for day in days]))
     return [ward_sentence(plan.scenario), *_supplies(plan), "", *scenario_sentences(plan.scenario), *limits, "", *past, "", *sentences]
+
+
+def _calendar_name(plan: WardPlan, number: int) -> str:
+    """The name of a week with that of the calendar, if the plan has dates."""
+    return plan.days.week_text(number) if plan.days.monday else ""
 
 
 def _supplies(plan: WardPlan) -> Iterator[str]:
@@ -92,7 +100,7 @@ def _supplies(plan: WardPlan) -> Iterator[str]:
     for number in plan.weeks:
         own_first = [paid[number], *(shifts for other, shifts in paid.items() if other != number)]
         supply = supply_text(plan.scenario, plan.past, plan.data[number], own_first)
-        yield f"Week {number + 1}, {plan.days.text(WEEK_DAYS * number)}: {supply}."
+        yield f"{plan.days.week_text(number).capitalize()}, {plan.days.text(WEEK_DAYS * number)}: {supply}."
 
 
 # ---- the end of a week
@@ -125,7 +133,10 @@ def _goes_on_lines(over: WeekOver, new: WardPlan) -> List[str]:
     begin = new.days.text(new.first)
     now = [fault for number in new.weeks for fault in broken(new, number)]
     known = [fault for number in new.weeks for fault in broken(over.old, number)]
-    said = [f"{week_name(over.old.state.open_week)} is over: the plan goes on from {begin}", *(broken_text(new, fault) for fault in now)]
+    said = [
+        f"{over.old.days.week_text(over.old.state.open_week)} is over: the plan goes on from {begin}",
+        *(broken_text(new, fault) for fault in now),
+    ]
     if any(fault not in known for fault in now):
         said.append(f"after these corrections the plan does not fit any more: plan again, from {begin} on")
     return [*said, *days_away_lines(new), *pages_lines(over.pages)]
@@ -136,7 +147,7 @@ def _period_over_lines(over: WeekOver) -> List[str]:
     days = over.worked.days.next()
     begin = f"from {days.monday} on, " if days.monday else ""
     then = "into the sheet plan, with its wishes and absences; then plan"
-    closed = f"{week_name(over.old.state.open_week)} is over, and with it the {PERIOD_IS_OVER}"
+    closed = f"{over.old.days.week_text(over.old.state.open_week)} is over, and with it the {PERIOD_IS_OVER}"
     rows = anew_lines(over.worked.ward.week_rows, days)
     return [*pages_lines(over.pages), closed, f"write the days of the next one, {begin}{then}", *rows]
 

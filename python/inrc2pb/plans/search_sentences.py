@@ -4,9 +4,10 @@ from typing import Dict, List, Mapping, Optional
 
 from ..search.why_none import CAN, kept_no_absence_lines, lowered_text, shortage_head
 from ..shown.ward_sentences import part_sentences
-from ..week.records import WEEK_DAYS, NurseDay, week_name
+from ..week.dates import PlanDays
+from ..week.records import WEEK_DAYS, NurseDay
 from ..week.words import plural, readable
-from .changes import BESIDE_POINTS, CALL_POINTS, POINTS, shift_changes
+from .changes import shift_changes
 from .facts import Agreement, broken_agreements, unkept
 from .outcome import Asked, Away, KnownBound, NoPlan, Planned, Status
 from .sentences import (
@@ -37,12 +38,7 @@ FOR_REASON = "no plan was found: a search for the reason, at most 30 s for each 
 def search_lines(plan: WardPlan, asked: Asked, end: str) -> List[str]:
     """What a search begins with; `end` says how a user ends it."""
     days = plan.days.span([asked.first, plan.days.total - 1])
-    said = [f"{days}, at most {asked.seconds:g} s{f'; {end}' if end else ''}"]
-    if asked.few_changes and plan.is_planned:
-        beside = f"{BESIDE_POINTS} more on a day off beside days away"
-        changed = f"{POINTS} points for a new shift of a nurse ({beside}), {CALL_POINTS} for a nurse to call"
-        said.append(f"penalties and the bound of the search have also {changed}; the points of the plan have not")
-    return said
+    return [f"{days}, at most {asked.seconds:g} s{f'; {end}' if end else ''}"]
 
 
 def absence_lines(absence: Away) -> List[str]:
@@ -103,7 +99,7 @@ def planned_lines(planned: Planned, write: str) -> List[str]:
         said.append(f"shifts before {new.days.text(planned.asked.first)} stay: plan from an earlier day can take some of them away")
     said += [*days_away_lines(new), *_changed_lines(planned)]
     said += [_agreement_text(new, broken) for broken in broken_agreements(planned.old, new)]
-    said += [*beside_lines(new), *due_lines(new), *wish_lines(planned.before, new), *cost_lines(planned.penalties)]
+    said += [*beside_lines(new), *due_lines(new), *wish_lines(planned.before, new), *cost_lines(planned.penalties, new.days)]
     said += evenness_lines(new)
     if not missing and not planned.asked.few_changes:
         said.append(bound_text(planned.bound))
@@ -137,9 +133,9 @@ def _agreement_text(new: WardPlan, broken: Agreement) -> str:
     return f"this breaks {what}: {readable(place.nurse)}, {new.days.text(place.day)}: {now}, {was} {cell_text(broken.cell)}"
 
 
-def cost_lines(penalties: Mapping[int, int]) -> List[str]:
+def cost_lines(penalties: Mapping[int, int], days: PlanDays) -> List[str]:
     """What each week costs, and all of them."""
-    said = [f"{week_name(number)}: {points} points" for number, points in penalties.items()]
+    said = [f"{days.week_text(number)}: {points} points" for number, points in penalties.items()]
     return [*said, f"{plural(len(said), 'week')}: {sum(penalties.values())} points"] if len(said) > 1 else said
 
 
@@ -171,7 +167,7 @@ def _least_text(penalty: int, least: int, plans: str, proof: str, is_first: bool
 def no_plan_lines(none: NoPlan) -> List[str]:
     """The week that has no roster, which minimum numbers to lower, and who is missing."""
     plan, begin = none.plan, counts_lines(none.absence) if none.absence else []
-    said = [f"{week_name(none.week)}: {shortage_head(none.shortage)}"]
+    said = [f"{plan.days.week_text(none.week)}: {shortage_head(none.shortage)}"]
     for short in none.shortage.places:
         said.append(readable(f"{plan.days.text(WEEK_DAYS * none.week + short.place.day)} {lowered_text(short)}"))
         if not short.is_known:

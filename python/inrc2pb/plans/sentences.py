@@ -8,7 +8,7 @@ from ..shown.changes import change_text, shifts_text
 from ..shown.why import in_words as charge_text
 from ..week.dates import PlanDays
 from ..week.faults import fault_line
-from ..week.records import WEEK_DAYS, Cell, NurseDay, week_name
+from ..week.records import WEEK_DAYS, Cell, NurseDay
 from ..week.words import OFF, joined, plural, quoted, readable, wish_text
 from .changes import ShiftChange, called
 from .fairness import evenness
@@ -69,7 +69,7 @@ def unkept_lines(plan: WardPlan, unkept: Iterable[Unkept]) -> List[str]:
     """Who works while she is away, or above a limit that holds, and what would help."""
     said: List[str] = []
     for missed in unkept:
-        week, names, cells = week_name(missed.week), plan.day_names(missed.week), plan.state.roster(missed.week)
+        week, names, cells = plan.days.week_text(missed.week), plan.day_names(missed.week), plan.state.roster(missed.week)
         if missed.working:
             skills = joined(dict.fromkeys(readable(cell.skill) for cell in missed.working))
             said.append(f"{week}: no plan was found that keeps every absence: {in_words(missed.working, names)}")
@@ -85,7 +85,7 @@ def exceeded_lines(plan: WardPlan) -> List[str]:
     said = []
     for number, charge in exceeded_in_weeks(plan):
         words = limits_in_words([charge], plan.state.roster(number), plan.day_names(number))
-        said.append(f"{week_name(number)} exceeds a limit that holds: {words}: plan again, or allow her more")
+        said.append(f"{plan.days.week_text(number)} exceeds a limit that holds: {words}: plan again, or allow her more")
     return said + [_shifts_line(plan, many) for many in too_many_shifts(plan)]
 
 
@@ -145,9 +145,9 @@ def due_lines(plan: WardPlan) -> List[str]:
 def broken_text(plan: WardPlan, broken: Broken) -> str:
     """The hard rule that a week of a plan breaks, or the limits that it exceeds."""
     if broken.rule:
-        return f"{week_name(broken.week)}, {readable(broken.rule)}"
+        return f"{plan.days.week_text(broken.week)}, {readable(broken.rule)}"
     words = limits_in_words(broken.above, plan.state.roster(broken.week), plan.day_names(broken.week))
-    return f"{week_name(broken.week)} exceeds a limit that holds: {words}"
+    return f"{plan.days.week_text(broken.week)} exceeds a limit that holds: {words}"
 
 
 def evenness_lines(plan: WardPlan) -> List[str]:
@@ -187,5 +187,5 @@ def anew_lines(rows: Iterable[WeekRow], days: PlanDays) -> Iterator[str]:
     for week, numbers in numbers_of.items():
         named = f"row{'s' if len(numbers) > 1 else ''} {joined(numbers)}"
         span = f", now {days.span([WEEK_DAYS * week, WEEK_DAYS * week + WEEK_DAYS - 1])}" if days.monday else ""
-        now = f"weeks count anew, and this is {week_name(week)}{span}"
+        now = f"weeks count anew, and this is {days.week_text(week)}{span}"
         yield f"sheet needs, {named}: {now}: correct it, or delete what the last period needed"

@@ -24,7 +24,7 @@ _MOST_BYTES = 1_000_000
 _MOST_WEEKS = 52
 _CURE = "correct it, or type undo to go back to the plan before it"
 # What the plans of an older version do not have.
-_SET = "set days"
+_SET, _TYPED = "set days", "typed"
 # The words of days on which a nurse is back: the first empties her cell, the second gives the day its cell of the spreadsheet again.
 BACK, SHEET = "back", "sheet"
 
@@ -64,7 +64,7 @@ class SetDay(NamedTuple):
 class Record(NamedTuple):
     """What a plan's folder says of itself: the verb that made it, and when; the days of the plan; the first week that is not over; whether
     it hangs on the wall, so that later plans change little; the days away that verbs have written, of which the last one of a day holds;
-    the days of swaps that were written, and those that were set, whose shifts later plans keep."""
+    the days of swaps that were written, and those that were set, whose shifts later plans keep; and the words that its user typed."""
 
     verb: str
     time: datetime.datetime
@@ -74,11 +74,12 @@ class Record(NamedTuple):
     absences: Tuple[DayWord, ...] = ()
     agreed: Tuple[NurseDay, ...] = ()
     set_days: Tuple[SetDay, ...] = ()
+    typed: str = ""
 
     @property
     def made(self) -> str:
-        """The verb and its time in words."""
-        return f"{self.verb}, {self.time:%Y-%m-%d %H:%M}"
+        """The verb as it was typed, if that is known, and its time."""
+        return f"{self.typed or self.verb}, {self.time:%Y-%m-%d %H:%M}"
 
 
 @dataclass(frozen=True)
@@ -121,8 +122,8 @@ class State:
         worked = (cell for cell in self.cells if cell.day < self.first)
         return replace(self, cells=(*worked, *cells), planned=self.days.weeks)
 
-    def record(self, verb: str, time: datetime.datetime) -> Record:
-        """What the folder of a plan says of itself that this verb has made."""
+    def record(self, verb: str, time: datetime.datetime, typed: str = "") -> Record:
+        """What the folder of a plan says of itself that this verb has made, for which these words were typed."""
         return Record(
             verb,
             time,
@@ -132,6 +133,7 @@ class State:
             absences=self.absences,
             agreed=self.agreed,
             set_days=self.set_days,
+            typed=typed,
         )
 
     def agreeing(self, fits: Callable[[NurseDay], bool]) -> "State":
@@ -195,6 +197,7 @@ def record_text(record: Record) -> str:
         "days away": [list(one if one.lost is not None else one[:3]) for one in record.absences],
         "agreed days": [list(one) for one in record.agreed],
         _SET: [list(one) for one in record.set_days],
+        _TYPED: record.typed,
     }
     lines = [f"  {json.dumps(name)}: {json.dumps(value, ensure_ascii=False)}" for name, value in values.items()]
     return "{\n" + ",\n".join(lines) + "\n}\n"
@@ -226,10 +229,10 @@ class _Changed(ValueError):
 
 
 def _record_of(values: Any) -> Record:
-    names = ("verb", "time", "monday", "weeks", "weeks over", "published", "days away", "agreed days", _SET)
-    if not isinstance(values, dict) or {_SET, *values} != set(names):
+    names = ("verb", "time", "monday", "weeks", "weeks over", "published", "days away", "agreed days", _SET, _TYPED)
+    if not isinstance(values, dict) or {_SET, _TYPED, *values} != set(names):
         raise _Changed(f"it has not the names {', '.join(names)}")
-    values = {_SET: [], **values}
+    values = {_SET: [], _TYPED: "", **values}
     monday = values["monday"]
     weeks = _taken(values, "weeks", _is_number_to(_MOST_WEEKS))
     days = PlanDays(None if monday is None else _time(values, "monday", "%Y-%m-%d").date(), weeks)
@@ -246,6 +249,7 @@ def _record_of(values: Any) -> Record:
         absences=tuple(DayWord(*row) for row in absences),
         agreed=tuple(NurseDay(*row) for row in agreed),
         set_days=tuple(SetDay(*(row if len(row) > 3 else [*row, None])) for row in set_days),
+        typed=_taken(values, _TYPED, lambda value: isinstance(value, str)),
     )
 
 

@@ -224,15 +224,15 @@ class PlanStore:
         """The same. Raises Misuse if the spreadsheet does not have its names any more."""
         return fitted(self.planned())
 
-    def save(self, verb: str, plan: WardPlan) -> Pages:
+    def save(self, verb: str, plan: WardPlan, typed: str = "") -> Pages:
         """Writes the plan and its pages. Returns the pages."""
-        self.add(verb, plan)
+        self.add(verb, plan, typed)
         return self.pages(plan)
 
-    def add(self, verb: str, plan: WardPlan) -> None:
-        """Writes the plan that this verb has made, without pages."""
+    def add(self, verb: str, plan: WardPlan, typed: str = "") -> None:
+        """Writes the plan that this verb has made, for which these words were typed, without pages."""
         now = datetime.datetime.now()
-        self.folder.add(verb.split(" ", 1)[0], plan_texts(plan, plan.state.record(verb, now)), now)
+        self.folder.add(verb.split(" ", 1)[0], plan_texts(plan, plan.state.record(verb, now, typed)), now)
 
     def other_pages(self) -> Tuple[str, ...]:
         """The names of pages that show another plan than the one that holds, as after a run that was killed."""

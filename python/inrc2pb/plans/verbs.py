@@ -112,7 +112,7 @@ def _plan(store: PlanStore, event: Event) -> Outcome:
     few = old.state.published and old.is_planned and not event.free
     asked = Asked(first, few, event.seconds or WEEK_SECONDS * len(old.weeks), do=event.do)
     keeping = replace(old, limits=limits_of(old.ward, old.state, first))
-    return _searched(store, "plan", keeping, asked._replace(agreed=Keep.NONE) if event.free else asked)
+    return _searched(store, event, "plan", keeping, asked._replace(agreed=Keep.NONE) if event.free else asked)
 
 
 def _away(store: PlanStore, event: Event) -> Outcome:
@@ -134,7 +134,7 @@ def _searched_for(store: PlanStore, event: Event, found: Away, *named: int) -> O
         return replace(found, status=Status.NOT_KEPT)
     _say(store, absence_lines(found))
     verb = " ".join([found.word, found.nurse, *map(found.old.days.head, named)])
-    return _searched(store, verb, found.new, Asked(found.days[0], True, event.seconds or CHANGE_SECONDS, do=event.do), found)
+    return _searched(store, event, verb, found.new, Asked(found.days[0], True, event.seconds or CHANGE_SECONDS, do=event.do), found)
 
 
 def _say(store: PlanStore, said: Sequence[str]) -> None:
@@ -142,9 +142,10 @@ def _say(store: PlanStore, said: Sequence[str]) -> None:
         store.means.say(line)
 
 
-def _searched(store: PlanStore, verb: str, old: WardPlan, asked: Asked, absence: Optional[Away] = None) -> Outcome:
+def _searched(store: PlanStore, event: Event, verb: str, old: WardPlan, asked: Asked, absence: Optional[Away] = None) -> Outcome:
     """Searches, and writes the plan. `absence` has the older plan with the absences that it had, if these are other ones now."""
     _say(store, search_lines(old, asked, store.means.end))
+    store.means.progress.counts_changes = asked.few_changes and old.is_planned
     # A second Ctrl-C does not end it before the plan is written.
     with interrupts():
         try:
@@ -175,7 +176,7 @@ def _searched(store: PlanStore, verb: str, old: WardPlan, asked: Asked, absence:
         )
         if not asked.do and newly_exceeded(seen, new):
             return replace(planned, status=Status.NOT_KEPT)
-        return _saved(planned, store.save(verb, new))
+        return _saved(planned, store.save(verb, new, event.typed))
 
 
 def _evened(plan: WardPlan, asked: Asked) -> WardPlan:
@@ -242,7 +243,7 @@ def _swap(store: PlanStore, event: Event) -> Union[Offers, Swapped]:
         return found
     # The program has the last word on the new rosters.
     penalties(found.new)
-    return _saved(found, store.save(_named(found.old, found.swap), found.new))
+    return _saved(found, store.save(_named(found.old, found.swap), found.new, event.typed))
 
 
 def _named(plan: WardPlan, swap: Swap) -> str:
@@ -258,7 +259,8 @@ def _set(store: PlanStore, event: Event) -> DaySet:
     # The program has the last word on the new rosters.
     penalties(found.new)
     words = BACK if found.takes_back else found.now.shift if found.now else OFF
-    return _saved(found, store.save(f"set {found.place.nurse} {found.old.days.head(found.place.day)} {words}", found.new))
+    verb = f"set {found.place.nurse} {found.old.days.head(found.place.day)} {words}"
+    return _saved(found, store.save(verb, found.new, event.typed))
 
 
 def _agreed_swap(store: PlanStore, plan: WardPlan, place: NurseDay) -> Optional[Swap]:
@@ -296,9 +298,9 @@ def _over(store: PlanStore, event: Event) -> WeekOver:
     if not event.do and any(newly_exceeded(found.old, plan) for plan in (worked, found.next) if plan):
         return replace(found, status=Status.NOT_KEPT)
     if found.next:
-        return _saved(found, store.save(f"over {number}", found.next))
+        return _saved(found, store.save(f"over {number}", found.next, event.typed))
     past = next_history(worked.scenario, worked.histories[number], worked.state.roster(number), new_period=True)
-    store.add("over period", first_plan(replace(worked.ward, days=worked.days.next(), counted=Counted()), past))
+    store.add("over period", first_plan(replace(worked.ward, days=worked.days.next(), counted=Counted()), past), event.typed)
     # The pages show the period that is over.
     return _saved(found, store.pages(worked.with_state(replace(worked.state, open_week=number + 1))))
 
@@ -306,7 +308,7 @@ def _over(store: PlanStore, event: Event) -> WeekOver:
 def _page(store: PlanStore, event: Event) -> Published:
     """Writes all pages and calendars. From now on the plan hangs on the wall."""
     found = events.published(store.fitting())
-    return _saved(found, store.save(PAGE, found.plan))
+    return _saved(found, store.save(PAGE, found.plan, event.typed))
 
 
 def _undoing(store: PlanStore) -> Undone:

@@ -17,7 +17,7 @@ from ..shown.roster_view import RosterView, WeekView
 from ..week.dates import PlanDays, Times
 from ..week.facts import SHIFTS, Charged, Claim
 from ..week.faults import Misuse
-from ..week.records import WEEK_DAYS, Absence, Cell, History, NurseDay, Place, Requirement, Scenario, Week, WeekData, in_week, week_name
+from ..week.records import WEEK_DAYS, Absence, Cell, History, NurseDay, Place, Requirement, Scenario, Week, WeekData, in_week
 from ..week.words import OFF, plural, readable
 from .state import SHEET, DayWord, State
 from .ward_sheet import WeekRow
@@ -339,7 +339,9 @@ def _check_names(ward: Ward, worked: Sequence[Cell]) -> None:
         week = cell.day // WEEK_DAYS
         if cell.nurse not in ward.scenario.nurses:
             cure = "write it again, with away in the plan from her last day on"
-            raise Misuse(f"{readable(cell.nurse)} worked in {week_name(week)}, and has no row in the sheet nurses: {cure}")
+            raise Misuse(f"{readable(cell.nurse)} worked in {ward.days.week_text(week)}, and has no row in the sheet nurses: {cure}")
         if not ward.knows(cell):
             row = cell._replace(day=cell.day % WEEK_DAYS).row()
-            raise Misuse(f"'{row}' was worked in {week_name(week)}, and the spreadsheet has no such shift type or skill: keep its old name")
+            raise Misuse(
+                f"'{row}' was worked in {ward.days.week_text(week)}, and the spreadsheet has no such shift type or skill: keep its old name"
+            )

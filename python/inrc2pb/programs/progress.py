@@ -22,6 +22,8 @@ class Progress:
         self._penalty: Optional[int] = None
         self._bound: Optional[int] = None
         self._finder = ""
+        # Whether the penalties of the search that runs have also points for changed shifts.
+        self.counts_changes = False
 
     def improved(self, penalty: int, finder: str) -> None:
         """A roster of this penalty was found."""
@@ -38,14 +40,16 @@ class Progress:
         """Whether a higher bound alone is worth a line."""
         return self._target is not None and time.monotonic() - self._printed > (BOUND_SECONDS if not self._updates else 1.0)
 
-    def _show(self) -> None:
+    def _words(self) -> str:
+        """The best penalty and the bound."""
         parts = ["no roster yet" if self._penalty is None else f"penalty {self._penalty}"]
         if self._bound is not None:
             parts.append(f"bound {self._bound}" + ("" if self._penalty is None else f", gap {gap_share(self._penalty, self._bound)}"))
-        if self._finder:
-            parts.append(f"({self._finder})")
+        return "  ".join([*parts, *([f"({self._finder})"] if self._finder else [])])
+
+    def _show(self) -> None:
         self._printed = time.monotonic()
-        text = f"{self._printed - self._began:7.1f} s  " + "  ".join(parts)
+        text = f"{self._printed - self._began:7.1f} s  {self._words()}"
         if self._updates:
             self._put("\r" + text.ljust(self._width))
             self._width = len(text)
@@ -68,6 +72,17 @@ class Progress:
             with contextlib.suppress(OSError, ValueError):
                 self._target.write(text)
                 self._target.flush()
+
+
+class WardProgress(Progress):
+    """The same for people who plan a ward: in points, and with what cannot be avoided."""
+
+    def _words(self) -> str:
+        if self._penalty is None:
+            return "no plan yet" + ("" if self._bound is None else f"; at least {self._bound} points cannot be avoided")
+        what = ", those for changed shifts among them" if self.counts_changes else ""
+        least = "" if self._bound is None else f"; at least {self._bound} cannot be avoided"
+        return f"{self._penalty} points{what}{least}"
 
 
 def gap_share(penalty: int, bound: int) -> str:

@@ -1,12 +1,14 @@
-"""An example spreadsheet for `inrc2pb-plan`, as an ODS file."""
+"""An example spreadsheet for `inrc2pb-plan`, as an ODS file, whose plan begins on a Monday that is given."""
 
+import datetime
 import zipfile
 from pathlib import Path
 from typing import Dict, List, Sequence
 from xml.sax.saxutils import escape, quoteattr
 
+from ..week.dates import DAY, date_text
 from ..week.faults import Misuse
-from ..week.records import DAYS
+from ..week.records import DAYS, WEEK_DAYS
 from ..week.writing import check_target
 
 Rows = Sequence[Sequence[object]]
@@ -20,7 +22,8 @@ def _days(*weeks: str) -> List[str]:
 
 # Columns with the head `note` are not read.
 KEPT_NOTE = "22! in place of 22: she never has more; so may work max and weekends"
-HOLIDAY_NOTE = "if Fri of week 3 is a bank holiday: one more row, with 3 for week, Day for shift, Nurse for skill, and 0+1 for Fri only"
+HOLIDAY_NOTE = "if {} is a bank holiday: one more row, with {} for week, Day for shift, Nurse for skill, and 0+1 for Fri only"
+# The plan of the example has four weeks, and its days have no dates.
 EXAMPLE: Dict[str, Rows] = {
     "shifts": [
         ("shift", "min in a row", "max in a row", "not followed by", "times"),
@@ -58,7 +61,7 @@ EXAMPLE: Dict[str, Rows] = {
     "needs": [
         ("week", "shift", "skill", *DAYS, "note"),
         ("", "Day", "Charge", *[1] * 7),
-        ("", "Day", "Nurse", *["1+1"] * 5, "0+1", "0+1", HOLIDAY_NOTE),
+        ("", "Day", "Nurse", *["1+1"] * 5, "0+1", "0+1", HOLIDAY_NOTE.format("Fri of week 3", "3")),
         ("", "Late", "Nurse", *[1] * 7),
         ("", "Night", "Nurse", *[1] * 7),
     ],
@@ -74,12 +77,34 @@ EXAMPLE: Dict[str, Rows] = {
     ],
 }
 _TYPE = "application/vnd.oasis.opendocument.spreadsheet"
-_SPACES = " ".join(f'xmlns:{name}="urn:oasis:names:tc:opendocument:xmlns:{name}:1.0"' for name in ("office", "table", "text", "manifest"))
+_NAMES = ("office", "table", "text", "manifest", "style", "datastyle")
+_SPACES = " ".join(f'xmlns:{name.replace("datastyle", "number")}="urn:oasis:names:tc:opendocument:xmlns:{name}:1.0"' for name in _NAMES)
+# How a cell shows a date: as 2026-11-30.
+_DATE_STYLE = (
+    '<number:date-style style:name="days"><number:year number:style="long"/><number:text>-</number:text>'
+    '<number:month number:style="long"/><number:text>-</number:text><number:day number:style="long"/></number:date-style>'
+    '<style:style style:name="day" style:family="table-cell" style:data-style-name="days"/>'
+)
 _HEAD = '<?xml version="1.0" encoding="UTF-8"?>\n'
 
 
-def write_template(path: Path) -> None:
-    """Writes the example; a file of this name is not replaced, since a ward may have changed it."""
+def next_monday(today: datetime.date) -> datetime.date:
+    """The Monday after this day."""
+    return today + (WEEK_DAYS - today.weekday()) * DAY
+
+
+def dated_example(monday: datetime.date) -> Dict[str, Rows]:
+    """The example with dates from this Monday on."""
+    heads, *rows = EXAMPLE["plan"]
+    dates = [monday + day * DAY for day in range(len(heads) - 1)]
+    friday = dates[2 * WEEK_DAYS + DAYS.index("Fri")]
+    notes = HOLIDAY_NOTE.format("Fri of week 3", "3"), HOLIDAY_NOTE.format(f"Fri {date_text(friday)}", friday)
+    needs = [[notes[1] if cell == notes[0] else cell for cell in row] for row in EXAMPLE["needs"]]
+    return {**EXAMPLE, "needs": needs, "plan": [(heads[0], *dates), *rows]}
+
+
+def write_template(path: Path, monday: datetime.date) -> None:
+    """Writes the example, whose plan begins on this Monday; a file of this name is not replaced, since a ward may have changed it."""
     if path.suffix.lower() != ".ods":
         raise Misuse(f"--template {path}: the example is an .ods file, which Excel opens too: end its name with .ods")
     if path.exists() or path.is_symlink():
@@ -87,8 +112,9 @@ def write_template(path: Path) -> None:
     check_target(path)
     manifest = f'<manifest:file-entry manifest:full-path="/" manifest:media-type="{_TYPE}"/>'
     manifest += '<manifest:file-entry manifest:full-path="content.xml" manifest:media-type="text/xml"/>'
-    sheets = "".join(_sheet(name, rows) for name, rows in EXAMPLE.items())
-    content = f"<office:body><office:spreadsheet>{sheets}</office:spreadsheet></office:body>"
+    sheets = "".join(_sheet(name, rows) for name, rows in dated_example(monday).items())
+    styles = f"<office:automatic-styles>{_DATE_STYLE}</office:automatic-styles>"
+    content = f"{styles}<office:body><office:spreadsheet>{sheets}</office:spreadsheet></office:body>"
     try:
         with open(path, "xb") as file, zipfile.ZipFile(file, "w", zipfile.ZIP_DEFLATED) as archive:
             archive.writestr(zipfile.ZipInfo("mimetype"), _TYPE)
@@ -116,5 +142,8 @@ def _row(cells: Sequence[object]) -> str:
 def _cell(value: object) -> str:
     if value == "":
         return "<table:table-cell/>"
+    if isinstance(value, datetime.date):
+        date = f'table:style-name="day" office:value-type="date" office:date-value="{value}"'
+        return f"<table:table-cell {date}><text:p>{value}</text:p></table:table-cell>"
     kind = f'office:value-type="float" office:value="{value}"' if isinstance(value, int) else 'office:value-type="string"'
     return f"<table:table-cell {kind}><text:p>{escape(str(value))}</text:p></table:table-cell>"

@@ -22,12 +22,14 @@ DaysText = Callable[[Collection[int]], str]
 
 
 class DescribedWeek(NamedTuple):
-    """A week to be described: its number, its data, why nurses are away on its days, as far as that is known, and its held shifts."""
+    """A week to be described: its number, its data, why nurses are away on its days, as far as that is known, its held shifts, and its name
+    if it has one beside its number."""
 
     number: int
     data: WeekData
     reasons: Mapping[Tuple[str, int], str] = {}
     held: Sequence[Cell] = ()
+    name: str = ""
 
 
 def days_of_week(days: Collection[int]) -> str:
@@ -95,9 +97,16 @@ def _needs_sentences(weeks: Sequence[DescribedWeek]) -> Iterator[str]:
     for shift, skill in dict.fromkeys((place.shift, place.skill) for week in weeks for place in week.data.requirements):
         numbers = [[week.data.requirements.get(Place(day, shift, skill), Requirement(0, 0)) for day in range(WEEK_DAYS)] for week in weeks]
         usual = max(numbers, key=numbers.count)
-        others = together((_other_numbers(of_week, usual), week.number + 1) for week, of_week in zip(weeks, numbers) if of_week != usual)
-        words = [f"; week{'s' if len(some) > 1 else ''} {joined(map(str, some))}: {text}" for text, some in others.items()]
+        others = together((_other_numbers(of_week, usual), week) for week, of_week in zip(weeks, numbers) if of_week != usual)
+        words = [f"; {_weeks_text(some)}: {text}" for text, some in others.items()]
         yield f"{shift} {skill}: {_numbers_by_day(enumerate(usual))}{''.join(words)}."
+
+
+def _weeks_text(weeks: Sequence[DescribedWeek]) -> str:
+    """Weeks by their names, or by their numbers, as `weeks 1 and 3`."""
+    if all(week.name for week in weeks):
+        return joined(week.name for week in weeks)
+    return f"week{'s' if len(weeks) > 1 else ''} {joined(str(week.number + 1) for week in weeks)}"
 
 
 def _other_numbers(numbers: Sequence[Requirement], usual: Sequence[Requirement]) -> str:

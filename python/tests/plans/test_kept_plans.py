@@ -343,10 +343,10 @@ class Weeks(KeptTest):
         wall = (self.ward / "wall.html").read_text().split("<table")[1:]
         self.does("page")
         printed = self.does("undo")
-        self.assertRegex(printed, "^undone: page, [0-9: -]+\nthe plan of over 0, [0-9: -]+ holds again, with the same shifts\n")
+        self.assertRegex(printed, "^undone: page, [0-9: -]+\nthe plan of over, [0-9: -]+ holds again, with the same shifts\n")
         self.assertEqual(self.cells(), cells)
         self.assertEqual((self.ward / "wall.html").read_text().split("<table")[1:], wall)
-        self.assertRegex(self.does("undo"), "^undone: over 0, [0-9: -]+\nthe plan of page, [0-9: -]+ holds again\n")
+        self.assertRegex(self.does("undo"), "^undone: over, [0-9: -]+\nthe plan of page, [0-9: -]+ holds again\n")
 
     def test_undo_writes_no_page_of_a_plan_that_has_other_names(self):
         self.does("page")

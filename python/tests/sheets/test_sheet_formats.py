@@ -235,16 +235,13 @@ class Formats(HelperTest):
 
     def test_looks_of_an_ods_file(self):
         path = self.folder / "ward.ods"
-        write_template(path)
+        write_template(path, MONDAY)
         style = (
             '<office:automatic-styles><style:style style:name="old"><style:text-properties style:text-line-through-style="solid"/></style:style>'
-            '<style:style style:name="red"><style:table-cell-properties fo:background-color="#ff0000"/></style:style></office:automatic-styles>'
+            '<style:style style:name="red"><style:table-cell-properties fo:background-color="#ff0000"/></style:style>'
         )
-        spaces = "".join(
-            f' xmlns:{name}="urn:oasis:names:tc:opendocument:xmlns:{space}:1.0"'
-            for name, space in (("style", "style"), ("fo", "xsl-fo-compatible"))
-        )
-        content = [("<office:document-content", f"<office:document-content{spaces}"), ("<office:body>", f"{style}<office:body>")]
+        space = ' xmlns:fo="urn:oasis:names:tc:opendocument:xmlns:xsl-fo-compatible:1.0"'
+        content = [("<office:document-content", f"<office:document-content{space}"), ("<office:automatic-styles>", style)]
         content += [("<text:p>training</text:p>", '<text:p><text:span text:style-name="old">training</text:span></text:p>')]
         content += [("<text:p>Grace</text:p></table:table-cell><table:table-cell/>",
                      '<text:p>Grace</text:p></table:table-cell><table:table-cell table:style-name="red"/>')]  # fmt: skip
@@ -256,7 +253,7 @@ class Formats(HelperTest):
 
     def test_struck_cells_are_named_from_top_to_bottom(self):
         path = self.folder / "ward.ods"
-        write_template(path)
+        write_template(path, MONDAY)
         sheets = read_book(path)
         marks = sheets.marks["plan"]._replace(struck={(row, 0) for row in range(len(sheets.sheets["plan"]))})
         lines = list(look_warnings(sheets._replace(marks={"plan": marks}), read_days(sheets)))
@@ -266,7 +263,7 @@ class Formats(HelperTest):
 
     def test_a_hidden_row_of_an_ods_file(self):
         path = self.folder / "ward.ods"
-        write_template(path)
+        write_template(path, MONDAY)
         row = '<table:table-row><table:table-cell office:value-type="string"><text:p>Full</text:p>'
         content = [(row, row.replace("<table:table-row>", '<table:table-row table:visibility="collapse">'))]
         self.assertEqual(read_book(path).hidden["contracts"], [])

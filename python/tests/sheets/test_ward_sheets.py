@@ -2,6 +2,7 @@
 
 import copy
 import csv
+import datetime
 import io
 import os
 import re
@@ -632,6 +633,19 @@ class Command(HelperTest):
         self.assertEqual([name for name in found if found[name] != example[name]], ["facts.txt", "week-2.txt"])
         self.assertIn("Day Nurse (1,2) (1,2) (1,2) (1,2) (0,1) (0,1) (0,1)\n", found["week-2.txt"])
         self.assert_fault(run("plan", folder, "new"), f"inrc2pb-plan: {folder} has a spreadsheet: give a new folder")
+
+    def test_the_template_begins_on_the_next_monday(self):
+        # 28 November 2026 is a Saturday, and who begins on a Monday plans from the next one on.
+        for number, (today, monday) in enumerate((("2026-11-28", "2026-11-30"), ("2026-11-30", "2026-12-07"), ("2026-12-31", "2027-01-04"))):
+            folder = self.folder / f"ward {number}"
+            ward.new(folder, datetime.date.fromisoformat(today))
+            book = read_book(folder / "ward.ods")
+            days = days_of(book)
+            self.assertEqual((str(days.monday), days.weeks), (monday, 4))
+            # Each is a date for a spreadsheet program, which goes on with it if the row is filled.
+            self.assertEqual(book.sheets["plan"][0][:2], ["nurse", monday])
+            friday = days.monday + datetime.timedelta(days=18)
+            self.assertIn(f"is a bank holiday: one more row, with {friday} for week, ", book.sheets["needs"][2][10])
 
     def test_a_path_with_a_blank_is_printed_in_quotes(self):
         folder = self.folder / "my ward"
