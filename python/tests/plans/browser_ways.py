@@ -26,9 +26,9 @@ class Mouse(BrowserTest):
         self.swaps()
         self.unfolds("The week is over")
         self.button("End the week")
-        self.says_yes("The week is over: ", "week 1 is over: the plan goes on from ")
+        self.says_yes("The week is over: ", "week 1 (calendar week 49) is over: the plan goes on from ")
         self.button("Undo")
-        self.says_yes("this takes back: over 0", "undone: over 0")
+        self.says_yes("this takes back: over, ", "undone: over, ")
         self.assertEqual(self.plans(), ["plan", "page", "set", "ill", "swap"])
         print(f"{type(self).__name__}: {self.clicks} clicks or keys Enter, {self.stops} stops of the key Tab")
 

@@ -212,7 +212,7 @@ class Over(BackTest):
                 "Chen, Tue 1 Dec: Late Nurse instead of off",
             ],
         )
-        self.assertIn("week 1 is over: the plan goes on from Mon 7 Dec", lines)
+        self.assertIn("week 1 (calendar week 49) is over: the plan goes on from Mon 7 Dec", lines)
         del before["Bruno", 0]
         self.assertEqual(self.cells(), {**before, ("Chen", 1): ("Late", "Nurse")})
         self.assertEqual(read_state(self.last()).absences, (DayWord("Bruno", 0, "ill", 1),))
@@ -300,7 +300,7 @@ class Over(BackTest):
         before, written = self.cells(), read_state(self.last()).absences
         self.lines("over", "Bruno", "Mon", "ill")
         self.assertEqual(read_state(self.last()).absences, (*written, DayWord("Bruno", 0, "ill", 1)))
-        self.assertEqual(self.lines("undo")[0][:14], "undone: over 0")
+        self.assertEqual(self.lines("undo")[0][:26], "undone: over Bruno Mon ill")
         self.assertEqual((self.cells(), read_state(self.last()).absences, self.away()), (before, written, {4: "ill"}))
         self.assertFalse((self.ward / "worked-2026-11-30.html").exists())
 
@@ -309,12 +309,12 @@ class Over(BackTest):
         self.lines("over", "Bruno", "Mon", "ill")
         lines = self.lines("over", "Bruno", "Tue", "ill")
         self.assertIn("Bruno, Tue 8 Dec: ill instead of Day Nurse", lines)
-        self.assertIn("week 2 is over, and with it the period is over", lines)
+        self.assertIn("week 2 (calendar week 50) is over, and with it the period is over", lines)
         text = (self.ward / "worked-2026-11-30.html").read_text()
         self.assertEqual(text.count(">ill<"), 2)
         # The next period begins without the absences of this one.
         self.assertEqual(read_state(self.last()).absences, ())
-        self.assertEqual(self.lines("undo")[0][:17], "undone: over peri")
+        self.assertEqual(self.lines("undo")[0][:26], "undone: over Bruno Tue ill")
         self.assertEqual(read_state(self.last()).absences, (DayWord("Bruno", 0, "ill", 1),))
 
     def test_an_absence_after_the_week_that_ends(self):
@@ -350,5 +350,5 @@ class Asked(ServedPage):
         self.assertIn(
             "Bruno: ill, Mon 30 Nov\nBruno, Mon 30 Nov: ill instead of Day Nurse\nChen, Tue 1 Dec: Late Nurse instead of off\n", page
         )
-        self.assertIn("week 1 is over: the plan goes on from Mon 7 Dec", page)
+        self.assertIn("week 1 (calendar week 49) is over: the plan goes on from Mon 7 Dec", page)
         self.assertIn(">ill<", (self.ward / "worked-2026-11-30.html").read_text())

@@ -106,7 +106,7 @@ class Lines(ExceededTest):
         self.rows["contracts"][1][4] = "4!"
         self.write()
         says = [line for line in exceeded_lines(self.read()) if "Grace" in line]
-        rows = ((1, "Mon 30 Nov to Fri 4 Dec"), (2, "Mon 7 Dec to Fri 11 Dec"))
+        rows = (("1 (calendar week 49)", "Mon 30 Nov to Fri 4 Dec"), ("2 (calendar week 50)", "Mon 7 Dec to Fri 11 Dec"))
         run_of = "week {} exceeds a limit that holds: Grace has 5 days of work in a row, {}, of at most 4: plan again, or allow her more"
         self.assertEqual(says, [run_of.format(*row) for row in rows])
 
@@ -296,7 +296,7 @@ class Questions(ExceededTest):
         # Bruno has ten shifts of ten at most, and worked on Saturday too.
         printed = self.asks("over", "Bruno", "Sat", "Late")
         self.assertIn("Bruno has 11 shifts of at most 10 in the period, and this limit holds", printed)
-        self.assertIn("week 1 is over", self.does("over", "Bruno", "Sat", "Late", "--do"))
+        self.assertIn("week 1 (calendar week 49) is over", self.does("over", "Bruno", "Sat", "Late", "--do"))
 
     def test_swaps_and_days_that_are_set_are_refused_with_do_too(self):
         self.rows["contracts"][1][1:5] = ["8", "20", "3", "6!"]

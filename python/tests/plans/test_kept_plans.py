@@ -71,10 +71,10 @@ class Words(KeptTest):
         self.rows["plan"][1][1] = "leave"
         self.write()
         says = [
-            "week 1: no plan was found that keeps every absence: Amara works Day on Mon 30 Nov, Grace works Day on Wed 2 Dec and Fri 4 Dec",
-            "week 1: lower the minimum of Charge and Nurse in the sheet needs, or give someone the skill",
-            "week 2: no plan was found that keeps every absence: Grace works Day on Fri 11 Dec",
-            "week 2: lower the minimum of Nurse in the sheet needs, or give someone the skill",
+            "week 1 (calendar week 49): no plan was found that keeps every absence: Amara works Day on Mon 30 Nov, Grace works Day on Wed 2 Dec and Fri 4 Dec",
+            "week 1 (calendar week 49): lower the minimum of Charge and Nurse in the sheet needs, or give someone the skill",
+            "week 2 (calendar week 50): no plan was found that keeps every absence: Grace works Day on Fri 11 Dec",
+            "week 2 (calendar week 50): lower the minimum of Nurse in the sheet needs, or give someone the skill",
         ]
         self.assertEqual(unkept_lines(self.read(), unkept(self.read())), says)
         self.assertEqual(unkept_lines(self.plan, unkept(self.plan)), [])
@@ -296,9 +296,9 @@ class Weeks(KeptTest):
     def test_a_week_after_which_the_plan_breaks_a_rule(self):
         printed = self.does("over", "Bruno", "Sun", "Night,", "Finn", "Fri", "off,")
         cure = "after these corrections the plan does not fit any more: plan again, from Mon 7 Dec on"
-        self.assertIn("week 2, not allowed on the day after: Bruno may not work Day on Mon after Night on the Sunday before\n", printed)
+        self.assertIn("week 2 (calendar week 50), not allowed on the day after: Bruno may not work Day on Mon after Night on the Sunday before\n", printed)
         self.assertIn(f"{cure}\n", printed)
-        self.assertIn("week 1, below the minimum number: Fri Late Nurse has 0 nurses and needs at least 1\n", printed)
+        self.assertIn("week 1 (calendar week 49), below the minimum number: Fri Late Nurse has 0 nurses and needs at least 1\n", printed)
         self.assertIn("if it was not worked so: undo, then over with other corrections", printed)
         self.assertNotIn("to call", printed)
         cells = files.read_solution(self.last() / "roster-0.txt").cells
@@ -309,8 +309,8 @@ class Weeks(KeptTest):
         self.rows["contracts"][1][4] = "5!"
         self.write()
         printed = self.does("over", "Grace", "Sat", "Day", "Grace", "Sun", "Day", "--do")
-        self.assertIn("week 1 exceeds a limit that holds: Grace has 7 days of work in a row", printed)
-        self.assertIn("week 2 exceeds a limit that holds: Grace has 12 days of work in a row, to Fri 11 Dec, of at most 5", printed)
+        self.assertIn("week 1 (calendar week 49) exceeds a limit that holds: Grace has 7 days of work in a row", printed)
+        self.assertIn("week 2 (calendar week 50) exceeds a limit that holds: Grace has 12 days of work in a row, to Fri 11 Dec, of at most 5", printed)
         self.assertIn("plan again, from Mon 7 Dec on", printed)
 
     def test_the_page_for_the_wall(self):
@@ -423,8 +423,8 @@ class NotKept(KeptTest):
         self.write()
         status, printed, said = run("plan", self.ward, "plan", "--time", "5")
         self.assertEqual(status, 6, said)
-        self.assertRegex(printed, "(?m)^week 2: no plan was found that keeps every limit: .* has [0-9]+ shifts of at most 2, above on ")
-        self.assertRegex(printed, "(?m)^week 2: lower minimum numbers, hold fewer shifts, or allow these nurses more; ")
+        self.assertRegex(printed, "(?m)^week 2 \\(calendar week 50\\): no plan was found that keeps every limit: .* has [0-9]+ shifts of at most 2, above on ")
+        self.assertRegex(printed, "(?m)^week 2 \\(calendar week 50\\): lower minimum numbers, hold fewer shifts, or allow these nurses more; ")
         self.assertIn("\nthis plan is written, but it does not keep what the first lines say: ", printed)
         self.assertNotIn("costs less", printed)
 

@@ -275,7 +275,7 @@ class Page(ServedPage):
         self.write_plan()
         self.assertIn("<pre>this takes back: plan, 2026-11-28 12:00</pre>", self.asks("POST", form="verb=undo")[1])
         self.sends(verb="over")
-        self.assertRegex(self.asks("POST", form="verb=undo")[1], "<pre>this takes back: over 0, [0-9: -]+</pre>")
+        self.assertRegex(self.asks("POST", form="verb=undo")[1], "<pre>this takes back: over, [0-9: -]+</pre>")
 
     def test_a_day_of_leave_that_is_clicked(self):
         self.rows["plan"][3][1] = "leave"
@@ -321,7 +321,7 @@ class Page(ServedPage):
             self.assertIn("weeks 1" if _ else "week 1", self.asks(path=worked)[1])
         # The period is over: the page says what to write into the spreadsheet, and undo goes back.
         page = self.asks()[1]
-        self.assertRegex(page, '<pre role="status">[^<]*\nweek 2 is over, and with it the period is over\n'
+        self.assertRegex(page, '<pre role="status">[^<]*\nweek 2 \\(calendar week 50\\) is over, and with it the period is over\n'
                          "write the days of the next one, from 2026-12-14 on, into the sheet plan")  # fmt: skip
         self.assertIn("Write the days of the next period into the sheet plan of ", page)
         self.assertNotIn("Correct that", page)
@@ -402,8 +402,8 @@ class Page(ServedPage):
         self.assertIn('http-equiv="refresh"', self.asks()[1])
         self.asks("POST", form="verb=undo&sure=yes")
         limit = time.monotonic() + 60
-        while " points" not in (page := self.asks()[1]) and time.monotonic() < limit:
-            if "penalty" in page:
+        while "2 weeks: " not in (page := self.asks()[1]) and time.monotonic() < limit:
+            if " points" in page:
                 self.asks("POST", form="verb=stop")
             time.sleep(0.1)
         self.assertFalse(self.jobs.runs)

@@ -106,7 +106,7 @@ class NextPeriod(KeptTest):
         # The last row of the needs is of a bank holiday in week 2.
         self.rows["needs"].append(["2", "Day", "Nurse", *[""] * 4, "1", "", ""])
         self.write()
-        row = f"sheet needs, row {len(self.rows['needs'])}: weeks count anew, and this is week 2, now Mon 21 Dec to Sun 27 Dec: "
+        row = f"sheet needs, row {len(self.rows['needs'])}: weeks count anew, and this is week 2 (calendar week 52), now Mon 21 Dec to Sun 27 Dec: "
         self.assertNotIn("count anew", run("plan", self.ward, "check")[1])
         self.assertIn(row, self.end_period())
         self.write_next(MONDAY + datetime.timedelta(days=14))

@@ -70,9 +70,9 @@ class Stamps(ServedPage):
         # The first one has written a plan, so the question of the second one was for an older plan.
         for _ in range(2):
             page = self.asks(path=of_second)[1]
-            self.assertTrue(SAYS in page and BUSY not in page and "week 1 is over" not in page)
+            self.assertTrue(SAYS in page and BUSY not in page and "week 1 (calendar week 49) is over" not in page)
             page = self.asks(path=of_first)[1]
-            self.assertTrue("week 1 is over" in page and 'class="fault"' not in page)
+            self.assertTrue("week 1 (calendar week 49) is over" in page and 'class="fault"' not in page)
         self.assertEqual(self.plans(), ["0001", "0002"])
 
     def test_a_form_that_is_refused_names_what_was_not_written(self):
@@ -121,14 +121,14 @@ class Stamps(ServedPage):
             self.assertIn("<h2>The week is over: Mon 30 Nov to Sun 6 Dec?</h2>", self.asks(path=of_question)[1])
         self.asks("POST", form=answer)
         self.assertEqual(self.shown, self.site.path)
-        self.assertIn("week 1 is over", self.ended())
+        self.assertIn("week 1 (calendar week 49) is over", self.ended())
         # The button back of the browser leads to it, and it asks no more.
         page = self.asks(path=of_question)[1]
-        self.assertTrue("week 1 is over" in page and "Yes, write it" not in page and 'class="fault"' not in page)
+        self.assertTrue("week 1 (calendar week 49) is over" in page and "Yes, write it" not in page and 'class="fault"' not in page)
         # The answer that is sent again writes nothing, and another tab still shows the result of the first one.
         self.asks("POST", form=answer)
         self.assertIn(SAYS, self.ended())
-        self.assertIn("week 1 is over", self.asks(path=self.site.path)[1])
+        self.assertIn("week 1 (calendar week 49) is over", self.asks(path=self.site.path)[1])
         self.assertEqual(self.plans(), ["0001", "0002"])
 
     def test_the_page_of_a_form_that_is_known_no_more(self):

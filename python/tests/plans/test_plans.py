@@ -228,8 +228,9 @@ class Verbs(FolderTest):
         before, old = self.cells(), self.texts()
         status, printed, said = run("plan", self.ward, "ill", "Gra", "Wed", "Fri", "--time", "10")
         self.assertEqual(status, 0, said)
-        counted = "also 20 points for a new shift of a nurse (60 more on a day off beside days away), 20 for a nurse to call; "
-        self.assertIn(f"penalties and the bound of the search have {counted}", said)
+        # It speaks in points, and says that those of the search are not those of the plan.
+        self.assertRegex(said, "[0-9]+ points, those for changed shifts among them")
+        self.assertNotIn("penalt", said)
         self.assertNotIn("the search counted", printed)
         now = self.cells()
         self.assertFalse({("Grace", day) for day in (2, 3, 4)} & set(now))
@@ -240,8 +241,8 @@ class Verbs(FolderTest):
         beside = {("Grace", day) for day in (0, 1, 5, 6)} - set(before)
         called = {nurse for nurse, day in other if (nurse, day) not in {("Grace", 2), ("Grace", 3), ("Grace", 4)}}
         counted = sum(self.points()) + sum(80 if key in beside else 20 for key in other if key in now) + 20 * len(called)
-        self.assertLessEqual(counted, int(re.findall("penalty ([0-9]+)", said)[-1]), said)
-        self.assertFalse([said for penalty, bound in re.findall("penalty ([0-9]+)  bound ([0-9]+)", said) if int(bound) > int(penalty)])
+        self.assertLessEqual(counted, int(re.findall("([0-9]+) points, those for", said)[-1]), said)
+        self.assertFalse([said for penalty, bound in re.findall("([0-9]+) points.*; at least ([0-9]+) cannot", said) if int(bound) > int(penalty)])
         self.assertEqual({path: text for path, text in self.texts().items() if path in old}, old)
         self.assertIn("the plan of plan, ", self.does("undo"))
         self.assertEqual((self.cells(), self.texts()), (before, old))
@@ -252,7 +253,8 @@ class Verbs(FolderTest):
         printed = run("plan", self.ward, "plan", "--time", "1")[1]
         first, second = self.points()
         self.assertLessEqual(first + second, before)
-        self.assertIn(f"week 1: {first} points\nweek 2: {second} points\n2 weeks: {first + second} points\n", printed)
+        weeks = f"week 1 (calendar week 49): {first} points\nweek 2 (calendar week 50): {second} points\n"
+        self.assertIn(f"{weeks}2 weeks: {first + second} points\n", printed)
 
     def test_a_plan_that_hangs_on_the_wall_changes_little(self):
         self.begin()
@@ -294,7 +296,7 @@ class Verbs(FolderTest):
         status, printed, said = run("plan", self.ward, "plan", "--time", "3")
         self.assertEqual(status, 5, said)
         says = "Lower these by 1 in all; no roster can do with less:\nSat 5 Dec Day Charge: lower 4 to 3\n$"
-        self.assertRegex(printed, f"^week 1: No roster .* {says}")
+        self.assertRegex(printed, f"^week 1 \\(calendar week 49\\): No roster .* {says}")
         self.assertFalse(list((self.ward / "plans").glob("0*")))
 
     def test_a_nurse_who_comes_and_one_who_leaves(self):
@@ -315,7 +317,7 @@ class Verbs(FolderTest):
         self.write()
         status, _, said = run("plan", self.ward, "plan", "--time", "10")
         cure = "write it again, with away in the plan from her last day on"
-        self.assertEqual((status, said), (1, f"inrc2pb-plan: Dilek worked in week 1, and has no row in the sheet nurses: {cure}\n"))
+        self.assertEqual((status, said), (1, f"inrc2pb-plan: Dilek worked in week 1 (calendar week 49), and has no row in the sheet nurses: {cure}\n"))
 
     def test_swaps(self):
         self.begin()
@@ -402,7 +404,7 @@ class Verbs(FolderTest):
         status, _, said = run("plan", self.ward, "ill", "Chen", "2026-12-01")
         line = "Tue 1 Dec is in a week that is over: the plan goes on from Mon 7 Dec; undo takes the end of that week back"
         self.assertEqual((status, said), (1, f"inrc2pb-plan: {line}\n"))
-        self.assertIn("week 2 is over, and with it the period is over\n", self.does("over"))
+        self.assertIn("week 2 (calendar week 50) is over, and with it the period is over\n", self.does("over"))
         status, _, said = run("plan", self.ward, "plan")
         self.assertEqual((status, said.split(":")[1]), (1, " a period is over"))
         later = [str(MONDAY + datetime.timedelta(days=14 + day)) for day in range(7)]
@@ -467,8 +469,8 @@ class Refused(FolderTest):
             self.assertTrue(lines[0].startswith("warning: sheet plan: Bruno has no row: "), lines[0])
             self.assertEqual(lines[first : first + 4], [
                 "my wärd: 7 nurses, 2 weeks in a period.",
-                "Week 1, Mon 30 Nov: asks for 26 to 33 shifts; the contracts supply 24 to 36 a week.",
-                "Week 2, Mon 7 Dec: asks for 26 to 33 shifts; the contracts supply 20 to 31 a week.", "",
+                "Week 1 (calendar week 49), Mon 30 Nov: asks for 26 to 33 shifts; the contracts supply 24 to 36 a week.",
+                "Week 2 (calendar week 50), Mon 7 Dec: asks for 26 to 33 shifts; the contracts supply 20 to 31 a week.", "",
             ])  # fmt: skip
 
     def test_a_ward_without_a_mistake(self):
@@ -684,7 +686,7 @@ class Refused(FolderTest):
             status, printed, said = run("plan", self.ward, "plan", "--time", "5")
         self.assertEqual(status, 0, printed + said)
         # The first line of the search has the seconds since its begin.
-        self.assertLess(float(re.search(r"([0-9.]+) s  penalty", said)[1]), 86_400)
+        self.assertLess(float(re.search(r"([0-9.]+) s  [0-9]+ points", said)[1]), 86_400)
 
 
 if __name__ == "__main__":

@@ -122,9 +122,9 @@ class Roster(ServedPage):
         self.assertIn("Take it back</button>", page)
         buttons = self.buttons(self.cell("Grace", 4))
         self.assertIn("later plans keep it", page)
-        back = buttons["what was set for this day: later plans may change it"]
+        back = buttons["what was promised for this day: swaps and later plans may change it"]
         self.sends(**back)
-        self.assertNotIn("what was set", self.cell("Grace", 4))
+        self.assertNotIn("what was promised", self.cell("Grace", 4))
         text, swap = next((text, fields) for text, fields in self.buttons(self.cell("Chen", 4)).items() if " takes it" in text)
         cells = self.cells()
         self.sends(**{name.replace(" ", "_"): value for name, value in swap.items()})
@@ -162,7 +162,7 @@ class Roster(ServedPage):
         form = next(form for form in re.findall("<form.*?</form>", page, re.S) if "Write it all the same" in form)
         fields = {html.unescape(name): html.unescape(value) for name, value in re.findall('name="([^"]*)" value="([^"]*)"', form)}
         self.assertEqual((fields["verb"], fields["corrections"]), ("over", "Bruno Sat Late"))
-        self.assertIn("week 1 is over", self.sends(**{name.replace(" ", "_"): value for name, value in fields.items()}))
+        self.assertIn("week 1 (calendar week 49) is over", self.sends(**{name.replace(" ", "_"): value for name, value in fields.items()}))
 
     def test_a_page_without_its_script_has_none(self):
         self.assertNotIn("<script", self.cell("Chen", 4))

@@ -85,7 +85,7 @@ class WithoutPlan(KeptTest):
         status, printed, _ = self.ended(ProgramFault(NO_ROSTER, LATE), why=(1, Shortage((place,), (), True, True, "")))
         self.assertEqual(status, 5)
         self.assertEqual(printed.splitlines(), [
-            "week 2: No roster meets all minimum numbers, and keeps every absence. Lower these by 1 in all; no roster can do with less:",
+            "week 2 (calendar week 50): No roster meets all minimum numbers, and keeps every absence. Lower these by 1 in all; no roster can do with less:",
             "Wed 9 Dec Day Charge: lower 1 to 0",
             "    Bruno works Late on this day",
             "    Chen could, if nothing else needs her",

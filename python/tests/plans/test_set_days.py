@@ -196,7 +196,7 @@ class Kept(SetTest):
         self.assertIn("this breaks a promise: Grace, Sat 5 Dec: ill, promised was Day Nurse\n", printed)
         # The promise stays below the illness: she has the shift again if she is back.
         self.assertEqual([one.place for one in read_state(self.last()).set_days], [("Grace", 5)])
-        self.assertIn("Grace, Sat 5 Dec: Day Nurse instead of off\n", self.does("back", "Grace", "Sat"))
+        self.assertIn("Grace, Sat 5 Dec: Day Nurse instead of ill\n", self.does("back", "Grace", "Sat"))
         self.assertEqual(self.cells()["Grace", 5], ("Day", "Nurse"))
 
 
