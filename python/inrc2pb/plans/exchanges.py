@@ -8,7 +8,7 @@ bits of numbers here: a few steps tell how many nights and weekends an exchange 
 import itertools
 import random
 import time
-from typing import Callable, Dict, Iterable, Iterator, List, Mapping, NamedTuple, Optional, Sequence, Tuple
+from typing import Callable, Dict, Iterable, Iterator, List, Mapping, NamedTuple, Optional, Tuple
 
 from ..judging.absences import is_broken_by
 from ..judging.rules import SATURDAY
@@ -19,10 +19,11 @@ from .fairness import Share, contracts_of, evenness, shares_before
 from .swaps import NurseWeeks, by_nurse
 from .ward import WardPlan
 
-# If no exchange is better, so many others are tried, and that so often.
-_STIRS, _MOST_STIRS = 300, 20
-# The most days in a row that are exchanged.
-_MOST_DAYS = 14
+# How many ways are gone at most, how many exchanges are tried on one, and the points that a plan may cost more on the way.
+_MOST_WAYS, _TRIES, _SLACK = 20_000, 400, (0, 0, 30, 60, 90)
+# How many days in a row are exchanged, and how many nurses and rows of days take part: each is as likely as it is often here.
+_LENGTHS = (1, 1, 2, 2, 2, 3, 3, 4, 4, 5, 6, 7, 10, 14)
+_NURSES, _ROWS = (2, 2, 3), (1, 1, 2)
 _Row = Mapping[int, Cell]
 # Days as the bits of a number.
 _Bits = int
@@ -42,16 +43,15 @@ class _Exchange(NamedTuple):
 
 def more_even(plan: WardPlan, first: int, seconds: float, clock: Callable[[], float] = time.monotonic) -> WardPlan:
     """The plan after exchanges of days from the first one on, for so many seconds at most, which make nights or weekends more even, and
-    neither less. If none does, some that leave both as they are come between, since they make room for others."""
+    neither less. Exchanges that leave both as they are come between, since they make room for others, and some that cost points which later
+    ones save again."""
     end, found = clock() + seconds, _Exchanges(plan, first)
-    best, stirs = dict(found.rows), 0
-    while stirs < _MOST_STIRS and clock() < end and not found.is_even:
-        if found.improved(lambda: clock() < end):
-            best, stirs = dict(found.rows), 0
-        else:
-            found.stir(lambda: clock() < end)
-            stirs += 1
-    return plan.with_cells(cell for row in best.values() for cell in row.values())
+    for _ in range(_MOST_WAYS):
+        if clock() >= end or found.is_even:
+            break
+        if not found.improved(lambda: clock() < end):
+            found.wander()
+    return plan.with_cells(cell for row in found.rows.values() for cell in row.values())
 
 
 class _RowCosts:
@@ -94,7 +94,7 @@ class _RowCosts:
 
 
 class _Exchanges:
-    """The rows of nurses, and exchanges in them; random ones come in an order that is always the same."""
+    """The rows of nurses, and exchanges in them, in a random order that is always the same."""
 
     def __init__(self, plan: WardPlan, first: int) -> None:
         self._plan, self._alone, self._costs, self._random = plan, NurseWeeks(plan), _RowCosts(plan), random.Random(1)
@@ -105,102 +105,90 @@ class _Exchanges:
         self._groups = [group for group in contracts_of(plan).values() if len(group) > 1]
         self._group = {nurse: number for number, group in enumerate(contracts_of(plan).values()) for nurse in group}
         self._saturdays = _bits(range(SATURDAY, plan.days.total, WEEK_DAYS))
-        self._spans = [
-            _bits(range(begin, end)) for begin in self._days for end in range(begin + 1, min(begin + _MOST_DAYS, self._days.stop) + 1)
-        ]
         self._works: Dict[str, _Bits] = {}
         self._nights: Dict[str, _Bits] = {}
-        self._worth: Dict[Tuple[str, Tuple[Cell, ...]], Tuple[int, int, int]] = {}
+        self._choices: Dict[str, bytes] = {}
+        self._known: Dict[Tuple[str, Tuple[Cell, ...]], Tuple[int, int, int]] = {}
+        self._is_even: Optional[bool] = None
+        self._is_searched = False
         self._take(self.rows)
 
     def _take(self, new: Mapping[str, _Row]) -> None:
         """These nurses have these rows now."""
         self.rows.update(new)
-        nights = self._plan.days_away.nights
+        self._is_even, self._is_searched = None, False
+        nights, numbers = self._plan.days_away.nights, self._costs.numbers
+        days = range(self._plan.first, self._plan.days.total)
         for nurse, row in new.items():
             self._works[nurse] = _bits(row)
             self._nights[nurse] = _bits(day for day, cell in row.items() if cell.shift in nights)
+            self._choices[nurse] = bytes(numbers[row[day].shift] if day in row else 0 for day in days)
 
     @property
     def is_even(self) -> bool:
         """Whether no exchange can help, since the numbers of each contract differ by one at most."""
-        if not self._groups or not self._days:
-            return True
-        found = evenness(self._plan.with_cells(cell for row in self.rows.values() for cell in row.values()))
-        return all(one.most <= one.fewest + 1 for one in (*found.nights, *found.weekends))
-
-    # ---- which exchanges are tried
+        if self._is_even is None:
+            found = evenness(self._plan.with_cells(cell for row in self.rows.values() for cell in row.values()))
+            spreads = (*found.nights, *found.weekends)
+            self._is_even = not self._groups or not self._days or all(one.most <= one.fewest + 1 for one in spreads)
+        return self._is_even
 
     def improved(self, goes_on: Callable[[], bool]) -> bool:
-        """Makes the first exchange that is better. Returns whether there is one."""
-        for exchange in itertools.chain(self._of_two(1), self._of_three(), self._of_two(2)):
-            if not goes_on():
-                return False
-            now = self._exchanged(exchange) if self._is_more_even(exchange) else None
-            if now:
-                self._take(now)
-                return True
+        """Makes the first exchange of two nurses of a contract, of days in a row, that is more even and costs nothing. Returns whether
+        there is one; if there was none, there is none before the rows are other ones."""
+        if self._is_searched:
+            return False
+        spans = [_bits(range(begin, end)) for begin in self._days for end in range(begin + 1, self._days.stop + 1)]
+        for pair in (pair for group in self._groups for pair in itertools.combinations(group, 2)):
+            for exchange in (_Exchange(pair, days) for days in spans):
+                if not goes_on():
+                    return False
+                if self._is_more_even(exchange) and self._fits(exchange) and self._takes(exchange):
+                    return True
+        self._is_searched = True
         return False
 
-    def _of_two(self, rows: int) -> Iterator[_Exchange]:
-        """Exchanges of two nurses of a contract, of one or of two rows of days; those who have the least even numbers come first."""
-        pairs = [pair for group in self._groups for pair in itertools.combinations(group, 2)]
-        for pair in sorted(pairs, key=self._difference, reverse=True):
-            spans = self._spans_of(pair)
-            if rows == 1:
-                yield from (_Exchange(pair, days) for days in spans)
-            else:
-                yield from (_Exchange(pair, days) for days in self._two_rows(pair, spans))
+    def _takes(self, exchange: _Exchange) -> bool:
+        """Makes an exchange if it costs nothing. Returns whether it does."""
+        added, new = self._exchanged(exchange)
+        if added or not self._keeps_all(new):
+            return False
+        self._take(new)
+        return True
 
-    def _two_rows(self, pair: Tuple[str, str], spans: Sequence[_Bits]) -> Iterator[_Bits]:
-        """Two rows of days, of which the first makes the numbers of two nurses more even, and after which each has as many shifts as
-        before."""
-        one, other = (self._works[nurse] for nurse in pair)
-        by_number: Dict[int, List[_Bits]] = {}
-        for days in spans:
-            by_number.setdefault((one & days).bit_count() - (other & days).bit_count(), []).append(days)
-        for number, some in by_number.items():
-            for days in (days for days in some if self._is_more_even(_Exchange(pair, days))):
-                yield from (days | more for more in by_number.get(-number, ()) if not days & more)
+    def wander(self) -> None:
+        """Tries some exchanges, and makes those that leave nights and weekends no less even. At its end the plan costs what it cost
+        before: exchanges that cost points hold if later ones have saved these again."""
+        most, above, best = self._random.choice(_SLACK), 0, dict(self.rows)
+        for _ in range(_TRIES):
+            exchange = self._any()
+            if not (exchange.days and self._is_as_even(exchange) and self._fits(exchange)):
+                continue
+            added, new = self._exchanged(exchange)
+            if added + above <= most and self._keeps_all(new):
+                self._take(new)
+                above += added
+                best = best if above else dict(self.rows)
+        if above:
+            self._take(best)
 
-    def _of_three(self) -> Iterator[_Exchange]:
-        """Exchanges of three nurses, of whom two have a contract; the third one helps, and may have another one."""
-        for group in self._groups:
-            for pair in sorted(itertools.combinations(group, 2), key=self._difference, reverse=True):
-                for helper in self.rows:
-                    if helper not in pair:
-                        for nurses in ((*pair, helper), (pair[1], pair[0], helper)):
-                            yield from (_Exchange(nurses, days) for days in self._spans_of(nurses))
+    def _any(self) -> _Exchange:
+        """An exchange of two nurses of a contract, or of them and one more, on one row of days, or on two."""
+        pick, nurses = self._random.choice, self._random.sample(self._random.choice(self._groups), 2)
+        if pick(_NURSES) == 3 and len(self.rows) > 2:
+            nurses.append(pick([nurse for nurse in self.rows if nurse not in nurses]))
+        days = 0
+        for _ in range(pick(_ROWS)):
+            begin = pick(self._days)
+            days |= _bits(range(begin, min(begin + pick(_LENGTHS), self._days.stop)))
+        return _Exchange(tuple(nurses), days)
 
-    def _difference(self, pair: Tuple[str, str]) -> int:
-        """By how much the nights and weekends of two nurses differ."""
-        one, other = (self._share(self._before[nurse], self._works[nurse], self._nights[nurse]) for nurse in pair)
-        return abs(one.nights - other.nights) + abs(one.weekends - other.weekends)
-
-    def _spans_of(self, nurses: Tuple[str, ...]) -> List[_Bits]:
-        """Days in a row on which something changes if nurses exchange them in a circle, but for those on which one of them may not have
-        what the next one has."""
-        changes = 0
-        for day in self._days:
-            cells = [self.rows[nurse].get(day) for nurse in nurses]
-            kinds = {cell and cell[2:] for cell in cells}
-            given = zip(nurses, (*cells[1:], cells[0]))
-            if len(kinds) > 1 and all(self._may_have(nurse, day, cell) for nurse, cell in given):
-                changes |= 1 << day
-        return list(dict.fromkeys(days & changes for days in self._spans if days & changes))
-
-    def stir(self, goes_on: Callable[[], bool]) -> None:
-        """Makes some exchanges of two nurses, of one or two rows of days, that leave everything as it is."""
-        for _ in range(_STIRS):
-            if not goes_on():
-                return
-            nurses = tuple(self._random.sample(self._random.choice(self._groups), 2))
-            spans = self._spans_of(nurses)
-            chosen = self._random.sample(spans, min(len(spans), self._random.choice((1, 2))))
-            exchange = _Exchange(nurses, _union(chosen))
-            now = self._exchanged(exchange) if exchange.days and self._is_as_even(exchange) else None
-            if now:
-                self._take(now)
+    def _fits(self, exchange: _Exchange) -> bool:
+        """Whether each nurse may have what is given to her, and something changes."""
+        days = [day for day in self._days if exchange.days >> day & 1]
+        cells = [(nurse, day, self.rows[giver].get(day)) for nurse, giver in exchange.givers for day in days]
+        changes = any(_kind(self.rows[nurse].get(day)) != _kind(cell) for nurse, day, cell in cells)
+        return changes and all(self._may_have(nurse, day, cell) for nurse, day, cell in cells)
 
     # ---- what an exchange does
 
@@ -241,20 +229,11 @@ class _Exchanges:
         squares = self._squares(exchange)
         return squares is not None and max(squares) <= 0 and min(squares) < 0
 
-    def _exchanged(self, exchange: _Exchange) -> Optional[Dict[str, _Row]]:
-        """The rows after an exchange; None if it costs something, or breaks something."""
-        choices = {nurse: self._choices(nurse) for nurse in exchange.nurses}
-        mixed = {nurse: self._mixed(choices[nurse], choices[giver], exchange.days) for nurse, giver in exchange.givers}
-        costs = [sum(self._costs.of(nurse, row) for nurse, row in rows.items()) for rows in (choices, mixed)]
-        if costs[0] != costs[1]:
-            return None
-        new = {nurse: self._row(nurse, giver, exchange.days) for nurse, giver in exchange.givers}
-        return new if self._costs_nothing(new) else None
-
-    def _choices(self, nurse: str) -> bytes:
-        """The choices of a nurse's row, from the first day that is not over on."""
-        row, numbers = self.rows[nurse], self._costs.numbers
-        return bytes(numbers[row[day].shift] if day in row else 0 for day in range(self._plan.first, self._plan.days.total))
+    def _exchanged(self, exchange: _Exchange) -> Tuple[int, Dict[str, _Row]]:
+        """What an exchange costs, and the rows after it."""
+        mixed = {nurse: self._mixed(self._choices[nurse], self._choices[giver], exchange.days) for nurse, giver in exchange.givers}
+        added = sum(self._costs.of(nurse, row) - self._costs.of(nurse, self._choices[nurse]) for nurse, row in mixed.items())
+        return added, {nurse: self._row(nurse, giver, exchange.days) for nurse, giver in exchange.givers}
 
     def _mixed(self, own: bytes, given: bytes, days: _Bits) -> bytes:
         """A nurse's choices with those that are given to her on these days."""
@@ -265,25 +244,18 @@ class _Exchanges:
         kept = {day: cell for day, cell in self.rows[nurse].items() if not days >> day & 1}
         return {**kept, **{day: cell._replace(nurse=nurse) for day, cell in self.rows[giver].items() if days >> day & 1}}
 
-    def _costs_nothing(self, new: Mapping[str, _Row]) -> bool:
-        """Whether the nurses are charged as much as before, and nothing that holds is broken, or exceeded by more."""
-        if any(len(self._alone.faults(nurse, row)) > len(self._alone.faults(nurse, self.rows[nurse])) for nurse, row in new.items()):
-            return False
-        before, now = (self._worth_of_all({nurse: rows[nurse] for nurse in new}) for rows in (self.rows, new))
-        return now[2] == before[2] and now[0] <= before[0] and now[1] <= before[1]
+    def _keeps_all(self, new: Mapping[str, _Row]) -> bool:
+        """Whether these rows break nothing that holds, and exceed it by no more, than those of now."""
+        before, now = ([sum(numbers) for numbers in zip(*(self._broken(nurse, rows[nurse]) for nurse in new))] for rows in (self.rows, new))
+        return all(number <= older for number, older in zip(now, before))
 
-    def _worth_of_all(self, rows: Mapping[str, _Row]) -> Tuple[int, int, int]:
-        """What rows have above limits and beside days away, and what they cost, in all."""
-        found = [self._worth_of(nurse, row) for nurse, row in rows.items()]
-        return sum(one[0] for one in found), sum(one[1] for one in found), sum(one[2] for one in found)
-
-    def _worth_of(self, nurse: str, row: _Row) -> Tuple[int, int, int]:
-        """What a row has above limits and beside days away, and what it costs."""
+    def _broken(self, nurse: str, row: _Row) -> Tuple[int, int, int]:
+        """How many faults a row has, and what it has above limits and beside days away."""
         key = nurse, tuple(row[day] for day in sorted(row))
-        if key not in self._worth:
+        if key not in self._known:
             alone = self._alone
-            self._worth[key] = alone.excess(nurse, row), alone.excess_beside(nurse, row), alone.cost(nurse, row)
-        return self._worth[key]
+            self._known[key] = len(alone.faults(nurse, row)), alone.excess(nurse, row), alone.excess_beside(nurse, row)
+        return self._known[key]
 
 
 def _bits(days: Iterable[int]) -> _Bits:
@@ -291,9 +263,6 @@ def _bits(days: Iterable[int]) -> _Bits:
     return sum(1 << day for day in days)
 
 
-def _union(some: Iterable[_Bits]) -> _Bits:
-    """The days of all of these."""
-    found = 0
-    for days in some:
-        found |= days
-    return found
+def _kind(cell: Optional[Cell]) -> Optional[Tuple[str, str]]:
+    """The shift type and the skill of a shift."""
+    return cell and (cell.shift, cell.skill)

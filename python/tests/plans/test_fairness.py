@@ -106,6 +106,28 @@ class Exchanges(KeptTest):
         self.assertEqual(shares(even)["Chen"].nights, 6)
         self.assertEqual(sum(penalties(even).values()), sum(penalties(plan).values()))
 
+    def test_three_nurses_in_a_circle(self):
+        # Chen has four nights. Dilek may not have them, since she has not the skill, and Grace may, but Chen has not the skill for what
+        # Grace has then: Dilek has it, and Chen that for what Dilek has.
+        skills = {"Chen": "Nurse, Charge", "Dilek": "Charge, Tutor", "Grace": "Nurse, Tutor"}
+        for row in self.rows["nurses"][1:]:
+            row[1], row[2] = ("Full", skills[row[0]]) if row[0] in skills else ("Half", row[2])
+        self.rows["needs"].append(["", "Day", "Tutor", *["0+1"] * 7])
+        self.write()
+        given = {"Chen": ("Night", "Nurse"), "Dilek": ("Day", "Charge"), "Grace": ("Day", "Tutor")}
+        plan = self.read([Cell(nurse, day, *shift) for nurse, shift in given.items() for day in range(4)])
+        even = more_even(plan, 0, 3.0)
+        self.assertEqual({nurse: shares(even)[nurse].nights for nurse in skills}, {"Chen": 2, "Dilek": 0, "Grace": 2})
+        self.assertEqual(sorted(cell[1:] for cell in even.cells), sorted(cell[1:] for cell in plan.cells))
+        self.assertEqual(even.view().penalty, plan.view().penalty)
+        self.assertTrue(all(cell.skill in plan.scenario.nurses[cell.nurse].skills for cell in even.cells))
+
+    def test_its_time_is_kept(self):
+        ticks = iter(range(10_000))
+        plan = self.read()
+        self.assertIsNotNone(more_even(plan, 0, 20.0, lambda: float(next(ticks))))
+        self.assertLess(next(ticks), 40)
+
     @unittest.skipUnless(HAS_CBC, "cbc is not installed")
     def test_the_verb_says_how_even_it_is(self):
         printed = self.does("plan")
