@@ -59,7 +59,7 @@ class Period:
         _make_folder(folder)
 
     def locked(self, wait: bool) -> ContextManager[None]:
-        """Within the block no other search writes the rosters. If one does, this is a ProgramFault, or waits until it has ended."""
+        """Within the block no other search writes the rosters. Raises ProgramFault if one does, or waits until it has ended."""
         return locked(self._plan_folder.rosters, wait, self.progress.warn)
 
     def name_replaced(self) -> None:

@@ -87,7 +87,7 @@ def ward_files(
     book: Book, name: str, days: Days, reasons: Sequence[str], requests: bool = False, lost: Mapping[NurseDay, int] = {}
 ) -> WardFiles:
     """The files of a ward with this name, for these days. Absences for these reasons count as work, illnesses as the shifts that they have
-    taken from plans on the wall, as far as `lost` has them."""
+    taken from plans on the wall, as far as `lost` has them. Raises FileFaults if sheets have mistakes, or more than files can have."""
     with Gathering() as faults:
         ward = read_ward(book, name, days.weeks, faults)
         sheets = read_weeks(book, ward, days, faults)

@@ -84,7 +84,8 @@ NO_SKILL = "give someone who is away for the whole week no skill, in a copy of t
 
 
 def with_requests(scenario: Scenario, data: WeekData, added: Iterable[Absence]) -> Written:
-    """The week with these absences as requests too: all of them have the same number of requests."""
+    """The week with these absences as requests too: all of them have the same number of requests. Raises TooMany if a week's file
+    cannot have so many."""
     away = sorted(
         {*absences_of(data), *added}, key=lambda absence: (list(scenario.nurses).index(absence.nurse), absence.day, absence.shift or "")
     )

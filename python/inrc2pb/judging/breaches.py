@@ -113,7 +113,7 @@ def _hint(path: Path, scenario: Scenario, history: Optional[History]) -> str:
 
 
 def read_roster(path: Path, scenario: Scenario, history: Optional[History]) -> Solution:
-    """Reads a roster or a fix file. If it has a mistake and is of another ward or week, the fault says both."""
+    """Reads a roster or a fix file. Raises FileFault if it has a mistake; if it is of another ward or week, the fault says that too."""
     try:
         return read_solution(path, scenario)
     except FileFault as fault:

@@ -63,7 +63,7 @@ def _cell_key(week: Week, cell: Cell) -> Tuple[int, int, int, int]:
 
 def _successions(week: Week, nurse: str) -> Iterator[Block]:
     types, last = week.scenario.shift_types, week.history.nurses[nurse].last_shift
-    after = {name: [later for later in types if later in types[name].forbidden_next] for name in types}
+    after = {name: [later for later in types if week.scenario.forbids(name, later)] for name in types}
     for later in after[last] if last else ():
         yield Block("H3", f"{nurse} has {last} on the Sunday before, so not {later} on Mon", 1)
     for day in range(1, 7):

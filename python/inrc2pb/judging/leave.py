@@ -77,7 +77,7 @@ def credit_line(nurse: str, days: int, shifts: int, file: str) -> str:
 
 
 def credited(history: History, days_away: Counted) -> History:
-    """The history with the shifts and weekends as which days away count."""
+    """The history with the shifts and weekends as which days away count. Raises Misuse if a nurse gets more than a history can have."""
     nurses = dict(history.nurses)
     for nurse, shifts in days_away.shifts.items():
         past = nurses[nurse]

@@ -53,7 +53,7 @@ class Wording:
         return self._days.number(text, self._first if near is None else near)
 
     def open_day(self, near: Optional[int] = None) -> int:
-        """The same for a day that is not in a week that is over."""
+        """The same. Raises Misuse if the day is in a week that is over."""
         found = self.day(near)
         if found < self._first:
             cure = f"the plan goes on from {self._days.text(self._first)}; undo takes the end of that week back"

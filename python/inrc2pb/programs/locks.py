@@ -23,7 +23,7 @@ _locked: Set[Path] = set()
 
 @contextlib.contextmanager
 def locked(targets: Iterable[Path], wait: bool, say: Callable[[str], None]) -> Iterator[None]:
-    """Within the block no other search writes these files. If one does, this is a ProgramFault, or waits until it has ended; `say` gets a
+    """Within the block no other search writes these files. Raises ProgramFault if one does, or waits until it has ended; `say` gets a
     line about that."""
     with contextlib.ExitStack() as locks:
         for target in targets:

@@ -75,7 +75,7 @@ class Report:
 
 
 def find_program() -> Path:
-    """`$INRC2PB`; else `inrc2pb` next to the running command, in `out` of its clone, or in PATH."""
+    """`$INRC2PB`; else `inrc2pb` next to the running command, in `out` of its clone, or in PATH. Raises ProgramFault if there is none."""
     named = os.environ.get("INRC2PB")
     if named:
         program = shutil.which(named)

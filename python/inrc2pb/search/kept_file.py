@@ -25,7 +25,7 @@ class KeptFile:
         return text
 
     def write(self, text: str) -> None:
-        """Writes the file anew. A pipe that someone else has put there is a Misuse: nobody may read it."""
+        """Writes the file anew. Raises Misuse if someone else has put a pipe there: nobody may read it."""
         check_no_pipe_is_written(self.path)
         write_text(self.path, text)
         self._known = text

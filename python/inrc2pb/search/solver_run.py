@@ -8,7 +8,7 @@ from ..programs.processes import Processes
 from ..programs.program import NO_ROSTER, WeekFiles
 from ..programs.progress import Progress
 from ..solvers.solvers import Solver
-from ..week.faults import Misuse, ProgramFault, page
+from ..week.faults import Misuse, NoneExists, page
 from ..week.files import read_solution
 from ..week.records import Cell, Week
 from .best_roster import BestRoster
@@ -58,7 +58,8 @@ class SolverRun:
         return self._clock.left() > 0
 
     def run(self, folder: Path, _start: Optional[Sequence[Cell]], proof: Optional[Path]) -> None:
-        """Lets the solver solve the week once, and judges what it claims. `proof` is the file for the certificate of a bound."""
+        """Lets the solver solve the week once, and judges what it claims. `proof` is the file for the certificate of a bound. Raises Misuse
+        if the solver has no answer."""
         solver = self._solver
         outcome = solver.solve(self._files, self._clock.left(), folder, self._processes)
         if not outcome.answer:
@@ -84,7 +85,7 @@ class SolverRun:
         elif answer.status == NONE:
             by = f" ({PROVER})" if verdict.kind is Kind.CONFIRMED else f", says {name}, which is not proved"
             advice = f"{page('ward_reference.md')} shows how to find out why"
-            raise ProgramFault(NO_ROSTER, f"no roster keeps the hard rules{by}: {advice}")
+            raise NoneExists(NO_ROSTER, f"no roster keeps the hard rules{by}: {advice}")
         elif answer.status == OPTIMUM and verdict.kind is Kind.OPEN and answer.objective is not None:
             gap = "" if known.bound is None else f" (gap {answer.objective - known.bound})"
             self.verdict = f"{name} claims {answer.objective}; not proved{gap}"

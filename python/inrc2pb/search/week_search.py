@@ -6,7 +6,7 @@ from typing import List, Optional, Sequence
 from .best_roster import BestRoster
 from .bounds import PROOF_SECONDS, STOPPED_SECONDS, Bound, Bounds, week_options
 from ..programs.clock import Clock
-from ..week.faults import ProgramFault, page
+from ..week.faults import NoneExists, page
 from ..week.records import Cell, Week
 from ..solvers.linear_solvers import INSTALL, LinearSolver, is_installed
 from ..rows.plan import FREE, ONLY_ABSENCES, STRICT, Plan, Points
@@ -50,8 +50,8 @@ class WeekSearch:
         return self._clock.left() > 0
 
     def run(self, folder: Path, start: Optional[Sequence[Cell]], proof: Optional[Path]) -> None:
-        """Searches over the rows of the nurses. `proof` is the file for the certificate of the bound. Raises ProgramFault without a roster,
-        if none exists.
+        """Searches over the rows of the nurses. `proof` is the file for the certificate of the bound. Raises NoneExists if it is
+        proved that no roster exists.
 
         Rows keep all absences and limits, unless no roster can.
         """
@@ -102,14 +102,14 @@ class WeekSearch:
             self._progress.warn(f"the lower bound {self._bound.points} ({self._bound.by}) is above the penalty of a roster: it is wrong")
 
     def _judge(self, run: RowRun, bounds: Bounds) -> None:
-        """Raises ProgramFault if it is proved that no roster exists."""
+        """Raises NoneExists if it is proved that no roster exists."""
         if self._best.penalty is not None:
             return
         held = f" and has the rows of {self._files.fix}" if self._files.fix else ""
         why = f"{page('ward_reference.md')} shows how to find out why"
         if run.without_row:
-            raise ProgramFault(NO_ROSTER, f"no roster keeps the hard rules{held}: those of {run.without_row} contradict one another")
+            raise NoneExists(NO_ROSTER, f"no roster keeps the hard rules{held}: those of {run.without_row} contradict one another")
         by = bounds.no_roster(run.plan.hard_only(), run.minimums, PROOF_SECONDS) if run.minimums else None
         if by:
             self.none_by = by
-            raise ProgramFault(NO_ROSTER, f"no roster keeps the hard rules{held} ({by}): {why}")
+            raise NoneExists(NO_ROSTER, f"no roster keeps the hard rules{held} ({by}): {why}")

@@ -10,13 +10,13 @@ from pathlib import Path
 from typing import Iterator, NamedTuple, Sequence, Tuple
 
 from ..judging.absences import absences_of, in_words, wishes_of, working_while_away
-from ..week.faults import Misuse, ProgramFault
+from ..week.faults import Misuse, NoneExists
 from ..judging.demand import hindrance
 from ..week.files import read_solution, scenario_text, week_text
 from ..week.records import DAYS, Absence, Cell, Limits, Place, Requirement, Scenario, Week, WeekData
 from ..week.writing import write_text
 from .improving import SearchResult, improve
-from ..programs.program import NO_ROSTER, WeekFiles
+from ..programs.program import WeekFiles
 from ..judging.rules import numbers
 
 SECONDS = 30.0
@@ -94,12 +94,9 @@ def _solve(files: WeekFiles, roster: Path) -> SearchResult:
     """Writes a roster that lowers few numbers; if it is proved, none lowers fewer."""
     try:
         return improve(files, roster, seconds=SECONDS)
-    except ProgramFault as fault:
-        if fault.status == NO_ROSTER and fault.message.startswith("no roster keeps"):
-            raise Misuse(
-                "even without minimum numbers there is no roster: the cause is a shift that --fix holds, so look at its file"
-            ) from fault
-        raise
+    except NoneExists as fault:
+        cause = "the cause is a shift that --fix holds, so look at its file"
+        raise Misuse(f"even without minimum numbers there is no roster: {cause}") from fault
 
 
 def _short(week: Week, cells: Sequence[Cell], place: Place) -> ShortPlace:

@@ -51,7 +51,7 @@ class Book(NamedTuple):
 
 
 def read_book(path: Path) -> Book:
-    """Reads a spreadsheet, or a folder of CSV files."""
+    """Reads a spreadsheet, or a folder of CSV files. Raises FileFault if it is none, or damaged."""
     if path.is_dir():
         return Book(path, {sheet: _read_csv(file) for sheet, file in _csv_files(path).items()})
     with open(path, "rb") as file:

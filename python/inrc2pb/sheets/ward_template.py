@@ -104,7 +104,8 @@ def dated_example(monday: datetime.date) -> Dict[str, Rows]:
 
 
 def write_template(path: Path, monday: datetime.date) -> None:
-    """Writes the example, whose plan begins on this Monday; a file of this name is not replaced, since a ward may have changed it."""
+    """Writes the example, whose plan begins on this Monday. Raises Misuse if there is a file of this name, since a ward may have changed
+    it."""
     if path.suffix.lower() != ".ods":
         raise Misuse(f"--template {path}: the example is an .ods file, which Excel opens too: end its name with .ods")
     if path.exists() or path.is_symlink():

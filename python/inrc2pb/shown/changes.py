@@ -89,7 +89,8 @@ def sum_text(before: int, now: int, words: str) -> str:
 
 
 def swapped(view: RosterView, swaps: Sequence[Tuple[str, str]]) -> RosterView:
-    """The roster of one week after swaps in turn: two nurses and days, as `Chen Fri` and `Grace Fri`, get each other's cells."""
+    """The roster of one week after swaps in turn: two nurses and days, as `Chen Fri` and `Grace Fri`, get each other's cells.
+    Raises Misuse if one of them is not in the roster."""
     if len(view.weeks) != 1:
         raise Misuse("swap is for one roster: change a copy of one of these, and give the others to why, with --old")
     cells = list(view.weeks[0].cells)

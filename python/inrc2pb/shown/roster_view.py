@@ -11,6 +11,7 @@ from ..judging.breaches import Breach, breaches
 from ..judging.limits import exceeded, limits_in_words
 from ..week.records import DAYS, Absence, Cell, Place, Requirement, Week, WeekData, week_name
 from ..week.soft_rules import SOFT_RULES
+from ..week.words import plural
 
 HELD, REFUSED, AWAY = "*", "!", "#"
 MEANINGS = {
@@ -142,8 +143,7 @@ class RosterView:
     @property
     def title(self) -> str:
         """The name of the ward, the weeks, and the number of assignments."""
-        count = sum(len(week.cells) for week in self.weeks)
-        return f"{self.name}, {self.weeks_text}: {count} assignment{'' if count == 1 else 's'}"
+        return f"{self.name}, {self.weeks_text}: {plural(sum(len(week.cells) for week in self.weeks), 'assignment')}"
 
     @property
     def weeks_text(self) -> str:

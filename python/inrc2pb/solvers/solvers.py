@@ -125,7 +125,7 @@ def _ending(ended: Ended) -> str:
 
 
 def find_solver(text: str) -> Solver:
-    """The solver of this command, or of the name clasp or cbc."""
+    """The solver of this command, or of the name clasp or cbc. Raises Misuse if it cannot be run."""
     try:
         words: List[str] = shlex.split(text)
     except ValueError as fault:

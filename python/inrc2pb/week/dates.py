@@ -69,7 +69,7 @@ def written_date(text: str) -> Optional[WrittenDate]:
 
 
 def read_monday(text: str, weeks: int) -> datetime.date:
-    """The Monday with which so many weeks begin."""
+    """The Monday with which so many weeks begin. Raises Misuse if the text is no Monday, written as `2026-11-30`."""
     try:
         date = datetime.date.fromisoformat(text)
         if str(date) != text:
@@ -94,7 +94,8 @@ def day_names(monday: Optional[datetime.date], week: int) -> Sequence[str]:
 
 
 def read_times(texts: Sequence[str], shifts: Collection[str]) -> Dict[str, Times]:
-    """The times of all shift types or of none, each given as `Early=06:00-14:15`. A shift that ends before it begins ends a day later."""
+    """The times of all shift types or of none, each given as `Early=06:00-14:15`. A shift that ends before it begins ends a day later.
+    Raises Misuse if a text has no times, or only some shift types have them."""
     by_shift: Dict[str, Times] = {}
     for text in texts:
         shift, is_given, times = text.rpartition("=")
@@ -113,7 +114,7 @@ def read_times(texts: Sequence[str], shifts: Collection[str]) -> Dict[str, Times
 
 
 def times_of(text: str, where: str) -> Times:
-    """The times of a shift, given as `06:00-14:15`."""
+    """The times of a shift, given as `06:00-14:15`. Raises Misuse, which names `where`, if the text is otherwise."""
     match = _TIMES.fullmatch(text)
     if not match:
         raise Misuse(f"{where}: '{text}' has no times: write when the shift begins and ends, such as 06:00-14:15")
@@ -201,7 +202,8 @@ class PlanDays(NamedTuple):
         return f"{DAYS[day % WEEK_DAYS]} {day // WEEK_DAYS + 1}" if self.monday is None else str(self.date(day))
 
     def number(self, text: str, near: int) -> int:
-        """The day that a text names. A day of the week is the first one from the day `near` on."""
+        """The day that a text names. A day of the week is the first one from the day `near` on. Raises OtherPlan if the plan does not have
+        the day, and Misuse if the text is none."""
         weekday, date, in_words = _WEEKDAY.fullmatch(text), written_date(text), _IN_WORDS.fullmatch(text)
         if in_words:
             day = self.number(f"{in_words[2]}.{MONTHS.index(in_words[3].title()) + 1}.", near)

@@ -119,6 +119,10 @@ class Stopped(ProgramFault):
     """A search that the user stopped before it had found a roster."""
 
 
+class NoneExists(ProgramFault):
+    """That no roster keeps the hard rules, as a proof or a solver says."""
+
+
 def page(name: str) -> str:
     """The path of a page: in a clone, or in an installation."""
     home = Path(__file__).resolve().parents[3]

@@ -129,14 +129,14 @@ def _nurse_history(slots: Slots, nurse: str, scenario: Scenario) -> NurseHistory
 
 
 def check_week_number(path: PathLike, history: History, scenario: Scenario) -> None:
-    """The history's week has to be one of the scenario's weeks."""
+    """Raises FileFault if the history's week is none of the scenario's weeks."""
     if history.week >= scenario.weeks:
         over = "the period is over, begin a new one with inrc2pb-roster next --new-period"
         raise FileFault(path, 0, f"week {history.week} is not below WEEKS = {scenario.weeks}: {over}", "week not below WEEKS")
 
 
 def check_weeks_left(count: int, history: History, scenario: Scenario) -> None:
-    """Checks that the period has this number of weeks left, with the week of the history."""
+    """Raises Misuse if the period has not this number of weeks left, with the week of the history."""
     left = scenario.weeks - history.week
     if count > left:
         raise Misuse(

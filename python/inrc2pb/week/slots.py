@@ -29,7 +29,8 @@ class Token(NamedTuple):
 
 
 def text_of(path: PathLike) -> str:
-    """The text of a file; bytes that are not UTF-8 survive as surrogates, and `bytes_of` turns them back."""
+    """The text of a file; bytes that are not UTF-8 survive as surrogates, and `bytes_of` turns them back. Raises FileFault if it is too
+    long, or UTF-16, or begins with a byte order mark."""
     with open(path, "rb") as file:
         data = file.read(MAX_FILE_LEN + 1)
     if len(data) > MAX_FILE_LEN:

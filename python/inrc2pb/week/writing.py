@@ -115,21 +115,21 @@ def _write_over(target: Path, data: bytes) -> None:
 
 
 def check_inputs_stay(inputs: Iterable[Optional[Path]], target: Path, what: str, choose: str = "file") -> None:
-    """The target may not replace a file that the command reads, neither by its path nor by a link."""
+    """Raises Misuse if the target would replace a file that the command reads, by its path or by a link."""
     for path in inputs:
         if path and path.is_file() and target.is_file() and os.path.samefile(path, target):
             raise Misuse(f"{path} is read, so {what} cannot be written to it: choose another {choose}")
 
 
 def check_no_pipes(inputs: Iterable[Optional[Path]]) -> None:
-    """Files that are read again and again may not be pipes."""
+    """Raises Misuse if one of these files, which are read again and again, is a pipe."""
     for path in inputs:
         if path and _is_pipe(path):
             raise Misuse(f"{path} is a pipe, which can be read only once: give a file")
 
 
 def check_no_pipe_is_written(target: Path) -> None:
-    """A file that is written again and again may not be a pipe."""
+    """Raises Misuse if this file, which is written again and again, is a pipe."""
     if _is_pipe(target) and not is_open_file(target):
         raise Misuse(f"{target} is a pipe, which can be written only once: name a file")
 
@@ -143,7 +143,7 @@ def _is_pipe(path: Path) -> bool:
 
 
 def check_target(solution: Path) -> None:
-    """It must be possible to write the file. A device such as /dev/null shows it only when it is written."""
+    """Raises Misuse or OSError if the file cannot be written. A device such as /dev/null shows that only when it is written."""
     target = file_at(solution)
     if target.is_dir():
         raise IsADirectoryError(errno.EISDIR, os.strerror(errno.EISDIR), str(solution))
