@@ -55,10 +55,10 @@ def fix_files(texts: Sequence[str], weeks: int) -> Dict[int, Path]:
     """
     fixes: Dict[int, Path] = {}
     for text in texts:
-        found = re.fullmatch("([0-9]{1,4})=(.+)", text, re.DOTALL)
-        if not found and weeks > 1:
+        match = re.fullmatch("([0-9]{1,4})=(.+)", text, re.DOTALL)
+        if not match and weeks > 1:
             raise Misuse(f"--fix {text}: give the week's number, 1 for the first week, and its file, such as 1=promised.txt")
-        number, path = (int(found[1]), Path(found[2])) if found else (1, Path(text))
+        number, path = (int(match[1]), Path(match[2])) if match else (1, Path(text))
         if not 1 <= number <= weeks:
             last = "for the only week" if weeks == 1 else f"for the first week, and {weeks} for the last"
             raise Misuse(f"--fix {text}: there is no week {number}: give 1 {last}")
@@ -234,8 +234,8 @@ def run(main: Callable[[], Optional[int]]) -> None:
         status = READ_OR_WRITE if isinstance(fault, OSError) else FAULT
         _drop_output()
     except FileFaults as several:
-        for one in several.faults[:MAX_FAULTS]:
-            print(f"{name}: {fault_line(one)}", file=sys.stderr)
+        for told in several.faults[:MAX_FAULTS]:
+            print(f"{name}: {fault_line(told)}", file=sys.stderr)
         if len(several.faults) > MAX_FAULTS:
             print(f"{name}: and {len(several.faults) - MAX_FAULTS} more such faults", file=sys.stderr)
         status = FAULT

@@ -56,17 +56,17 @@ def plan_ahead(weeks: PlannedWeeks, solution: Path, seconds: float) -> Tuple[Rep
         file.write(text)
 
     running = PeriodSearch(weeks, keep, Clock(seconds), Progress(None))
-    fault: Optional[BaseException] = None
+    ended: Optional[BaseException] = None
     with interrupts() as signals, signals.calling(running.interrupt):
         try:
             running.run()
-        except Exception as found:
+        except Exception as fault:
             if running.penalty is None:
                 raise
-            fault = found
+            ended = fault
     if not file.has(text):
         file.write(text)
-    return extend(weeks.week_files(week), solution)[1], fault
+    return extend(weeks.week_files(week), solution)[1], ended
 
 
 def _planned(given: argparse.Namespace, weeks: PlannedWeeks, seconds: float) -> Tuple[Report, Optional[BaseException]]:

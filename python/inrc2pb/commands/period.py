@@ -179,11 +179,11 @@ class Period:
 
 def _read_start(path: Path, number: int, scenario: Scenario) -> Solution:
     """Reads a roster to begin with. Raises Misuse if it is of another week or ward."""
-    found = read_solution(path, scenario)
-    if (found.week, found.scenario) != (number, scenario.name):
-        one = f"{path} is of week {found.week} of {found.scenario}"
-        raise Misuse(f"{one}, not of week {number} of {scenario.name}: give one roster for each week, in order")
-    return found
+    start = read_solution(path, scenario)
+    if (start.week, start.scenario) != (number, scenario.name):
+        what = f"{path} is of week {start.week} of {start.scenario}"
+        raise Misuse(f"{what}, not of week {number} of {scenario.name}: give one roster for each week, in order")
+    return start
 
 
 def _make_folder(path: Path) -> None:

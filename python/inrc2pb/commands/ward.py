@@ -100,8 +100,8 @@ def ward_files(
     if len(claims) > MAX_NUMBER:
         most = f"and a file {MAX_NUMBER} facts at most: {NO_SKILL}"
         raise FileFault(book.path, 0, f"sheets nurses and plan: they have {len(claims)} days away, {most}")
-    found = {"ward.txt": scenario_text(ward.scenario), "history-0.txt": history_text(history), "facts.txt": facts_text(name, claims)}
-    found["reasons.txt"] = reasons_text(name, absence_reasons(sheets))
+    texts = {"ward.txt": scenario_text(ward.scenario), "history-0.txt": history_text(history), "facts.txt": facts_text(name, claims)}
+    texts["reasons.txt"] = reasons_text(name, absence_reasons(sheets))
     warnings = [f"sheet shifts, contracts or nurses: {line}" for line in scenario_warnings(ward.scenario)]
     warnings += [f"sheet nurses: {line}" for line in history_warnings(ward.history)]
     asked = {place.skill for sheet in sheets for place in sheet.requirements}
@@ -112,8 +112,8 @@ def ward_files(
     datas = [_week(ward.scenario, sheet, claims, number) for number, sheet in enumerate(sheets)]
     odd: Dict[Warned, List[int]] = {}
     for number, (sheet, data) in enumerate(zip(sheets, datas)):
-        found[f"week-{number}.txt"] = week_text(_with_requests(book, ward.scenario, data, number) if requests else data)
-        found[f"fix-{number}.txt"] = solution_text(Solution(number, name, tuple(held.row for held in sheet.held)))
+        texts[f"week-{number}.txt"] = week_text(_with_requests(book, ward.scenario, data, number) if requests else data)
+        texts[f"fix-{number}.txt"] = solution_text(Solution(number, name, tuple(held.row for held in sheet.held)))
         past, paid = None if number else history, [as_shifts.of_week(later) for later in range(number, len(sheets))]
         for line in (*week_warnings(ward.scenario, data), *demand_warnings(ward.scenario, past, data, paid)):
             odd.setdefault(line, []).append(number)
@@ -122,7 +122,7 @@ def ward_files(
     warnings += [f"sheet needs: {line}" for line in supply]
     holidays = frozenset(7 * number + day for number, sheet in enumerate(sheets) if len(sheet.holidays) < 7 for day in sheet.holidays)
     return WardFiles(
-        found,
+        texts,
         warnings,
         reach_of([*odd, *supply]),
         counted=as_shifts,
@@ -164,14 +164,14 @@ def _nurse_rows(history: str) -> Dict[str, List[str]]:
     return {words[0]: words for words in map(str.split, history.splitlines()) if len(words) == 7}
 
 
-def _write(folder: Path, found: Dict[str, str]) -> None:
+def _write(folder: Path, texts: Dict[str, str]) -> None:
     """Writes all files, or none of them."""
     folder.mkdir(parents=True, exist_ok=True)
-    for path in (folder / name for name in found):
+    for path in (folder / name for name in texts):
         if not path.is_symlink():
             check_target(path)
     with contextlib.ExitStack() as stack:
-        targets: List[Tuple[TextIO, str]] = [(stack.enter_context(replacing_link(folder / name)), text) for name, text in found.items()]
+        targets: List[Tuple[TextIO, str]] = [(stack.enter_context(replacing_link(folder / name)), text) for name, text in texts.items()]
         for target, text in targets:
             target.write(text)
             target.flush()
@@ -199,13 +199,13 @@ def files(tables: Path, out: Path, credit: str, requests: bool) -> List[str]:
     """
     reasons = _reasons(credit)
     book = read_book(tables)
-    found = ward_files(book, ward_name(tables), days_of(book), reasons, requests)
-    old = list(_old_histories(out, found.texts["history-0.txt"], sum(name.startswith("week-") for name in found.texts)))
-    _write(out, found.texts)
-    days = Counter(nurse for nurse, _ in found.counted.days)
+    ward = ward_files(book, ward_name(tables), days_of(book), reasons, requests)
+    old = list(_old_histories(out, ward.texts["history-0.txt"], sum(name.startswith("week-") for name in ward.texts)))
+    _write(out, ward.texts)
+    days = Counter(nurse for nurse, _ in ward.counted.days)
     return [
-        *(f"{tables}: warning: {readable(line)}" for line in found.warnings),
-        f"{out}: {', '.join(found.texts)}",
-        *(credit_line(nurse, days[nurse], shifts, "history-0.txt") for nurse, shifts in found.counted.shifts.items()),
+        *(f"{tables}: warning: {readable(line)}" for line in ward.warnings),
+        f"{out}: {', '.join(ward.texts)}",
+        *(credit_line(nurse, days[nurse], shifts, "history-0.txt") for nurse, shifts in ward.counted.shifts.items()),
         *(f"{out}: warning: {readable(line)}" for line in old),
     ]

@@ -57,16 +57,16 @@ def _seconds_of(log: Path) -> Dict[str, float]:
 
 def table(results: Iterable[Result]) -> List[str]:
     """The lines of the table: one for each report, and one for all."""
-    found = list(results)
-    rows = [_HEAD, *map(_row, found)]
+    known = list(results)
+    rows = [_HEAD, *map(_row, known)]
     widths = [max(map(len, column)) for column in zip(*rows)]
     lines = [
         "  ".join([row[0].ljust(widths[0]), *(cell.rjust(width) for cell, width in zip(row[1:], widths[1:]))]).rstrip() for row in rows
     ]
-    solved = [result for result in found if result.penalty is not None]
+    solved = [result for result in known if result.penalty is not None]
     sums = f"penalty {sum(result.penalty or 0 for result in solved)} in all"
     proved = sum(result.is_proved for result in solved)
-    return [*lines, f"reports: {len(found)}; with a roster: {len(solved)}, proved the best: {proved}; {sums}"]
+    return [*lines, f"reports: {len(known)}; with a roster: {len(solved)}, proved the best: {proved}; {sums}"]
 
 
 def _row(result: Result) -> Sequence[str]:
