@@ -1,20 +1,24 @@
 """The example weeks, and runs of the commands, for the tests of this folder."""
 
+import contextlib
 import os
 import shutil
 import signal
 import sys
 import tempfile
+import time
 import traceback
 import unittest
 from dataclasses import replace
 from pathlib import Path
+from types import SimpleNamespace
+from unittest import mock
 
 ROOT = Path(__file__).resolve().parents[2]
 HELPERS = ROOT / "python"
 sys.path.insert(0, str(HELPERS))
 
-from inrc2pb.programs import program  # noqa: E402
+from inrc2pb.programs import clock, program, progress  # noqa: E402
 from inrc2pb.week import files, records, writing  # noqa: E402, F401
 from inrc2pb.commands.command import launch  # noqa: E402
 from inrc2pb.judging.absences import with_requests  # noqa: E402
@@ -31,6 +35,9 @@ EARLY_ANSWER = ROOT / "tests" / "data" / "thirty_clasp_early.txt"
 if signal.getsignal(signal.SIGINT) == signal.SIG_IGN:
     signal.signal(signal.SIGINT, signal.default_int_handler)
 HAS_CLASP, HAS_CBC = (shutil.which(name) is not None for name in ("clasp", "cbc"))
+# The seconds of a search that ends by itself, with a proof, and of a wait for what comes at once. No test takes them, on a machine that is
+# ten times slower neither: a test in which the time of a search has to end says when (`time_ends_at`).
+ENOUGH = 120
 
 
 def run(command, *words, environment=None):
@@ -66,6 +73,21 @@ def run_here(command, words, environment, printed, said):
         for stream in (sys.stdout, sys.stderr):
             stream.flush()
     return 1
+
+
+@contextlib.contextmanager
+def time_ends_at(event):
+    """Within the block the time of a search ends when it has the first roster (`improved`), or its bound (`bound_rose`), and not before
+    that. This holds for the commands of `run`, which begin as copies of this process."""
+    passed, told = [0.0], getattr(progress.Progress, event)
+
+    def tells(*words):
+        told(*words)
+        passed[0] = 1e9
+
+    fake = SimpleNamespace(monotonic=lambda: time.monotonic() + passed[0])
+    with mock.patch.object(clock, "time", fake), mock.patch.object(progress.Progress, event, tells):
+        yield
 
 
 class HelperTest(unittest.TestCase):

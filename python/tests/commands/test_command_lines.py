@@ -12,7 +12,7 @@ import sys
 import time
 import unittest
 
-from ward import HELPERS, HISTORY, ROSTER, SCENARIO, WEEK, WEEK_OPTIONS, HelperTest, program, run
+from ward import ENOUGH, HELPERS, HISTORY, ROSTER, SCENARIO, WEEK, WEEK_OPTIONS, HelperTest, program, run
 
 NAMES = sorted(path.name[len("inrc2pb-") :] for path in HELPERS.glob("inrc2pb-*"))
 FILES = ("--sce", SCENARIO, "--his", HISTORY)
@@ -154,7 +154,7 @@ class Starting(HelperTest):
             while not running.exists() and check.poll() is None:
                 time.sleep(0.05)
             check.send_signal(signal.SIGINT)
-            self.assertEqual((*check.communicate(timeout=30), check.returncode), (b"", b"", 130))
+            self.assertEqual((*check.communicate(timeout=ENOUGH), check.returncode), (b"", b"", 130))
 
     def test_a_conversion_that_is_ended_leaves_no_file(self):
         for number in (signal.SIGTERM, signal.SIGHUP):
@@ -167,7 +167,7 @@ class Starting(HelperTest):
                 while not list(self.folder.iterdir()) and conversion.poll() is None:
                     time.sleep(0.05)
                 conversion.send_signal(number)
-                self.assertEqual((conversion.wait(timeout=30), conversion.stderr.read()), (128 + number, b""))
+                self.assertEqual((conversion.wait(timeout=ENOUGH), conversion.stderr.read()), (128 + number, b""))
             self.assertEqual(list(self.folder.iterdir()), [])
 
     def test_a_fault_counts_also_if_the_caller_ignores_children(self):

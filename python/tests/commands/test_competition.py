@@ -5,9 +5,11 @@ import shutil
 import threading
 import time
 import unittest
+from unittest import mock
 
-from ward import HISTORY, SCENARIO, WEEK, WEEK_OPTIONS, HelperTest, program, run
+from ward import ENOUGH, HISTORY, SCENARIO, WEEK, WEEK_OPTIONS, HelperTest, program, run
 
+from inrc2pb.commands import competition
 from inrc2pb.commands.competition import search_seconds, seconds_since_start
 
 
@@ -20,7 +22,7 @@ class Simulation(HelperTest):
     def test_a_pipe_is_no_input(self):
         pipe = self.folder / "pipe"
         os.mkfifo(pipe)
-        words = ("--sce", SCENARIO, "--his", pipe, "--week", WEEK, "--sol", self.folder / "solution.txt", "--timeout", 5)
+        words = ("--sce", SCENARIO, "--his", pipe, "--week", WEEK, "--sol", self.folder / "solution.txt", "--timeout", ENOUGH)
         self.assert_fault(run("solve", "--inrc2", *words), f"inrc2pb-solve: {pipe} is a pipe, which can be read only once: give a file")
 
     def test_the_number_of_the_next_week_may_go_to_a_pipe(self):
@@ -29,9 +31,9 @@ class Simulation(HelperTest):
         numbers = []
         reader = threading.Thread(target=lambda: numbers.append(pipe.read_text()), daemon=True)
         reader.start()
-        words = ("--sol", self.folder / "solution.txt", "--cusOut", pipe, "--timeout", 30)
+        words = ("--sol", self.folder / "solution.txt", "--cusOut", pipe, "--timeout", ENOUGH)
         run("solve", "--inrc2", *WEEK_OPTIONS, *words, "--solver", self.answers_once(early=True))
-        reader.join(timeout=30)
+        reader.join(timeout=ENOUGH)
         self.assertEqual(numbers, ["1\n"])
 
     def test_seconds_to_search(self):
@@ -46,26 +48,26 @@ class Simulation(HelperTest):
         self.assertEqual((status, printed), (5, ""))
         self.assertRegex(said, "^inrc2pb-solve: --timeout 0.5: no roster was found in 0.2 s: ")
 
-    def test_the_process_ends_in_its_time(self):
-        # On a machine with other work a run may be late.
-        for _ in range(3):
-            shutil.rmtree(self.folder / "called", ignore_errors=True)
-            solver = f"{self.answers_once(early=True)[:-1]} || exec sleep 60'"
-            began = time.monotonic()
-            status, printed, said = run(
-                "solve", "--inrc2", *WEEK_OPTIONS, "--sol", self.folder / "solution.txt", "--timeout", 3, "--solver", solver
-            )
-            seconds = time.monotonic() - began
-            self.assertEqual(status, 0, said)
-            self.assertIn("penalty 20\n", printed)
-            if seconds < 3:
-                return
-        self.fail(f"it took {seconds:.2f} s")
+    def test_a_search_has_what_is_left_of_the_time_and_its_solver_is_ended(self):
+        given, searches = self.folder / "seconds", competition.search
+
+        def searched(*words, seconds, **named):
+            given.write_text(str(seconds))
+            return searches(*words, seconds=seconds, **named)
+
+        # After its first answer the solver does not end. Of a minute three seconds are for the end of the process.
+        words = ("--timeout", 60, "--solver", f"{self.answers_once(early=True)[:-1]} || exec sleep 600'")
+        began = time.monotonic()
+        with mock.patch.multiple(competition, seconds_since_start=lambda: 56.0, search=searched):
+            status, printed, said = run("solve", "--inrc2", *WEEK_OPTIONS, "--sol", self.folder / "solution.txt", *words)
+        self.assertEqual(given.read_text(), "1.0")
+        self.assertIn((status, "penalty 20\n" in printed), ((0, True), (5, False)), said)
+        self.assertLess(time.monotonic() - began, ENOUGH)
 
     @unittest.skipUnless(shutil.which("clasp"), "needs clasp")
     def test_the_command_line_of_the_competition(self):
         solution, custom = self.folder / "solution.txt", self.folder / "custom.txt"
-        words = ("--sol", solution, "--cusOut", custom, "--rand", 7, "--timeout", 20)
+        words = ("--sol", solution, "--cusOut", custom, "--rand", 7, "--timeout", ENOUGH)
         status, printed, said = run("solve", "--inrc2", *WEEK_OPTIONS, *words, "--solver", "clasp")
         self.assertEqual(status, 0, said)
         self.assertIn("penalty 20\n", printed)

@@ -12,6 +12,7 @@ from dataclasses import replace
 from pathlib import Path
 
 from ward import (
+    ENOUGH,
     HAS_CBC,
     HAS_CLASP,
     HELPERS,
@@ -26,6 +27,7 @@ from ward import (
     HelperTest,
     program,
     run,
+    time_ends_at,
 )
 
 from inrc2pb.search.bounds import PLAIN, PROVER
@@ -71,17 +73,24 @@ class Together(PeriodTest):
         for totals, says in (
             ([], f"^lower bound [0-9]+ of the sum \\(({PLAIN}|{PROVER})\\): "),
             (["--early"], "^lower bound "),
-            (["--ahead"], "^planned ahead of 2 weeks that are not known: no lower bound$"),
         ):
             with self.subTest(totals):
-                status, printed, said = run("solve", *WARD_OPTIONS, *totals, "--out", self.folder, "--time", 4)
-                self.assertEqual(status, 0, said)
-                self.assert_period(printed, WARD_OPTIONS, 2, "--early" in totals)
-                self.assertRegex(printed.splitlines()[-1], says)
-                self.assertIn("weeks 1 to 2 together, at most 8 s\n", said)
+                self.assertRegex(self.planned(*totals), says)
+        # Without a bound a search uses up its time.
+        with time_ends_at("improved"):
+            self.assertEqual(self.planned("--ahead"), "planned ahead of 2 weeks that are not known: no lower bound")
+
+    def planned(self, *totals):
+        """The last line about a plan of both weeks."""
+        status, printed, said = run("solve", *WARD_OPTIONS, *totals, "--out", self.folder, "--time", ENOUGH)
+        self.assertEqual(status, 0, said)
+        self.assert_period(printed, WARD_OPTIONS, 2, "--early" in totals)
+        self.assertIn(f"weeks 1 to 2 together, at most {2 * ENOUGH} s\n", said)
+        return printed.splitlines()[-1]
 
     def test_thirty_nurses_in_four_weeks(self):
-        status, printed, said = run("solve", *MONTH_OPTIONS, *MONTH_WEEKS, "--out", self.folder, "--time", 5)
+        with time_ends_at("improved"):
+            status, printed, said = run("solve", *MONTH_OPTIONS, *MONTH_WEEKS, "--out", self.folder, "--time", 15)
         self.assertEqual(status, 0, said)
         self.assert_period(printed, (*MONTH_OPTIONS, *MONTH_WEEKS), 4)
         table = ("--sce", MONTH / "ward.txt", "--his", MONTH / "history-0.txt", *MONTH_WEEKS)
@@ -91,14 +100,14 @@ class Together(PeriodTest):
 
     def test_held_shifts_of_a_week(self):
         held = self.solution("Grace Sat Day Nurse", week=1, name="held.txt")
-        status, _, said = run("solve", *WARD_OPTIONS, "--fix", f"2={held}", "--out", self.folder, "--time", 4)
+        status, _, said = run("solve", *WARD_OPTIONS, "--fix", f"2={held}", "--out", self.folder, "--time", ENOUGH)
         self.assertEqual(status, 0, said)
         self.assertIn("Grace Sat Day Nurse\n", (self.folder / "roster-1.txt").read_text())
 
     def test_held_shifts_that_no_rosters_have(self):
         rows = [f"{nurse} Mon Day Nurse" for nurse in ("Amara", "Bruno", "Chen", "Dilek", "Ewa", "Finn", "Grace")]
         held = self.solution(*rows, week=1, name="held.txt")
-        status, printed, said = run("solve", *WARD_OPTIONS, "--fix", f"2={held}", "--out", self.folder / "out", "--time", 120)
+        status, printed, said = run("solve", *WARD_OPTIONS, "--fix", f"2={held}", "--out", self.folder / "out", "--time", ENOUGH)
         self.assertEqual((status, printed), (5, ""))
         self.assertRegex(said.splitlines()[-1], "^inrc2pb-solve: no rosters keep the hard rules of these weeks together, by plain Python: ")
 
@@ -111,7 +120,7 @@ class Together(PeriodTest):
             ),
         ):
             options = (*WEEK_OPTIONS, "--week", self.away(*away, week=WARD / "week-1.txt"))
-            status, printed, said = run("solve", *options, "--out", self.folder / "out", "--time", 8)
+            status, printed, said = run("solve", *options, "--out", self.folder / "out", "--time", ENOUGH)
             self.assertEqual(status, 0, said)
             self.assertRegex("".join(line for line in said.splitlines() if "absence" in line), says)
             self.assertRegex(printed.splitlines()[-1], "^lower bound [0-9]+ of the sum ")
@@ -130,7 +139,7 @@ class Together(PeriodTest):
         self.assertEqual(printed.decode().splitlines()[-1], "stopped: weeks 1 to 4 are planned")
 
     def test_one_week_has_the_bound_of_the_week(self):
-        status, printed, said = run("solve", *WEEK_OPTIONS, "--out", self.folder, "--time", 120)
+        status, printed, said = run("solve", *WEEK_OPTIONS, "--out", self.folder, "--time", ENOUGH)
         self.assertEqual(status, 0, said)
         self.assert_period(printed, WEEK_OPTIONS, 1)
         self.assertRegex(printed, "\nlower bound 20 \\(.*\\)\nno roster costs less")
@@ -140,7 +149,7 @@ class Together(PeriodTest):
 class Periods(PeriodTest):
     def test_held_shifts_of_a_week(self):
         held = self.folder / "held.txt"
-        words = (*WARD_OPTIONS, "--fix", f"2={held}", "--out", self.folder, "--time", 20, "--solver", "clasp")
+        words = (*WARD_OPTIONS, "--fix", f"2={held}", "--out", self.folder, "--time", ENOUGH, "--solver", "clasp")
         files_of = ", ".join(str(self.folder / name) for name in ("roster-0.txt", "roster-1.txt", "history-1.txt", "history-2.txt"))
         for week, hint in (
             (1, ""),
@@ -155,10 +164,10 @@ class Periods(PeriodTest):
 
 class PeriodFaults(PeriodTest):
     def period(self, *words):
-        return run("solve", *words, "--out", self.folder, "--time", 1)
+        return run("solve", *words, "--out", self.folder, "--time", ENOUGH)
 
     def test_after_a_fault_the_week_that_has_a_roster_is_reported(self):
-        words = ("--out", self.folder, "--time", 60, "--solver", self.answers_once())
+        words = ("--out", self.folder, "--time", ENOUGH, "--solver", self.answers_once())
         status, printed, said = run("solve", *WARD_OPTIONS, *words)
         self.assertEqual((status, printed.splitlines()[0]), (1, f"week 1: penalty 20, {self.folder / 'roster-0.txt'}"))
         self.assert_period(printed, WARD_OPTIONS, 1)
@@ -196,7 +205,7 @@ class PeriodFaults(PeriodTest):
         started = self.folder / "started"
         started.unlink(missing_ok=True)
         solver = f"sh -c 'trap \"{at_end}; exit 1\" TERM; touch {started}; sleep 60 & wait'"
-        words = (*WARD_OPTIONS, "--out", self.folder, "--time", 60, "--solver", solver)
+        words = (*WARD_OPTIONS, "--out", self.folder, "--time", ENOUGH, "--solver", solver)
         command = [sys.executable, str(HELPERS / "inrc2pb-solve"), *map(str, words)]
         environment = {**os.environ, **(environment or {})}
         with subprocess.Popen(command, stdout=subprocess.PIPE, stderr=subprocess.PIPE, env=environment) as period:
@@ -242,7 +251,7 @@ class PeriodFaults(PeriodTest):
             (("--solver", sys.executable), {"INRC2PB": "/nowhere/inrc2pb"}, 127, "there is no program /nowhere/inrc2pb"),
         ):
             with self.subTest(words, **environment):
-                ran = run("solve", *WARD_OPTIONS, *words, "--out", out, "--time", 1, environment=environment)
+                ran = run("solve", *WARD_OPTIONS, *words, "--out", out, "--time", ENOUGH, environment=environment)
                 self.assertEqual((ran[0], ran[1], ran[2].count("\n")), (status, "", 1), ran[2])
                 self.assertIn(says, ran[2])
                 self.assertEqual(list(self.folder.iterdir()), [])

@@ -3,7 +3,7 @@
 import unittest
 from dataclasses import replace
 
-from ward import HAS_CBC, HAS_CLASP, HISTORY, ROSTER, SCENARIO, WEEK, WEEK_FILES, WEEK_OPTIONS, HelperTest, files, run, writing
+from ward import ENOUGH, HAS_CBC, HAS_CLASP, HISTORY, ROSTER, SCENARIO, WEEK, WEEK_FILES, WEEK_OPTIONS, HelperTest, files, run, writing
 
 from inrc2pb.judging.absences import MARK, MOST_REQUESTS, ROWS, absences_of, in_words, way_out, wishes_of, with_requests, working_while_away
 from inrc2pb.search.best_roster import BestRoster
@@ -95,7 +95,7 @@ class Kept(HelperTest):
     @unittest.skipUnless(HAS_CLASP, "needs clasp")
     def test_who_works_is_named_if_no_roster_keeps_all_absences(self):
         away = self.away("Amara=Fri", "Bruno=Fri", "Ewa=Fri")
-        words = (*WEEK_OPTIONS[:4], "--week", away, "--solver", "clasp", "--time", "5", "--out", self.folder / "roster.txt")
+        words = (*WEEK_OPTIONS[:4], "--week", away, "--solver", "clasp", "--time", ENOUGH, "--out", self.folder / "roster.txt")
         _, _, said = run("solve", *words)
         self.assertRegex(said, r"no roster was found that keeps every absence: (Amara|Bruno|Ewa) works Day on Fri\n")
 

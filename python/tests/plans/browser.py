@@ -7,7 +7,7 @@ import sys
 import time
 
 from test_plans import FolderTest
-from ward import HELPERS
+from ward import ENOUGH, HELPERS
 
 try:
     from selenium import webdriver
@@ -21,7 +21,7 @@ except ImportError:
 HAS_BROWSER = webdriver is not None and all(map(shutil.which, ("chromium", "chromedriver")))
 SCREEN, TELEPHONE = 1280, 390
 # The most seconds until a page shows what it should, and the most stops of the key Tab to what is looked for.
-_PATIENCE, _MOST_STOPS = 60, 60
+_PATIENCE, _MOST_STOPS = ENOUGH, 60
 
 
 class BrowserTest(FolderTest):
@@ -32,7 +32,9 @@ class BrowserTest(FolderTest):
     def setUp(self):
         super().setUp()
         self.served = subprocess.Popen(
-            [sys.executable, str(HELPERS / "inrc2pb-plan"), str(self.ward), "serve", "--time", "3"], stdout=subprocess.PIPE, text=True
+            [sys.executable, str(HELPERS / "inrc2pb-plan"), str(self.ward), "serve", "--time", str(ENOUGH)],
+            stdout=subprocess.PIPE,
+            text=True,
         )
         self.addCleanup(self._end)
         self.address = re.search("http://[^ \n]*", self.served.stdout.readline())[0]

@@ -7,6 +7,7 @@ import time
 from urllib.parse import urlencode, urlsplit
 
 from test_plans import FolderTest
+from ward import ENOUGH
 
 from inrc2pb.commands.plan import read_sheet
 from inrc2pb.plans.local_jobs import Jobs
@@ -26,7 +27,7 @@ class ServedPage(FolderTest):
         stack = contextlib.ExitStack()
         self.addCleanup(stack.close)
         signals = stack.enter_context(interrupts())
-        self.jobs = Jobs(WardFolder(self.ward), read_sheet, signals, 7.0)
+        self.jobs = Jobs(WardFolder(self.ward), read_sheet, signals, float(ENOUGH))
         server = LocalServer(self.jobs, "127.0.0.1", 0, self.origin)
         self.address = server.address
         self.site = urlsplit(f"http://127.0.0.1:{server.port}{urlsplit(server.address).path}")
@@ -47,7 +48,7 @@ class ServedPage(FolderTest):
         the answer if it is a question."""
         path = path or (self.shown if method == "GET" else self.site.path)
         form = f"{form}&stamp={self.stamp}" if form and form.startswith("verb=") and "stamp=" not in form else form
-        connection = http.client.HTTPConnection(self.site.netloc, timeout=60)
+        connection = http.client.HTTPConnection(self.site.netloc, timeout=ENOUGH)
         given = {name.replace("_", "-"): value for name, value in headers.items()}
         kind = {"Content-Type": "application/x-www-form-urlencoded"} if form is not None else {}
         connection.request(method, path, form, {**kind, **given})
@@ -66,7 +67,12 @@ class ServedPage(FolderTest):
 
     def ended(self):
         """Waits for the end of the verb that runs, and returns the page."""
-        limit = time.monotonic() + 60
-        while self.jobs.runs and time.monotonic() < limit:
-            time.sleep(0.05)
+        self.waits_for(lambda: not self.jobs.runs)
         return self.asks()[1]
+
+    def waits_for(self, ends):
+        """Waits until this is so."""
+        limit = time.monotonic() + ENOUGH
+        while not ends():
+            self.assertLess(time.monotonic(), limit)
+            time.sleep(0.01)

@@ -273,7 +273,7 @@ class Questions(ExceededTest):
     def test_an_absence_that_counts_too_many_shifts(self):
         # Her ten shifts of ten at most are on Monday to Friday. It asks before a search.
         for word in ("leave", "training"):
-            printed = self.asks(word, "Grace", "Sat", "Sun", "--time", "100")
+            printed = self.asks(word, "Grace", "Sat", "Sun")
             self.assertIn(f"{TWELVE}: {TAKES_TWO}\n", printed)
 
     def test_an_illness_of_a_plan_on_the_wall_exceeds_nothing(self):
@@ -317,16 +317,16 @@ class Verbs(ExceededTest):
         # Five nurses with one shift each, and two with a half contract, for 26 shifts a week. There is no plan that exceeded it before.
         self.limits("0", "1!")
         shutil.rmtree(self.last())
-        status, printed, said = run("plan", self.ward, "plan", "--time", "5")
+        status, printed, said = self.runs("plan")
         self.assertEqual((status, self.texts()), (6, {}), said)
         self.assertTrue(printed.endswith(Questions.ASKS), printed)
-        status, printed, said = run("plan", self.ward, "plan", "--time", "5", "--do")
+        status, printed, said = self.runs("plan", "--do")
         self.assertEqual((status, bool(self.texts())), (6, True), said)
         self.assertIn("this plan is written, but it does not keep what the first lines say", printed)
 
     def named(self, *words):
         """The lines that the verb prints on maxima of shifts."""
-        _, printed, _ = run("plan", self.ward, *words)
+        _, printed, _ = self.runs(*words)
         return [line for line in printed.splitlines() if HOLDS in line]
 
     def page_has(self, line):
@@ -339,9 +339,9 @@ class Verbs(ExceededTest):
         self.does("page")
         line = f"{TWELVE}: {TAKES_TWO}"
         before = self.last()
-        self.assertEqual(self.named("leave", "Grace", "Sat", "Sun", "--time", "5"), [line])
+        self.assertEqual(self.named("leave", "Grace", "Sat", "Sun"), [line])
         self.assertEqual(self.last(), before)
-        self.assertEqual(self.named("leave", "Grace", "Sat", "Sun", "--time", "5", "--do"), [line])
+        self.assertEqual(self.named("leave", "Grace", "Sat", "Sun", "--do"), [line])
         self.assertNotEqual(self.last(), before)
         self.assertEqual(sum(nurse == "Grace" for nurse, _ in self.cells()), 10)
         self.assertTrue(self.page_has(line))
@@ -350,7 +350,7 @@ class Verbs(ExceededTest):
         self.assertEqual(self.named("undo"), [line])
         self.assertEqual(self.named("over"), [line])
         self.assertEqual(self.named("undo"), [line])
-        self.assertEqual(self.named("plan", "--time", "5"), [])
+        self.assertEqual(self.named("plan"), [])
         self.assertEqual(sum(nurse == "Grace" for nurse, _ in self.cells()), 8)
         self.assertEqual(self.named("check"), [])
         self.assertFalse(self.page_has(HOLDS))
@@ -361,7 +361,7 @@ class Verbs(ExceededTest):
         free = next(day for day in range(14) if ("Bruno", day) not in self.cells())
         day = self.plan.days.head(free)
         says = f"Bruno has 11 shifts, 1 of them for days away, of at most 10 {HOLDS}"
-        (line,) = self.named("training", "Bruno", day, "--time", "5", "--do")
+        (line,) = self.named("training", "Bruno", day, "--do")
         self.assertTrue(line.startswith(says), line)
         self.assertTrue(self.page_has(line))
         state = read_state(self.last())
@@ -376,7 +376,7 @@ class Verbs(ExceededTest):
         self.does("page")
         self.limits("8", "10!")
         self.assertEqual(self.named("check"), [f"warning: {TWELVE}: {TAKES_TWO}"])
-        self.assertEqual(self.named("plan", "--time", "5"), [])
+        self.assertEqual(self.named("plan"), [])
         self.assertEqual(sum(nurse == "Grace" for nurse, _ in self.cells()), 8)
 
 

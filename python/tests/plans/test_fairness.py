@@ -4,7 +4,7 @@ import unittest
 from dataclasses import replace
 
 from test_kept_plans import KeptTest
-from ward import HAS_CBC
+from ward import ENOUGH, HAS_CBC
 
 from inrc2pb.plans.exchanges import more_even
 from inrc2pb.plans.facts import beside_days_away, unkept
@@ -60,7 +60,7 @@ class Exchanges(KeptTest):
 
     def evened(self, first=0):
         plan = self.read()
-        return plan, more_even(plan, first, 3.0)
+        return plan, more_even(plan, first, ENOUGH)
 
     def test_an_exchange_costs_nothing_and_is_more_even(self):
         plan, even = self.evened()

@@ -226,7 +226,7 @@ class Words(KeptTest):
     def test_who_leaves_with_too_many_shifts_is_named_and_an_earlier_day_takes_one(self):
         self.rows["contracts"][1][1:3] = ["0", "8!"]
         self.write()
-        status, out, _ = run("plan", self.ward, "away", "Grace", "Sat", "Sun", "2", "--time", "10")
+        status, out, _ = self.runs("away", "Grace", "Sat", "Sun", "2")
         self.assertIn("Grace has 5 shifts of at most 3, above on Thu 3 Dec and Fri 4 Dec", out)
         self.assertIn("shifts before Sat 5 Dec stay: plan from an earlier day can take some of them away", out)
         self.assertEqual(status, 6)
@@ -235,7 +235,7 @@ class Words(KeptTest):
         self.assertIn("Grace has 5 shifts of at most 3", (self.ward / "roster.html").read_text())
         self.assertNotIn("Grace has", (self.ward / "wall.html").read_text())
         self.does("undo")
-        status, out, _ = run("plan", self.ward, "plan", "--time", "10")
+        status, out, _ = self.runs("plan")
         self.assertNotIn("Grace has", out + (self.ward / "roster.html").read_text())
         self.assertEqual(status, 0)
 
@@ -421,7 +421,7 @@ class NotKept(KeptTest):
         for row in self.rows["contracts"][1:]:
             row[1:3] = ["0", "2!"]
         self.write()
-        status, printed, said = run("plan", self.ward, "plan", "--time", "5")
+        status, printed, said = self.runs("plan")
         self.assertEqual(status, 6, said)
         self.assertRegex(printed, "(?m)^week 2 \\(calendar week 50\\): no plan was found that keeps every limit: .* has [0-9]+ shifts of at most 2, above on ")
         self.assertRegex(printed, "(?m)^week 2 \\(calendar week 50\\): lower minimum numbers, hold fewer shifts, or allow these nurses more; ")
@@ -471,7 +471,7 @@ class Training(KeptTest):
         self.rows["needs"].append(["", "Night", "Nurse", "1", *["0"] * 6])
         self.rows["plan"][4][2] = "training"
         self.write()
-        status, printed, said = run("plan", self.ward, "plan", "--time", "10")
+        status, printed, said = self.runs("plan")
         self.assertEqual(status, 0, said)
         self.assertIn("Dilek works Night on Mon 30 Nov, and has training on Tue 1 Dec\n", printed)
 
@@ -533,7 +533,7 @@ class Agreed(KeptTest):
         self.rows["needs"] = [row for row in self.rows["needs"] if row[1] != "Night"]
         self.rows["needs"].append(["", "Night", "Nurse", "1", *["0"] * 6])
         self.write()
-        status, printed, said = run("plan", self.ward, "plan", "--time", "10")
+        status, printed, said = self.runs("plan")
         self.assertEqual(status, 0, said)
         self.assertIn("no plan was found that keeps all agreed swaps: a search for one that may break them\n", said)
         self.assertIn("this breaks an agreed swap: Grace, Mon 30 Nov: Night Nurse, agreed was off\n", printed)

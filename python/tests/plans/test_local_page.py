@@ -4,10 +4,10 @@ import fcntl
 import html
 import io
 import re
+import select
 import socket
 import struct
 import threading
-import time
 import unittest
 from dataclasses import replace
 from unittest import mock
@@ -99,13 +99,9 @@ class Page(ServedPage):
         with socket.create_connection((self.site.hostname, self.site.port)) as browser:
             browser.setsockopt(socket.SOL_SOCKET, socket.SO_LINGER, struct.pack("ii", 1, 0))
             browser.sendall(f"GET {self.site.path} HTTP/1.1\r\nHost: {self.site.netloc}\r\n\r\n".encode())
-            limit = time.monotonic() + 30
-            while threading.active_count() == threads and time.monotonic() < limit:
-                time.sleep(0.01)
-        while threading.active_count() > threads and time.monotonic() < limit:
-            time.sleep(0.05)
+            self.waits_for(lambda: threading.active_count() != threads or select.select([browser], [], [], 0)[0])
         # A thread of an earlier request may have ended too.
-        self.assertLessEqual(threading.active_count(), threads)
+        self.waits_for(lambda: threading.active_count() <= threads)
         self.assertEqual(self.asks()[0], 200)
 
     def test_what_no_form_sends_is_a_sentence_on_the_page(self):
@@ -221,8 +217,8 @@ class Page(ServedPage):
         self.assertIn("there is nothing to undo", self.asks()[1])
 
     def test_the_seconds_of_a_search(self):
-        self.assertIn('name="seconds" type="number" min="1" max="3600" placeholder="7"', self.asks()[1])
-        for seconds, fields in ((7.0, {}), (3.0, {"seconds": "3"})):
+        self.assertIn('name="seconds" type="number" min="1" max="3600" placeholder="120"', self.asks()[1])
+        for seconds, fields in ((120.0, {}), (3.0, {"seconds": "3"})):
             for form, event in (
                 ({"verb": "plan"}, Event("plan", (), seconds)),
                 ({"verb": "back", "nurse": "Chen"}, Event("back", ("Chen",), seconds)),
@@ -339,10 +335,7 @@ class Page(ServedPage):
         with open(self.ward / "plans" / "lock", "w") as lock:
             fcntl.flock(lock, fcntl.LOCK_EX)
             self.asks("POST", form="verb=check&sure=yes")
-            limit = time.monotonic() + 60
-            while "this one waits" not in (page := self.asks()[1]) and time.monotonic() < limit:
-                time.sleep(0.05)
-            self.assertIn("another run works in", page)
+            self.waits_for(lambda: "another run works in" in (page := self.asks()[1]) and "this one waits" in page)
             self.asks("POST", form="verb=undo&sure=yes")
             fcntl.flock(lock, fcntl.LOCK_UN)
         self.jobs.wait()
@@ -401,12 +394,10 @@ class Page(ServedPage):
         self.asks("POST", form="verb=plan&seconds=600&sure=yes")
         self.assertIn('http-equiv="refresh"', self.asks()[1])
         self.asks("POST", form="verb=undo&sure=yes")
-        limit = time.monotonic() + 60
-        while "2 weeks: " not in (page := self.asks()[1]) and time.monotonic() < limit:
-            if " points" in page:
-                self.asks("POST", form="verb=stop")
-            time.sleep(0.1)
-        self.assertFalse(self.jobs.runs)
+        self.waits_for(lambda: " points" in self.asks()[1] or not self.jobs.runs)
+        self.asks("POST", form="verb=stop")
+        self.waits_for(lambda: not self.jobs.runs)
+        self.assertIn("2 weeks: ", self.asks()[1])
         self.assertTrue(list((self.ward / "plans").glob("0*")))
 
 

@@ -14,9 +14,10 @@ import time
 import unittest
 from dataclasses import replace
 from unittest import mock
-from ward import HAS_CBC, HELPERS, ROSTER, HelperTest, files, program, run
+from ward import ENOUGH, HAS_CBC, HELPERS, ROSTER, HelperTest, files, program, run
 
 from inrc2pb.commands.plan import read_sheet
+from inrc2pb.plans import verbs
 from inrc2pb.plans.changes import with_few_changes, with_old_skills
 from inrc2pb.plans.local_server import LocalServer
 from inrc2pb.plans.store import WardFolder, plan_texts
@@ -170,11 +171,16 @@ class FolderTest(HelperTest):
                 csv.writer(file).writerows(rows)
 
     def does(self, *words):
-        """What the verb prints. Searches are short."""
-        searches = words[0] in ("plan", "ill", "leave", "back")
-        status, printed, said = run("plan", self.ward, *words, *(("--time", "10") if searches else ()))
+        """What the verb prints."""
+        status, printed, said = self.runs(*words)
         self.assertEqual(status, 0, said)
         return printed
+
+    def runs(self, *words):
+        """The status of the verb, and what it prints. Its search has time enough, and a second to make the plan more even."""
+        searches = words[0] in ("plan", "ill", "leave", "away", "training", "back")
+        with mock.patch.object(verbs, "EVENING_SHARE", 1 / ENOUGH):
+            return run("plan", self.ward, *words, *(("--time", ENOUGH) if searches else ()))
 
     def begin(self):
         """Begins with a plan of both weeks, which the first test has made."""
@@ -226,7 +232,7 @@ class Verbs(FolderTest):
     def test_a_plan_an_illness_and_the_way_back(self):
         self.begin()
         before, old = self.cells(), self.texts()
-        status, printed, said = run("plan", self.ward, "ill", "Gra", "Wed", "Fri", "--time", "10")
+        status, printed, said = self.runs("ill", "Gra", "Wed", "Fri")
         self.assertEqual(status, 0, said)
         # It speaks in points, and says that those of the search are not those of the plan.
         self.assertRegex(said, "[0-9]+ points, those for changed shifts among them")
@@ -250,7 +256,7 @@ class Verbs(FolderTest):
     def test_a_second_run_never_has_a_worse_plan(self):
         self.begin()
         before = sum(self.points())
-        printed = run("plan", self.ward, "plan", "--time", "1")[1]
+        printed = self.does("plan")
         first, second = self.points()
         self.assertLessEqual(first + second, before)
         weeks = f"week 1 (calendar week 49): {first} points\nweek 2 (calendar week 50): {second} points\n"
@@ -293,7 +299,7 @@ class Verbs(FolderTest):
         # Amara, Bruno and Ewa have the skill.
         self.rows["needs"][1][8] = "4"
         self.write()
-        status, printed, said = run("plan", self.ward, "plan", "--time", "3")
+        status, printed, said = self.runs("plan")
         self.assertEqual(status, 5, said)
         says = "Lower these by 1 in all; no roster can do with less:\nSat 5 Dec Day Charge: lower 4 to 3\n$"
         self.assertRegex(printed, f"^week 1 \\(calendar week 49\\): No roster .* {says}")
@@ -315,7 +321,7 @@ class Verbs(FolderTest):
         self.does("over")
         del self.rows["nurses"][4], self.rows["plan"][4]
         self.write()
-        status, _, said = run("plan", self.ward, "plan", "--time", "10")
+        status, _, said = self.runs("plan")
         cure = "write it again, with away in the plan from her last day on"
         self.assertEqual((status, said), (1, f"inrc2pb-plan: Dilek worked in week 1 (calendar week 49), and has no row in the sheet nurses: {cure}\n"))
 
@@ -421,7 +427,7 @@ class Verbs(FolderTest):
             begun = subprocess.Popen(command, stdout=subprocess.DEVNULL, stderr=subprocess.DEVNULL)
             time.sleep(seconds)
             begun.send_signal(signal.SIGINT)
-            begun.wait(timeout=60)
+            begun.wait(timeout=ENOUGH)
             names = [path.name for path in (self.ward / "plans").glob("*") if path.name != "lock"] if (self.ward / "plans").exists() else []
             self.assertFalse([name for name in names if not name[0] == "0"])
             for path in (self.ward / "plans").glob("0*"):
@@ -644,7 +650,7 @@ class Refused(FolderTest):
             second = self.begun("undo", said)
             self.assertIsNone(second.poll())
             fcntl.flock(lock, fcntl.LOCK_UN)
-            self.assertEqual(second.wait(timeout=30), 1)
+            self.assertEqual(second.wait(timeout=ENOUGH), 1)
             said.seek(0)
             self.assertEqual(
                 said.read().splitlines()[1:], ["the other run has ended", f"inrc2pb-plan: {self.ward}: there is nothing to undo"]
@@ -655,7 +661,7 @@ class Refused(FolderTest):
         begun = subprocess.Popen([sys.executable, str(HELPERS / "inrc2pb-plan"), str(self.ward), verb], stderr=said, env=dict(os.environ))
         self.addCleanup(begun.kill)
         line = f"another run works in {self.ward}: this one waits for its end, and its time begins then; Ctrl-C ends it\n"
-        limit = time.monotonic() + 30
+        limit = time.monotonic() + ENOUGH
         while time.monotonic() < limit and os.fstat(said.fileno()).st_size < len(line.encode()):
             time.sleep(0.05)
         said.seek(0)
@@ -668,7 +674,7 @@ class Refused(FolderTest):
             fcntl.flock(lock, fcntl.LOCK_EX)
             second = self.begun("plan", said)
             second.send_signal(signal.SIGINT)
-            self.assertEqual(second.wait(timeout=30), 130)
+            self.assertEqual(second.wait(timeout=ENOUGH), 130)
             said.seek(0)
             self.assertEqual(said.read().splitlines()[1], "nothing was written")
 
@@ -683,7 +689,7 @@ class Refused(FolderTest):
                 yield
 
         with mock.patch.object(time, "monotonic", lambda: real() + waited[0]), mock.patch.object(WardFolder, "locked", locked_after_a_day):
-            status, printed, said = run("plan", self.ward, "plan", "--time", "5")
+            status, printed, said = self.runs("plan")
         self.assertEqual(status, 0, printed + said)
         # The first line of the search has the seconds since its begin.
         self.assertLess(float(re.search(r"([0-9.]+) s  [0-9]+ points", said)[1]), 86_400)

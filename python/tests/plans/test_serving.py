@@ -7,12 +7,11 @@ import shutil
 import socket
 import ssl
 import subprocess
-import time
 import unittest
 from pathlib import Path
 
 from served_page import ServedPage
-from ward import HELPERS, ROOT
+from ward import ENOUGH, HELPERS, ROOT
 
 PAGE = (ROOT / "docs" / "serving.md").read_text()
 NGINX = shutil.which("nginx", path=f"{os.environ.get('PATH', '')}:/usr/sbin")
@@ -66,19 +65,21 @@ class Proxy(ServedPage):
         proxy = subprocess.Popen([NGINX, "-e", str(self.log), "-p", str(self.folder), "-c", str(settings)], stderr=subprocess.DEVNULL)
         self.addCleanup(proxy.wait)
         self.addCleanup(proxy.terminate)
-        limit = time.monotonic() + 30
-        while time.monotonic() < limit:
-            try:
-                socket.create_connection(("127.0.0.1", self.port), 1).close()
-                return
-            except OSError:
-                time.sleep(0.1)
+        self.waits_for(self.is_open)
+
+    def is_open(self):
+        """Whether the proxy hears."""
+        try:
+            socket.create_connection(("127.0.0.1", self.port), 1).close()
+            return True
+        except OSError:
+            return False
 
     def status(self, method="GET", path=None, body=None, **headers):
         """The status of an answer of the proxy, and where it leads."""
         context = ssl.create_default_context()
         context.check_hostname, context.verify_mode = False, ssl.CERT_NONE
-        connection = http.client.HTTPSConnection("127.0.0.1", self.port, timeout=60, context=context)
+        connection = http.client.HTTPSConnection("127.0.0.1", self.port, timeout=ENOUGH, context=context)
         kind = {"Content-Type": "application/x-www-form-urlencoded"} if body else {}
         connection.request(method, path or self.site.path, body, {"Host": f"ward.example:{self.port}", **kind, **headers})
         answer = connection.getresponse()

@@ -7,7 +7,7 @@ import sys
 import time
 import unittest
 
-from ward import HELPERS, HelperTest
+from ward import ENOUGH, HELPERS, HelperTest
 
 from inrc2pb.programs.processes import Processes
 
@@ -16,7 +16,7 @@ RUNS = """
 import sys
 from pathlib import Path
 from inrc2pb.programs.processes import Processes
-Processes().run(["sh", "-c", "echo $$; exec sleep 100"], 100, Path("/"), hear=lambda data: (sys.stdout.buffer.write(data), sys.stdout.flush()))
+Processes().run(["sh", "-c", "echo $$; exec sleep 600"], 600, Path("/"), hear=lambda data: (sys.stdout.buffer.write(data), sys.stdout.flush()))
 """
 
 
@@ -33,11 +33,11 @@ class Groups(HelperTest):
     def test_groups_end(self):
         processes = Processes()
         began = time.monotonic()
-        ended = processes.run(["bash", "-c", "sleep 60 & sleep 60"], 0.3, self.folder)
+        ended = processes.run(["bash", "-c", "sleep 600 & sleep 600"], 0.3, self.folder)
         self.assertTrue(ended.timed_out)
-        self.assertLess(time.monotonic() - began, 30)
+        self.assertLess(time.monotonic() - began, ENOUGH)
         processes.stop()
-        self.assertTrue(processes.run(["sleep", "60"], 60, self.folder).timed_out)
+        self.assertTrue(processes.run(["sleep", "600"], 600, self.folder).timed_out)
 
     def test_processes_that_are_asked_to_end_and_do_not_are_killed(self):
         processes, began = Processes(), time.monotonic()
@@ -47,19 +47,19 @@ class Groups(HelperTest):
                 processes.ask_to_end()
 
         script = "trap 'echo answer' TERM; echo ready; while true; do sleep 0.1; done"
-        ended = processes.run(["bash", "-c", script], 60, self.folder, hear=hear)
+        ended = processes.run(["bash", "-c", script], 600, self.folder, hear=hear)
         self.assertEqual((ended.status, ended.output), (-signal.SIGKILL, "ready\nanswer\n"))
-        self.assertLess(time.monotonic() - began, 30)
+        self.assertLess(time.monotonic() - began, ENOUGH)
 
     def test_a_child_that_keeps_the_output_open_is_not_waited_for(self):
         began = time.monotonic()
-        ended = Processes().run(["sh", "-c", "sleep 100 & echo answer"], 100, self.folder)
+        ended = Processes().run(["sh", "-c", "sleep 600 & echo answer"], 600, self.folder)
         self.assertEqual((ended.status, ended.output, ended.timed_out), (0, "answer\n", False))
-        self.assertLess(time.monotonic() - began, 50)
+        self.assertLess(time.monotonic() - began, ENOUGH)
 
     def test_after_the_end_of_those_that_run_others_start(self):
         processes = Processes()
-        ended = processes.run(["sh", "-c", "echo ready; exec sleep 60"], 60, self.folder, hear=lambda data: processes.end_running())
+        ended = processes.run(["sh", "-c", "echo ready; exec sleep 600"], 600, self.folder, hear=lambda data: processes.end_running())
         self.assertEqual((ended.status, ended.timed_out), (-signal.SIGKILL, False))
         self.assertEqual(processes.run(["echo", "ready"], 60, self.folder).output, "ready\n")
 
@@ -70,7 +70,7 @@ class Groups(HelperTest):
             number = int(started.stdout.readline())
             self.assertTrue(is_alive(number))
             started.kill()
-        limit = time.monotonic() + 30
+        limit = time.monotonic() + ENOUGH
         while is_alive(number) and time.monotonic() < limit:
             time.sleep(0.01)
         self.assertFalse(is_alive(number))

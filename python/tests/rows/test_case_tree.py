@@ -179,7 +179,7 @@ class Trees(HelperTest):
         tree.run(Clock(600.0), [self.search.close])
         self.assertEqual(tree.certificate().text("x"), expected)
         with mock.patch.object(Worker, "_start", side_effect=OSError), self.assertRaises(SolverFault):
-            CaseWorker(Worker(self.solver, self.folder)).close(Clock(60.0), lambda rows, finder: True, CaseTask((), tree.root.proved, 135))
+            CaseWorker(Worker(self.solver, self.folder)).close(Clock(600.0), lambda rows, finder: True, CaseTask((), tree.root.proved, 135))
 
 
 class Stopped(LinearProgram):

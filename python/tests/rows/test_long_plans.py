@@ -114,7 +114,7 @@ class Parts(HelperTest):
             kept.append(sum(costs(week, cells).values()))
             return kept[-1]
 
-        search = RowSearch(Pricing(plan, Crews(plan), lambda: None), solver, Clock(60), offer, lambda: None)
+        search = RowSearch(Pricing(plan, Crews(plan), lambda: None), solver, Clock(600), offer, lambda: None)
         search.begin(matched_rows(plan, search.pricing.crews, lambda: None), None)
         search.generate(search.clock)
         RowParts(search, [solver, solver.beside(1)]).run(search.clock)
@@ -127,7 +127,7 @@ class Parts(HelperTest):
         plan = Plan.of(week.scenario, week.history, [week.data])
         solver = LinearSolver(Processes(), self.folder, self.fail)
         search = RowSearch(
-            Pricing(plan, Crews(plan), lambda: None), solver, Clock(60), lambda rows, finder: search.value_of(rows), lambda: None
+            Pricing(plan, Crews(plan), lambda: None), solver, Clock(600), lambda rows, finder: search.value_of(rows), lambda: None
         )
         search.begin(matched_rows(plan, search.pricing.crews, lambda: None), None)
         parts = RowParts(search, [solver, solver.beside(1)])
@@ -149,7 +149,7 @@ class Parts(HelperTest):
         plan, warnings = Plan.of(SCENARIO, HISTORY, WEEKS[:1]), []
         solver = LinearSolver(Processes(), self.folder, warnings.append)
         search = RowSearch(
-            Pricing(plan, Crews(plan), lambda: None), solver, Clock(60), lambda rows, finder: search.value_of(rows), lambda: None
+            Pricing(plan, Crews(plan), lambda: None), solver, Clock(600), lambda rows, finder: search.value_of(rows), lambda: None
         )
         search.begin(matched_rows(plan, search.pricing.crews, lambda: None), None)
         parts, failed = RowParts(search, [solver, solver.beside(1)]), threading.Event()
@@ -180,7 +180,7 @@ class Parts(HelperTest):
         solver = LinearSolver(Processes(), self.folder, self.fail)
         for ended, grows in ((True, True), (False, False)):
             search = RowSearch(
-                Pricing(plan, Crews(plan), lambda: None), solver, Clock(60), lambda rows, finder: search.value_of(rows), lambda: None
+                Pricing(plan, Crews(plan), lambda: None), solver, Clock(600), lambda rows, finder: search.value_of(rows), lambda: None
             )
             search.begin(matched_rows(plan, search.pricing.crews, lambda: None), None)
             parts = RowParts(search, [solver])

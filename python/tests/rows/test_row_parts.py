@@ -31,7 +31,9 @@ OFF, EARLY = (bytes([choice] * 7) for choice in (0, 1))
 def search_of(weeks):
     """A search over the rows of the first weeks of the month, with a first roster, and without a solver."""
     plan = Plan.of(SCENARIO, HISTORY, WEEKS[:weeks])
-    search = RowSearch(Pricing(plan, Crews(plan), lambda: None), None, Clock(60), lambda rows, _finder: search.value_of(rows), lambda: None)
+    search = RowSearch(
+        Pricing(plan, Crews(plan), lambda: None), None, Clock(600), lambda rows, _finder: search.value_of(rows), lambda: None
+    )
     search.begin(matched_rows(plan, search.pricing.crews, lambda: None), None)
     return search
 

@@ -9,7 +9,7 @@ import unittest
 from pathlib import Path
 from unittest import mock
 
-from ward import HAS_CBC, ROOT, HelperTest, files, records
+from ward import ENOUGH, HAS_CBC, ROOT, HelperTest, files, records
 
 from inrc2pb.rows import row_generation, row_program
 from inrc2pb.programs.clock import Clock, TimeIsOver
@@ -90,7 +90,7 @@ class RowSearches(HelperTest):
             return found[-1]
 
         # Nobody works in the first rows, and one nurse after another finds no better ones.
-        run = RowRun(plan, solver, Clock(60.0), offer, lambda: None, [bytes(14)] * 5)
+        run = RowRun(plan, solver, Clock(600.0), offer, lambda: None, [bytes(14)] * 5)
         with mock.patch.object(Descent, "sweep", return_value=0):
             run.run()
         self.assertTrue(found)
@@ -133,7 +133,7 @@ class RowSearches(HelperTest):
         for seconds in (0.0, 0.05, 0.3):
             began = time.monotonic()
             self.run_rows(week_of("thirty"), seconds=seconds)
-            self.assertLess(time.monotonic() - began, 60)
+            self.assertLess(time.monotonic() - began, ENOUGH)
 
     @unittest.skipUnless(HAS_CBC, "needs cbc")
     def test_a_cbc_that_fails_or_lies(self):
@@ -161,10 +161,10 @@ class RowSearches(HelperTest):
                 solver = LinearSolver(Processes(), self.folder, warnings.append)
                 for _ in range(MAX_FAULTS):
                     self.assertTrue(solver.chooses)
-                    self.assertEqual(solver.choose(model, Clock(60), None, 1), Chosen(None, False))
+                    self.assertEqual(solver.choose(model, Clock(600), None, 1), Chosen(None, False))
                 self.assertFalse(solver.chooses)
                 self.assertEqual(warnings, [f"{fault}: the search goes on without integer programs"])
-        self.assertEqual(LinearSolver(Processes(), self.folder, self.fail).choose(model, Clock(60), None, 1), Chosen(["v1"], True))
+        self.assertEqual(LinearSolver(Processes(), self.folder, self.fail).choose(model, Clock(600), None, 1), Chosen(["v1"], True))
 
     def fake(self, how):
         """A cbc that behaves so."""
@@ -178,12 +178,12 @@ class RowSearches(HelperTest):
         solver = LinearSolver(Processes(), self.folder, self.fail)
         self.addCleanup(solver.close)
         pricing = Pricing(plan, Crews(plan), lambda: None)
-        search = RowSearch(pricing, solver, Clock(60), lambda rows, finder: search.value_of(rows), lambda: None)
+        search = RowSearch(pricing, solver, Clock(600), lambda rows, finder: search.value_of(rows), lambda: None)
         search.begin(matched_rows(plan, search.pricing.crews, lambda: None), None)
         search.generate(search.clock)
         before = search.penalty
         with mock.patch.object(RowSearch, "_dive", side_effect=TimeIsOver):
-            self.assertIsNone(search.dive(Clock(60)))
+            self.assertIsNone(search.dive(Clock(600)))
         self.assertLess(search.penalty, before)
         cells = staffed(plan, search.pricing.crews, search.rows).cells
         self.assertEqual((first_broken(week, cells), sum(costs(week, cells).values())), (None, search.penalty))
@@ -193,11 +193,11 @@ class RowSearches(HelperTest):
         week = week_of("ward")
         plan = Plan.of(week.scenario, week.history, [week.data])
         search = RowSearch(
-            Pricing(plan, Crews(plan), lambda: None), Says(names, proved), Clock(60), lambda rows, finder: None, lambda: None
+            Pricing(plan, Crews(plan), lambda: None), Says(names, proved), Clock(600), lambda rows, finder: None, lambda: None
         )
         for nurse in range(len(plan.nurses)):
             search.add_row(nurse, bytes(7))
-        return search.choose(range(len(search.program.columns)), Clock(60), "test")
+        return search.choose(range(len(search.program.columns)), Clock(600), "test")
 
     def test_an_optimal_answer_below_minimums_claims_nothing(self):
         off = [f"v{number}" for number in range(len(week_of("ward").scenario.nurses))]

@@ -9,7 +9,7 @@ from unittest import mock
 
 from test_processes import is_alive
 from test_row_parts import LONG, search_of
-from ward import HAS_CBC, HelperTest
+from ward import ENOUGH, HAS_CBC, HelperTest
 
 from inrc2pb.programs.clock import Clock
 from inrc2pb.programs.processes import Processes
@@ -79,7 +79,7 @@ class Workers(HelperTest):
         with self.instead("import time; time.sleep(1000)"), mock.patch.object(workers, "GRACE", 0.1):
             began = time.monotonic()
             self.assertEqual(self.improve(self.parts, 0.5), (Done(False, 0), []))
-        self.assertLess(time.monotonic() - began, 30)
+        self.assertLess(time.monotonic() - began, ENOUGH)
         self.assertEqual(self.processes._running, {})
 
     def test_a_search_that_is_stopped(self):
@@ -106,7 +106,7 @@ class Workers(HelperTest):
         number = int(os.read(reading, 20))
         os.close(reading)
         os.close(writing)
-        limit = time.monotonic() + 30
+        limit = time.monotonic() + ENOUGH
         while is_alive(number) and time.monotonic() < limit:
             time.sleep(0.05)
         self.assertLess(time.monotonic(), limit)

@@ -3,13 +3,14 @@ written."""
 
 import os
 import shutil
+import signal
 import subprocess
 import sys
 import time
 import unittest
 from pathlib import Path
 
-from ward import HAS_CBC, HELPERS, HISTORY, ROSTER, SCENARIO, WARD, WEEK, WEEK_FILES, WEEK_OPTIONS, HelperTest, program, run
+from ward import ENOUGH, HAS_CBC, HELPERS, HISTORY, ROSTER, SCENARIO, WARD, WEEK, WEEK_FILES, WEEK_OPTIONS, HelperTest, program, run
 
 from inrc2pb.search.bounds import find_prover
 
@@ -41,7 +42,7 @@ class ChangingFiles(HelperTest):
         return path
 
     def solve(self, *words, **named):
-        return run("solve", *self.options, "--out", self.target, "--time", 60, *words, **named)
+        return run("solve", *self.options, "--out", self.target, "--time", ENOUGH, *words, **named)
 
     def solver(self, *commands):
         """A solver that runs these commands of a shell, the last of which prints its answer."""
@@ -117,7 +118,7 @@ class Inputs(ChangingFiles):
         self.options = (*WEEK_OPTIONS[:4], "--week", "/dev/zero")
         self.assert_fault(self.solve(), "inrc2pb-solve: /dev/zero: the file has more than 4194304 bytes")
         self.options = (*WEEK_OPTIONS[:4], "--week", WEEK, "--week", self.week)
-        status, _, said = run("solve", *self.options, "--out", self.folder / "out", "--time", 1)
+        status, _, said = run("solve", *self.options, "--out", self.folder / "out", "--time", ENOUGH)
         self.assertTrue(said.startswith(f"inrc2pb-solve: {self.week} line 1: "), said)
 
     @unittest.skipUnless(HAS_CBC, "needs cbc")
@@ -125,7 +126,7 @@ class Inputs(ChangingFiles):
         second, out = self.folder / "week-1.txt", self.folder / "out"
         shutil.copy(WARD / "week-1.txt", second)
         environment = self.program_that_first(f"cp {self.edited} {second}")
-        words = (*self.options, "--week", second, "--out", out, "--time", 3)
+        words = (*self.options, "--week", second, "--out", out, "--time", ENOUGH)
         status, printed, said = run("solve", *words, environment=environment)
         self.assertEqual(status, 0, said)
         self.assertEqual(printed.splitlines()[-1], CHANGED.format(second))
@@ -138,14 +139,14 @@ class Inputs(ChangingFiles):
         second, out = self.folder / "week-1.txt", self.folder / "out"
         shutil.copy(WARD / "week-1.txt", second)
         solver = self.solver(f"cp {self.edited} {second}", f"cat {self.answer(ROSTER)}")
-        status, printed, said = run("solve", *self.options, "--week", second, "--out", out, "--time", 20, "--solver", solver)
+        status, printed, said = run("solve", *self.options, "--week", second, "--out", out, "--time", ENOUGH, "--solver", solver)
         self.assertIn(CHANGED.format(second), printed + said)
         self.assertIn(f"week 2, {second}\n", said)
         self.assertIn("week 1: penalty 20, ", printed)
 
     def test_a_week_that_is_edited_during_a_run_of_the_competition(self):
         solver = self.solver(f"cp {self.edited} {self.week}", f"cat {self.answer(ROSTER)}")
-        words = ("--inrc2", *self.options, "--sol", self.target, "--timeout", 30, "--solver", solver)
+        words = ("--inrc2", *self.options, "--sol", self.target, "--timeout", ENOUGH, "--solver", solver)
         _, printed, said = run("solve", *words)
         self.assertIn("penalty 20\n", printed)
         self.assertIn(f"inrc2pb-solve: {CHANGED.format(self.week)}\n", said)
@@ -201,7 +202,7 @@ class Rosters(ChangingFiles):
 
     @unittest.skipUnless(HAS_CBC, "needs cbc")
     def test_a_better_plan_of_another_program_is_kept(self):
-        words = (*WEEK_OPTIONS, "--week", WARD / "week-1.txt", "--time", 3, "--out")
+        words = (*WEEK_OPTIONS, "--week", WARD / "week-1.txt", "--time", ENOUGH, "--out")
         good, out = self.folder / "good", self.folder / "out"
         self.assertEqual(run("solve", *words, good)[0], 0)
         # Without a solver there is a first plan only.
@@ -220,11 +221,13 @@ class Rosters(ChangingFiles):
         with subprocess.Popen(command, stdout=subprocess.PIPE, stderr=subprocess.PIPE) as searching:
             while not (out / "history-2.txt").exists() and searching.poll() is None:
                 time.sleep(0.05)
-            # It is stopped before it can find a better plan.
-            searching.terminate()
+            # The garbage is there before the search can end.
+            searching.send_signal(signal.SIGSTOP)
             for name in ("roster-1.txt", "history-1.txt"):
                 (out / name).write_text("garbage\n")
-            printed, said = searching.communicate(timeout=120)
+            searching.terminate()
+            searching.send_signal(signal.SIGCONT)
+            printed, said = searching.communicate(timeout=ENOUGH)
         self.assertIn(b"period ", printed, said)
         second_week = program.WeekFiles(SCENARIO, out / "history-1.txt", WARD / "week-1.txt")
         self.assertIn(f"week 2: penalty {program.penalty_of(second_week, out / 'roster-1.txt')}, ".encode(), printed)
@@ -235,7 +238,7 @@ class Locks(ChangingFiles):
         """A search that waits for the file `go`, and then finds the roster of the example."""
         running, go = self.folder / "running", self.folder / "go"
         slow = self.script("slow.sh", f"touch {running}\nwhile ! [ -e {go} ]; do sleep 0.1; done\ncat {self.answer(ROSTER)}\n")
-        command = [sys.executable, HELPERS / "inrc2pb-solve", *self.options, "--time", 60, "--solver", slow, *words]
+        command = [sys.executable, HELPERS / "inrc2pb-solve", *self.options, "--time", ENOUGH, "--solver", slow, *words]
         search = subprocess.Popen([*map(str, command)], stdout=subprocess.PIPE, stderr=subprocess.PIPE)
         self.addCleanup(search.communicate)
         self.addCleanup(search.kill)
@@ -249,12 +252,12 @@ class Locks(ChangingFiles):
         self.assert_fault(self.solve("--solver", self.solver(f"cat {self.answer(self.worse)}")), line, 2)
         link = self.folder / "link.txt"
         link.symlink_to(self.target)
-        second = run("solve", *self.options, "--out", link, "--time", 60)
+        second = run("solve", *self.options, "--out", link, "--time", ENOUGH)
         self.assert_fault(second, line.replace("best.txt", "link.txt"), 2)
-        period = run("solve", *self.options, "--out", self.folder, "--time", 1, "--solver", "false")
+        period = run("solve", *self.options, "--out", self.folder, "--time", ENOUGH, "--solver", "false")
         self.assertNotEqual(period[0], 2, "the folder has other files")
         (self.folder / "go").touch()
-        report, said = first.communicate(timeout=60)
+        report, said = first.communicate(timeout=ENOUGH)
         self.assertEqual((first.returncode, b"penalty 20\n" in report), (0, True), said)
         self.assertEqual(list(self.folder.glob(".*")), [])
 
@@ -266,7 +269,7 @@ class Locks(ChangingFiles):
         said = second.stderr.readline()
         self.assertEqual(said.decode(), f"inrc2pb-solve: another search writes {self.target}: this one waits until it has ended\n")
         (self.folder / "go").touch()
-        report, _ = second.communicate(timeout=60)
+        report, _ = second.communicate(timeout=ENOUGH)
         self.assertEqual((second.returncode, b"penalty 20\n" in report), (0, True))
 
     def test_a_wait_can_be_stopped(self):
@@ -275,7 +278,7 @@ class Locks(ChangingFiles):
         second = subprocess.Popen([sys.executable, str(HELPERS / "inrc2pb-solve"), *words], stdout=subprocess.PIPE, stderr=subprocess.PIPE)
         second.stderr.readline()
         second.terminate()
-        _, said = second.communicate(timeout=60)
+        _, said = second.communicate(timeout=ENOUGH)
         self.assertEqual((second.returncode, said.decode()), (5, f"inrc2pb-solve: stopped while another search writes {self.target}\n"))
 
     def test_the_lock_of_a_killed_run_does_not_stay(self):
@@ -293,7 +296,7 @@ class Locks(ChangingFiles):
         self.options = (*self.options, *second)
         self.running("--out", out)
         line = f"another search writes {out / 'roster-0.txt'}: wait until it has ended (--wait), or choose another file"
-        self.assert_fault(run("solve", *self.options, "--out", out, "--time", 1), f"inrc2pb-solve: {line}", 2)
+        self.assert_fault(run("solve", *self.options, "--out", out, "--time", ENOUGH), f"inrc2pb-solve: {line}", 2)
 
 
 class Protected(ChangingFiles):
@@ -325,7 +328,7 @@ class Protected(ChangingFiles):
         says = f"{self.target}: Permission denied: you may not read or write it: look at its permissions"
         for command, words in (
             ("solve", (*self.options, "--out", self.target, "--solver", f"sh {self.solver(f'cat {self.answer(ROSTER)}')}")),
-            ("solve", ("--inrc2", *self.options, "--sol", self.target, "--timeout", 5)),
+            ("solve", ("--inrc2", *self.options, "--sol", self.target, "--timeout", ENOUGH)),
             ("roster", ("why", *self.options, "--roster", self.worse, "--out", self.target)),
             ("roster", ("show", "--roster", self.worse, "--out", self.target)),
             ("roster", ("next", *self.options[:4], "--roster", self.worse, "--out", self.target)),

@@ -12,7 +12,7 @@ import unittest
 from types import SimpleNamespace
 from unittest import mock
 
-from ward import EARLY_ANSWER, HAS_CBC, HELPERS, ROOT, ROSTER, SCENARIO, THIRTY_FILES, WEEK, WEEK_FILES, WEEK_OPTIONS
+from ward import EARLY_ANSWER, ENOUGH, HAS_CBC, HELPERS, ROOT, ROSTER, SCENARIO, THIRTY_FILES, WEEK, WEEK_FILES, WEEK_OPTIONS
 from ward import HelperTest, program, run
 
 from inrc2pb.search import bounds
@@ -56,14 +56,14 @@ class Searches(HelperTest):
     def test_it_finds_the_best_roster_from_a_worse_one(self):
         start = self.swapped("Amara", "Bruno")
         self.assertEqual(program.penalty_of(WEEK_FILES, start), 110)
-        outcome = improve(WEEK_FILES, self.target, start=start, seconds=60)
+        outcome = improve(WEEK_FILES, self.target, start=start, seconds=ENOUGH)
         self.assertEqual((outcome.report.penalty, outcome.bound, outcome.proved), (20, 20, True))
         self.assertEqual(program.penalty_of(WEEK_FILES, self.target), 20)
 
     def test_a_search_that_is_stopped_has_the_best_roster(self):
         start, progress = self.folder / "start.txt", UntilBetter()
         program.decode(THIRTY_FILES, EARLY_ANSWER.read_text(), start)
-        outcome = search(THIRTY_FILES, self.target, start, 60, None, None, progress)
+        outcome = search(THIRTY_FILES, self.target, start, 600, None, None, progress)
         self.assertTrue(outcome.stopped)
         self.assertEqual(program.penalty_of(THIRTY_FILES, self.target), progress.penalties[-1])
         self.assertLess(progress.penalties[1], progress.penalties[0])
@@ -91,7 +91,7 @@ class Searches(HelperTest):
 
     @unittest.skipUnless(HAS_CBC, "needs cbc")
     def test_a_roster_written_to_standard_output(self):
-        status, printed, _ = run("solve", *WEEK_OPTIONS, "--out", "/dev/stdout", "--time", 60)
+        status, printed, _ = run("solve", *WEEK_OPTIONS, "--out", "/dev/stdout", "--time", ENOUGH)
         self.assertEqual(status, 0)
         self.assertIn("SOLUTION\n0 ward\n", printed)
         self.assertIn("penalty 20\n", printed)
@@ -136,7 +136,7 @@ class Lines(unittest.TestCase):
 
 class BadInput(HelperTest):
     def assert_refused(self, status, says, *words):
-        ran = run("solve", *words, *(() if "--time" in words else ("--time", 3)))
+        ran = run("solve", *words, *(() if "--time" in words else ("--time", ENOUGH)))
         self.assertEqual((ran[0], ran[1]), (status, ""), ran[2])
         self.assertIn(says, ran[2])
         self.assertEqual(ran[2].count("\n"), 1, ran[2])
@@ -194,7 +194,7 @@ class BadInput(HelperTest):
     def test_files_of_another_week(self):
         other = self.solution(*ROSTER.read_text().splitlines()[4:], week=3)
         target = self.folder / "best.txt"
-        words = (*WEEK_OPTIONS, "--out", target, "--time", 60)
+        words = (*WEEK_OPTIONS, "--out", target, "--time", ENOUGH)
         status, report, said = run("solve", *words, "--fix", other)
         self.assertEqual(status, 0, said)
         hint = "line 2 has week 3, and the history has week 0: is the file of another week?"
@@ -209,7 +209,7 @@ class BadInput(HelperTest):
     def test_a_week_that_no_roster_meets(self):
         eight = ROOT / "examples" / "eight"
         words = ("--sce", eight / "ward.txt", "--his", eight / "history-1.txt", "--week", eight / "week-1.txt")
-        status, report, said = run("solve", *words, "--out", self.folder / "best.txt", "--time", 60)
+        status, report, said = run("solve", *words, "--out", self.folder / "best.txt", "--time", ENOUGH)
         self.assertEqual((status, report), (5, ""))
         self.assertRegex(said.splitlines()[-1], rf"no roster keeps the hard rules \(({PROVER}|{PLAIN})\): ")
 
@@ -257,9 +257,7 @@ class Stops(HelperTest):
             line = search.stderr.readline()
             self.assertIn(b"penalty", line)
             search.send_signal(number)
-            began = time.monotonic()
             report, _ = search.communicate(timeout=300)
-            self.assertLess(time.monotonic() - began, 300)
             self.assertEqual(search.returncode, 0)
             penalty = int(re.search(r"^penalty (\d+)$", report.decode(), re.MULTILINE).group(1))
             self.assertEqual(program.penalty_of(THIRTY_FILES, target), penalty)

@@ -3,7 +3,7 @@
 import itertools
 import unittest
 from dataclasses import replace
-from ward import HAS_CBC, HISTORY, ROSTER, SCENARIO, WEEK, WEEK_OPTIONS, HelperTest, files, run
+from ward import ENOUGH, HAS_CBC, HISTORY, ROSTER, SCENARIO, WEEK, WEEK_OPTIONS, HelperTest, files, run
 
 from inrc2pb.judging.limits import exceeded, excess, limits_in_words, limits_way_out, read_given, with_given
 from inrc2pb.rows.plan import ABSENCES_KEPT, FEW_BROKEN, FREE, STRICT, Plan
@@ -204,7 +204,7 @@ class Commands(HelperTest):
         )
         wrong = self.give(Claim(Choice(2, "Chen", 4, "Day")))
         line = f"{self.facts}: 'HOLDS CHOICE 2 Chen Fri Day' is neither an absence nor a limit of a nurse: remove it"
-        self.assert_fault(run("solve", *WEEK_OPTIONS, *wrong, "--out", self.folder / "r.txt", "--time", 1), f"inrc2pb-solve: {line}")
+        self.assert_fault(run("solve", *WEEK_OPTIONS, *wrong, "--out", self.folder / "r.txt", "--time", ENOUGH), f"inrc2pb-solve: {line}")
 
     @unittest.skipUnless(HAS_CBC, "needs cbc")
     def test_a_search_keeps_absences_and_limits(self):
@@ -214,7 +214,7 @@ class Commands(HelperTest):
             Claim(Choice(1, "Grace", 6, "Day"), False),
             *(Claim(Charged(kind, None, 0)) for kind in ("WORK_DAYS", "WEEKENDS")),
         ]
-        status, report, said = run("solve", *WEEK_OPTIONS, *self.give(*claims), "--out", target, "--time", 20)
+        status, report, said = run("solve", *WEEK_OPTIONS, *self.give(*claims), "--out", target, "--time", ENOUGH)
         self.assertEqual((status, "no roster was found" in said), (0, False), said)
         self.assertRegex(report, "\nlower bound [0-9]+ ")
         cells = files.read_solution(target).cells
@@ -228,7 +228,7 @@ class Commands(HelperTest):
         away = [Claim(Choice(1, nurse, day, None)) for nurse in ("Amara", "Bruno") for day in range(6)]
         target = self.folder / "roster.txt"
         given = self.give(*away, Claim(Charged("WORK_DAYS", "Ewa", 0)))
-        status, _, said = run("solve", *WEEK_OPTIONS, *given, "--out", target, "--time", 20)
+        status, _, said = run("solve", *WEEK_OPTIONS, *given, "--out", target, "--time", ENOUGH)
         self.assertEqual(status, 0, said)
         self.assertIn("no roster was found that keeps every limit: Ewa has 6 days of work in a row, Mon to Sat, of at most 3\n", said)
         self.assertIn(
@@ -236,7 +236,7 @@ class Commands(HelperTest):
         )
         self.assertFalse([cell for cell in files.read_solution(target).cells if cell.nurse in ("Amara", "Bruno") and cell.day < 6])
         period = self.folder / "period"
-        status, printed, said = run("solve", *WEEK_OPTIONS, "--week", WEEK, *given, "--out", period, "--time", 8)
+        status, printed, said = run("solve", *WEEK_OPTIONS, "--week", WEEK, *given, "--out", period, "--time", ENOUGH)
         self.assertEqual(status, 0, said)
         self.assertIn("week 1: no plan was found that keeps every limit: Ewa has 6 days of work in a row, Mon to Sat, of at most 3\n", said)
         self.assertNotIn("absence", said)
@@ -256,7 +256,7 @@ class Commands(HelperTest):
             "--out",
             self.folder / "period",
             "--time",
-            10,
+            ENOUGH,
         )
         status, printed, said = run("solve", *words)
         self.assertEqual((status, "no plan was found" in said), (0, False), said)

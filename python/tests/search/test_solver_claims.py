@@ -4,9 +4,11 @@ import re
 import shutil
 import subprocess
 import unittest
+from unittest import mock
 
-from ward import HAS_CBC, ROOT, ROSTER, WEEK_FILES, WEEK_OPTIONS, HelperTest, program, run
+from ward import ENOUGH, HAS_CBC, ROOT, ROSTER, WEEK_FILES, WEEK_OPTIONS, HelperTest, program, run
 
+from inrc2pb.search import solver_run
 from inrc2pb.search.bounds import PROVER, find_prover
 from inrc2pb.search.claims import Answered, Kind, Known, judged
 
@@ -143,7 +145,7 @@ class OwnSolvers(HelperTest):
         path = self.folder / "printed.txt"
         path.write_text(answer)
         solver = self.script("mine", f"cat {path}\n")
-        return run("solve", *WEEK_OPTIONS, "--out", self.target, "--time", 60, "--solver", solver, *words)
+        return run("solve", *WEEK_OPTIONS, "--out", self.target, "--time", ENOUGH, "--solver", solver, *words)
 
     def answer(self, roster, status="OPTIMUM FOUND"):
         return program.answer_with(WEEK_FILES, roster).replace("s SATISFIABLE", f"s {status}")
@@ -168,16 +170,12 @@ class OwnSolvers(HelperTest):
         self.assertTrue(proof.read_text().startswith("CERTIFICATE ward\n"))
 
     def test_a_claim_that_is_open(self):
-        words = ("--out", self.target, "--solver", self.slow(self.answer(ROSTER)), "--time", 1)
-        status, report, said = run("solve", *WEEK_OPTIONS, *words)
+        # As if the solver had used up the time, so that none is left for a search.
+        with mock.patch.object(solver_run, "SECONDS", 0.0):
+            status, report, said = self.solve(self.answer(ROSTER))
         self.assertEqual(status, 0, said)
-        self.assertRegex(report, r"\nslow claims 20; not proved( \(gap [0-9]+\))?\n$")
+        self.assertTrue(report.endswith("\nmine claims 20; not proved\n"), report)
         self.assertTrue(report.startswith("status SATISFIABLE\n"), report)
-
-    def slow(self, answer):
-        """A solver that uses up its time before it prints this answer."""
-        (self.folder / "late.txt").write_text(answer)
-        return self.script("slow", f"trap 'cat {self.folder}/late.txt; exit' TERM\nwhile :; do sleep 0.1; done\n")
 
     def test_a_claim_that_the_answer_refutes(self):
         status, report, said = self.solve(self.with_a_slack(self.swapped("Amara", "Bruno")))
@@ -235,7 +233,7 @@ class RealSolvers(HelperTest):
         for name, words in commands.items():
             if not shutil.which(name):
                 continue
-            ran = subprocess.run(words, stdout=subprocess.PIPE, stderr=subprocess.DEVNULL, text=True, timeout=300)
+            ran = subprocess.run(words, stdout=subprocess.PIPE, stderr=subprocess.DEVNULL, text=True, timeout=600)
             printed = run("solve", "--answer", self.folder / "cbc.sol")[1] if name == "cbc" else ran.stdout
             answers.append(self.folder / f"{name}.txt")
             answers[-1].write_text(printed)

@@ -1,5 +1,5 @@
-"""Stops `inrc2pb-solve` at random moments, by Ctrl-C or TERM. Each roster that it has written is one that `extend` accepts, at the penalty
-that was reported, and no solver and no file is left."""
+"""Stops `inrc2pb-solve` at random moments, by Ctrl-C or TERM: some after its start, and some after its first roster. Each roster that it has
+written is one that `extend` accepts, at the penalty that was reported, and no solver and no file is left."""
 
 import random
 import signal
@@ -8,7 +8,7 @@ import sys
 import time
 import unittest
 
-from ward import HAS_CBC, HELPERS, ROOT, HelperTest, program
+from ward import ENOUGH, HAS_CBC, HELPERS, ROOT, HelperTest, program
 
 STOPS = 20
 # In the background a child ignores Ctrl-C: it is asked to heed it.
@@ -24,15 +24,18 @@ class Stops(HelperTest):
         self.week = [str(word) for word in ("--sce", ward / "ward.txt", "--his", ward / "history-3.txt", "--week", ward / "week-3.txt")]
         self.roster = self.folder / "roster"
 
-    def stopped(self, number, seconds):
-        """The status, the report and the messages of a search that gets this signal after so many seconds."""
+    def stopped(self, number, seconds, has_roster):
+        """The status, the report and the messages of a search that gets this signal so many seconds after its start, or after its first
+        roster."""
         self.roster.unlink(missing_ok=True)
-        words = [sys.executable, "-c", HEEDS, str(HELPERS / "inrc2pb-solve"), *self.week, "--out", str(self.roster), "--time", "12"]
+        words = [sys.executable, "-c", HEEDS, str(HELPERS / "inrc2pb-solve"), *self.week, "--out", str(self.roster), "--time", str(ENOUGH)]
         environment = {"PATH": "/usr/local/bin:/usr/bin:/bin", "TMPDIR": str(self.folder), "INRC2PB": str(program.find_program())}
         with subprocess.Popen(words, env=environment, stdout=subprocess.PIPE, stderr=subprocess.PIPE, text=True) as search:
+            while has_roster and not self.roster.exists() and search.poll() is None:
+                time.sleep(0.01)
             time.sleep(seconds)
             search.send_signal(number)
-            printed, said = search.communicate()
+            printed, said = search.communicate(timeout=ENOUGH)
         return search.returncode, printed, said
 
     def penalty(self):
@@ -42,13 +45,13 @@ class Stops(HelperTest):
         return ran.stdout.splitlines()[0].removeprefix("o ")
 
     def test_stops_at_random_moments(self):
-        chance, with_roster = random.Random(1), 0
+        chance = random.Random(1)
         for stop in range(STOPS):
-            number, tenths = (signal.SIGTERM, signal.SIGINT)[stop % 2], chance.randint(1, 40)
-            with self.subTest(signal=number, tenths=tenths):
-                status, printed, said = self.stopped(number, tenths / 10)
+            number, has_roster, tenths = (signal.SIGTERM, signal.SIGINT)[stop % 2], stop % 4 < 2, chance.randint(0, 40)
+            with self.subTest(signal=number, tenths=tenths, has_roster=has_roster):
+                status, printed, said = self.stopped(number, tenths / (40 if has_roster else 10), has_roster)
+                self.assertTrue(self.roster.exists() or not has_roster, said)
                 if self.roster.exists():
-                    with_roster += 1
                     self.assertEqual(status, 0, said)
                     self.assertIn(f"penalty {self.penalty()}", printed.splitlines())
                 else:
@@ -56,5 +59,4 @@ class Stops(HelperTest):
                     self.assertEqual(printed, "")
                 left = [path.name for path in self.folder.iterdir() if path.name.startswith(("inrc2pb-solve-", ".roster."))]
                 self.assertEqual(left, [])
-        self.assertGreaterEqual(with_roster, 1)
         self.assertEqual(subprocess.run(["pgrep", "-af", str(self.folder)], stdout=subprocess.PIPE).stdout, b"")

@@ -10,7 +10,7 @@ from dataclasses import replace
 from pathlib import Path
 from unittest import mock
 
-from ward import HAS_CBC, ROOT, ROSTER, WEEK_FILES, WEEK_OPTIONS, HelperTest, program, run
+from ward import ENOUGH, HAS_CBC, ROOT, ROSTER, WEEK_FILES, WEEK_OPTIONS, HelperTest, program, run
 
 from inrc2pb.week.faults import Misuse
 from inrc2pb.programs.processes import Ended, Processes
@@ -26,7 +26,7 @@ def fake(how):
 
 class OwnSolvers(HelperTest):
     def improve(self, *words):
-        usual = () if "--time" in words else ("--time", 60)
+        usual = () if "--time" in words else ("--time", ENOUGH)
         return run("solve", *WEEK_OPTIONS, "--out", self.folder / "best.txt", *usual, *words)
 
     def test_a_solver_that_fails_leaves_the_roster(self):
@@ -102,7 +102,7 @@ class OwnSolvers(HelperTest):
                 status, _, faults = self.improve("--time", 1, "--solver", fake(how))
                 self.assertIn(status, (1, 5))
                 self.assertRegex(faults.splitlines()[-1], says)
-                self.assertLess(time.monotonic() - began, 60)
+                self.assertLess(time.monotonic() - began, ENOUGH)
                 self.assertFalse((self.folder / "best.txt").exists())
 
     def test_a_flood_is_judged_at_once(self):

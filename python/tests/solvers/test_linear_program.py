@@ -7,7 +7,6 @@ import shutil
 import subprocess
 import sys
 import tempfile
-import time
 import unittest
 from pathlib import Path
 from unittest import mock
@@ -80,14 +79,12 @@ class NoResult(HelperTest):
     def test_a_result_file_that_is_far_too_long(self):
         huge = self.folder / "week.sol"
         huge.touch()
-        os.truncate(huge, 8 << 30)
-        began = time.monotonic()
+        os.truncate(huge, 1 << 42)
         self.assert_fault(run("solve", "--answer", huge), f"inrc2pb-solve: {huge} has more than 256 MiB: this is no answer")
         outcome = answer_of_file(huge)
         self.assertEqual(
             (outcome.answer, outcome.fault), ("", f"its result file has a fault: {huge} has more than 256 MiB: this is no answer")
         )
-        self.assertLess(time.monotonic() - began, 10)
 
 
 class LinearPrograms(unittest.TestCase):

@@ -12,7 +12,7 @@ import unittest
 from unittest import mock
 
 from test_processes import is_alive
-from ward import HAS_CBC, HelperTest
+from ward import ENOUGH, HAS_CBC, HelperTest
 
 from inrc2pb.programs.clock import Clock, TimeIsOver
 from inrc2pb.programs.processes import Processes
@@ -49,81 +49,81 @@ class Programs(HelperTest):
 @unittest.skipUnless(HAS_CLP, "needs Clp's library")
 class Solutions(Programs):
     def test_a_program_by_hand(self):
-        found = self.small().solve(Clock(60))
+        found = self.small().solve(Clock(600))
         # Two of the first column and one of the second: one more would cost 3, and one more of the first saves 1.
         self.assertEqual((found.status, found.value, list(found.columns), list(found.prices)), (OPTIMAL, 7.0, [2.0, 1.0], [3.0]))
         self.assertEqual(list(found.rises), [-1.0, 0.0])
 
     def test_changes(self):
         program = self.small()
-        self.assertEqual(program.solve(Clock(60)).value, 7.0)
+        self.assertEqual(program.solve(Clock(600)).value, 7.0)
         self.assertEqual(program.add_columns([Column(1.0, 0.0, 0.5, [(0, 1.0)])]), 2)
-        self.assertEqual(program.solve(Clock(60)).value, 0.5 + 4.0 + 1.5)
+        self.assertEqual(program.solve(Clock(600)).value, 0.5 + 4.0 + 1.5)
         program.bound_columns({0: (0.0, 0.0), 2: (0.0, 1.0)})
-        self.assertEqual(program.solve(Clock(60), DUAL).value, 1.0 + 6.0)
+        self.assertEqual(program.solve(Clock(600), DUAL).value, 1.0 + 6.0)
         program.set_costs({1: 5.0})
-        self.assertEqual(program.solve(Clock(60)).value, 1.0 + 10.0)
+        self.assertEqual(program.solve(Clock(600)).value, 1.0 + 10.0)
         program.bound_rows({0: (1.0, 2.0)})
-        self.assertEqual(program.solve(Clock(60), DUAL).value, 1.0)
+        self.assertEqual(program.solve(Clock(600), DUAL).value, 1.0)
         program.bound_rows({0: (9.0, INF)})
         program.bound_columns({1: (0.0, 1.0)})
-        found = program.solve(Clock(60), DUAL)
+        found = program.solve(Clock(600), DUAL)
         self.assertEqual((found.status, found.value), (INFEASIBLE, INF))
         program.bound_columns({1: (0.0, INF)})
-        self.assertEqual(program.solve(Clock(60)).value, 1.0 + 40.0)
+        self.assertEqual(program.solve(Clock(600)).value, 1.0 + 40.0)
 
     def test_a_row_that_comes_later(self):
         program = self.small()
-        program.solve(Clock(60))
+        program.solve(Clock(600))
         program.add_rows([(-INF, 1.0)])
         program.add_columns([Column(0.0, 0.0, INF, [(0, 1.0), (1, 2.0)])])
-        self.assertEqual(program.solve(Clock(60)).value, 0.5 * 0 + 2.0 * 2 + 3.0 * 0.5)
+        self.assertEqual(program.solve(Clock(600)).value, 0.5 * 0 + 2.0 * 2 + 3.0 * 0.5)
 
     def test_two_programs_of_one_child(self):
         one, other = self.small(), self.small()
         other.bound_rows({0: (1.0, INF)})
-        self.assertEqual([one.solve(Clock(60)).value, other.solve(Clock(60)).value, one.solve(Clock(60)).value], [7.0, 2.0, 7.0])
+        self.assertEqual([one.solve(Clock(600)).value, other.solve(Clock(600)).value, one.solve(Clock(600)).value], [7.0, 2.0, 7.0])
         one.close()
-        self.assertEqual(other.solve(Clock(60)).value, 2.0)
+        self.assertEqual(other.solve(Clock(600)).value, 2.0)
 
     def test_only_the_value(self):
-        found = self.small().solve(Clock(60), whole=False)
+        found = self.small().solve(Clock(600), whole=False)
         self.assertEqual((found.value, found.prices, found.columns), (7.0, found.rises, found.rises))
 
     def test_a_basis_that_is_kept(self):
         program = covering(self.program(), 40)
-        first = program.solve(Clock(60))
+        first = program.solve(Clock(600))
         program.bound_columns({number: (0.0, 0.0) for number in range(0, 40, 3)})
-        program.solve(Clock(60))
+        program.solve(Clock(600))
         program.bound_columns({number: (0.0, INF) for number in range(0, 40, 3)})
         program.take_basis(first.basis)
-        again = program.solve(Clock(60))
+        again = program.solve(Clock(600))
         self.assertAlmostEqual(again.value, first.value, 6)
         self.assertLess(again.iterations, max(3, first.iterations))
 
     def test_a_part_begins_at_the_basis_of_the_whole(self):
         whole = covering(self.program(), 200)
-        first = whole.solve(Clock(60))
+        first = whole.solve(Clock(600))
         # As another process gets it.
-        copied = pickle.loads(pickle.dumps(whole)).part(range(whole.columns), self.program()).solve(Clock(60))
+        copied = pickle.loads(pickle.dumps(whole)).part(range(whole.columns), self.program()).solve(Clock(600))
         self.assertAlmostEqual(copied.value, first.value, 6)
         self.assertEqual(copied.iterations, 0)
         left = [number for number, value in enumerate(first.columns) if value > 1e-9 or number % 3 == 0]
         part = whole.part(left, self.program())
-        found = part.solve(Clock(60))
+        found = part.solve(Clock(600))
         self.assertEqual((part.columns, found.iterations), (len(left), 0))
         self.assertEqual([round(value, 6) for value in found.columns], [round(first.columns[number], 6) for number in left])
 
     def test_a_limit_of_iterations(self):
         program = covering(self.program(), 200)
-        self.assertEqual(program.solve(Clock(60), DUAL, iterations=2).status, STOPPED)
-        self.assertEqual(program.solve(Clock(60)).status, OPTIMAL)
+        self.assertEqual(program.solve(Clock(600), DUAL, iterations=2).status, STOPPED)
+        self.assertEqual(program.solve(Clock(600)).status, OPTIMAL)
 
     @unittest.skipUnless(HAS_CBC, "needs cbc")
     def test_cbc_agrees(self):
         for seed, how in ((1, DUAL), (2, PRIMAL)):
             program = covering(self.program(), 30 * seed, seed)
-            found = program.solve(Clock(60), how)
+            found = program.solve(Clock(600), how)
             model, answer = self.folder / "model.mps", self.folder / "answer.txt"
             model.write_text(program.text([f"v{number}" for number in range(program.columns)], "x"))
             subprocess.run(["cbc", str(model), "solve", "solution", str(answer)], stdout=subprocess.DEVNULL, check=True)
@@ -146,34 +146,34 @@ class Faults(Programs):
     @unittest.skipUnless(HAS_CLP, "needs Clp's library")
     def test_a_child_that_is_killed_starts_again(self):
         program = self.small()
-        self.assertEqual(program.solve(Clock(60)).value, 7.0)
+        self.assertEqual(program.solve(Clock(600)).value, 7.0)
         program.bound_rows({0: (4.0, INF)})
         self.processes.end_running()
         self.child._process.wait()
-        self.assertEqual(program.solve(Clock(60)).value, 10.0)
+        self.assertEqual(program.solve(Clock(600)).value, 10.0)
         self.assertEqual(self.child.broken, "")
 
     @unittest.skipUnless(HAS_CLP, "needs Clp's library")
     def test_a_child_that_hangs(self):
         program = self.small()
-        program.solve(Clock(60))
+        program.solve(Clock(600))
         os.kill(self.child._process.pid, signal.SIGSTOP)
         began = time.monotonic()
         with self.assertRaises(TimeIsOver):
             program.solve(Clock(0.2))
-        self.assertLess(time.monotonic() - began, 30)
-        self.assertEqual(program.solve(Clock(60)).value, 7.0)
+        self.assertLess(time.monotonic() - began, ENOUGH)
+        self.assertEqual(program.solve(Clock(600)).value, 7.0)
 
     @unittest.skipUnless(HAS_CLP, "needs Clp's library")
     def test_a_search_that_is_stopped(self):
         program = self.small()
-        program.solve(Clock(60))
+        program.solve(Clock(600))
         os.kill(self.child._process.pid, signal.SIGSTOP)
         threading.Timer(0.2, self.processes.stop).start()
         with self.assertRaises(TimeIsOver):
-            program.solve(Clock(60))
+            program.solve(Clock(600))
         with self.assertRaises(TimeIsOver):
-            program.solve(Clock(60))
+            program.solve(Clock(600))
 
     @unittest.skipUnless(HAS_CLP, "needs Clp's library")
     def test_a_child_ends_with_its_parent(self):
@@ -183,14 +183,14 @@ class Faults(Programs):
             program = LinearProgram(Child(Processes(), self.folder))
             program.add_rows([(1.0, INF)])
             program.add_columns([Column(1.0, 0.0, INF, [(0, 1.0)])])
-            program.solve(Clock(60))
+            program.solve(Clock(600))
             os.write(writing, str(program._child._process.pid).encode())
             os.kill(os.getpid(), signal.SIGKILL)
         os.waitpid(parent, 0)
         number = int(os.read(reading, 20))
         os.close(reading)
         os.close(writing)
-        limit = time.monotonic() + 30
+        limit = time.monotonic() + ENOUGH
         while is_alive(number) and time.monotonic() < limit:
             time.sleep(0.05)
         self.assertLess(time.monotonic(), limit)
@@ -222,12 +222,12 @@ class Faults(Programs):
                 program = self.small()
                 for _ in range(2):
                     with self.assertRaisesRegex(SolverFault, fault):
-                        program.solve(Clock(60))
+                        program.solve(Clock(600))
                 self.assertLessEqual(self.child.starts, MAX_FAULTS)
 
     def test_without_any_solver(self):
         with self.assertRaises(SolverFault):
-            LinearProgram(None).solve(Clock(60))
+            LinearProgram(None).solve(Clock(600))
 
 
 class Texts(Programs):

@@ -8,7 +8,7 @@ import unittest
 from pathlib import Path
 from unittest import mock
 
-from ward import HISTORY, ROSTER, SCENARIO, WEEK, WEEK_FILES, WEEK_OPTIONS, HelperTest, program, run
+from ward import ENOUGH, HISTORY, ROSTER, SCENARIO, WEEK, WEEK_FILES, WEEK_OPTIONS, HelperTest, program, run
 
 from inrc2pb.commands import command
 from inrc2pb.commands.solve import main
@@ -23,7 +23,7 @@ class Targets(HelperTest):
     """Rosters that cannot be written, also by root. The fault is one line with advice, the status is 3, and an older roster stays."""
 
     def improve(self, target):
-        return run("solve", *WEEK_OPTIONS, "--out", target, "--time", 60)
+        return run("solve", *WEEK_OPTIONS, "--out", target, "--time", ENOUGH)
 
     def assert_not_written(self, target, says):
         self.assert_fault(self.improve(target), f"inrc2pb-solve: {target}: {says}", 3)
@@ -67,7 +67,7 @@ class Targets(HelperTest):
         for target in (roster, link):
             with self.subTest(target.name), contextlib.redirect_stderr(io.TextIOWrapper(io.BytesIO())) as said:
                 shutil.copy(start, roster)
-                words = [*WEEK_OPTIONS, "--roster", start, "--out", target, "--time", 60]
+                words = [*WEEK_OPTIONS, "--roster", start, "--out", target, "--time", ENOUGH]
                 unchanged = mock.patch("inrc2pb.commands.command._catch_signals")
                 with mock.patch("sys.argv", ["inrc2pb-solve"]), mock.patch("os.open", self.full_after(2)), unchanged:
                     with self.assertRaises(SystemExit) as ended, contextlib.redirect_stdout(io.TextIOWrapper(io.BytesIO())):
@@ -104,7 +104,7 @@ class InputsStay(HelperTest):
         shutil.copy(ROSTER, roster)
         week = {name: shutil.copy(path, self.folder / name) for name, path in (("history-1.txt", HISTORY), ("week.txt", WEEK))}
         of_week = ("--sce", SCENARIO, "--his", HISTORY, "--week", week["week.txt"])
-        period = ("solve", "--time", 1, "--out", self.folder, "--solver", "false", "--sce", SCENARIO, "--his")
+        period = ("solve", "--time", ENOUGH, "--out", self.folder, "--solver", "false", "--sce", SCENARIO, "--his")
         goes_on, competes = ("roster", "next", "--sce", SCENARIO, "--his"), ("solve", "--inrc2", *of_week)
         for input_file, target, what, words in (
             (roster, "file", "the next history", (*goes_on, HISTORY, "--roster", roster, "--out")),
