@@ -296,7 +296,10 @@ class Weeks(KeptTest):
     def test_a_week_after_which_the_plan_breaks_a_rule(self):
         printed = self.does("over", "Bruno", "Sun", "Night,", "Finn", "Fri", "off,")
         cure = "after these corrections the plan does not fit any more: plan again, from Mon 7 Dec on"
-        self.assertIn("week 2 (calendar week 50), not allowed on the day after: Bruno may not work Day on Mon after Night on the Sunday before\n", printed)
+        self.assertIn(
+            "week 2 (calendar week 50), not allowed on the day after: Bruno may not work Day on Mon after Night on the Sunday before\n",
+            printed,
+        )
         self.assertIn(f"{cure}\n", printed)
         self.assertIn("week 1 (calendar week 49), below the minimum number: Fri Late Nurse has 0 nurses and needs at least 1\n", printed)
         self.assertIn("if it was not worked so: undo, then over with other corrections", printed)
@@ -310,7 +313,9 @@ class Weeks(KeptTest):
         self.write()
         printed = self.does("over", "Grace", "Sat", "Day", "Grace", "Sun", "Day", "--do")
         self.assertIn("week 1 (calendar week 49) exceeds a limit that holds: Grace has 7 days of work in a row", printed)
-        self.assertIn("week 2 (calendar week 50) exceeds a limit that holds: Grace has 12 days of work in a row, to Fri 11 Dec, of at most 5", printed)
+        self.assertIn(
+            "week 2 (calendar week 50) exceeds a limit that holds: Grace has 12 days of work in a row, to Fri 11 Dec, of at most 5", printed
+        )
         self.assertIn("plan again, from Mon 7 Dec on", printed)
 
     def test_the_page_for_the_wall(self):
@@ -423,8 +428,13 @@ class NotKept(KeptTest):
         self.write()
         status, printed, said = self.runs("plan")
         self.assertEqual(status, 6, said)
-        self.assertRegex(printed, "(?m)^week 2 \\(calendar week 50\\): no plan was found that keeps every limit: .* has [0-9]+ shifts of at most 2, above on ")
-        self.assertRegex(printed, "(?m)^week 2 \\(calendar week 50\\): lower minimum numbers, hold fewer shifts, or allow these nurses more; ")
+        self.assertRegex(
+            printed,
+            "(?m)^week 2 \\(calendar week 50\\): no plan was found that keeps every limit: .* has [0-9]+ shifts of at most 2, above on ",
+        )
+        self.assertRegex(
+            printed, "(?m)^week 2 \\(calendar week 50\\): lower minimum numbers, hold fewer shifts, or allow these nurses more; "
+        )
         self.assertIn("\nthis plan is written, but it does not keep what the first lines say: ", printed)
         self.assertNotIn("costs less", printed)
 

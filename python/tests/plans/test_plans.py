@@ -248,7 +248,9 @@ class Verbs(FolderTest):
         called = {nurse for nurse, day in other if (nurse, day) not in {("Grace", 2), ("Grace", 3), ("Grace", 4)}}
         counted = sum(self.points()) + sum(80 if key in beside else 20 for key in other if key in now) + 20 * len(called)
         self.assertLessEqual(counted, int(re.findall("([0-9]+) points, those for", said)[-1]), said)
-        self.assertFalse([said for penalty, bound in re.findall("([0-9]+) points.*; at least ([0-9]+) cannot", said) if int(bound) > int(penalty)])
+        self.assertFalse(
+            [said for penalty, bound in re.findall("([0-9]+) points.*; at least ([0-9]+) cannot", said) if int(bound) > int(penalty)]
+        )
         self.assertEqual({path: text for path, text in self.texts().items() if path in old}, old)
         self.assertIn("the plan of plan, ", self.does("undo"))
         self.assertEqual((self.cells(), self.texts()), (before, old))
@@ -323,7 +325,9 @@ class Verbs(FolderTest):
         self.write()
         status, _, said = self.runs("plan")
         cure = "write it again, with away in the plan from her last day on"
-        self.assertEqual((status, said), (1, f"inrc2pb-plan: Dilek worked in week 1 (calendar week 49), and has no row in the sheet nurses: {cure}\n"))
+        self.assertEqual(
+            (status, said), (1, f"inrc2pb-plan: Dilek worked in week 1 (calendar week 49), and has no row in the sheet nurses: {cure}\n")
+        )
 
     def test_swaps(self):
         self.begin()

@@ -481,7 +481,10 @@ class Contents(unittest.TestCase):
                 self.assertEqual(made(self.dated(text)).warnings, made(self.dated("2")).warnings)
         for text, said in (
             ("3", "there is no week 3: weeks are counted from 1, so write 2 for the last one, a calendar week such as CW 50, or a date"),
-            ("CW 2", "there is no week CW 2: weeks are counted from 1, so write 2 for the last one, a calendar week such as CW 50, or a date"),
+            (
+                "CW 2",
+                "there is no week CW 2: weeks are counted from 1, so write 2 for the last one, a calendar week such as CW 50, or a date",
+            ),
             ("soon", "'soon' is no whole number: write a number such as 2"),
         ):
             with self.subTest(text), self.assertRaises(FileFault) as caught:
@@ -636,7 +639,9 @@ class Command(HelperTest):
 
     def test_the_template_begins_on_the_next_monday(self):
         # 28 November 2026 is a Saturday, and who begins on a Monday plans from the next one on.
-        for number, (today, monday) in enumerate((("2026-11-28", "2026-11-30"), ("2026-11-30", "2026-12-07"), ("2026-12-31", "2027-01-04"))):
+        for number, (today, monday) in enumerate(
+            (("2026-11-28", "2026-11-30"), ("2026-11-30", "2026-12-07"), ("2026-12-31", "2027-01-04"))
+        ):
             folder = self.folder / f"ward {number}"
             ward.new(folder, datetime.date.fromisoformat(today))
             book = read_book(folder / "ward.ods")
