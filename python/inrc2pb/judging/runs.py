@@ -112,19 +112,20 @@ class Runs:
 
     def _steps(self, day: int, now: RunState) -> List[Step]:
         work, off, left = self.contract.working_days, self.contract.days_off, self.days - day - 1
-        half = HALF_WEEKEND * (day % len(DAYS) == SUNDAY and self.contract.complete_weekends)
+        half = HALF_WEEKEND if day % len(DAYS) == SUNDAY and self.contract.complete_weekends else 0
         closed = ended(now.shift_run, self.shifts[now.choice], self._shift_run)
-        rest = closed + ended(now.work_run, work, WORK_RUN) + DAYS_OFF_RUN * (now.off_run + 1 > off.maximum) + half * (now.choice > 0)
+        off_above = DAYS_OFF_RUN if now.off_run + 1 > off.maximum else 0
+        rest = closed + ended(now.work_run, work, WORK_RUN) + off_above + (half if now.choice else 0)
         steps = [(rest, self.state(0, 0, 0, now.off_run + 1, left))]
-        above = now.work_run + 1 > work.maximum
-        works = ended(now.off_run, off, DAYS_OFF_RUN) + (WORK_RUN + self._above) * above + half * (now.choice == 0)
+        work_above = WORK_RUN + self._above if now.work_run + 1 > work.maximum else 0
+        works = ended(now.off_run, off, DAYS_OFF_RUN) + work_above + (0 if now.choice else half)
         run, forbidden = shortened(now.work_run + 1, work, left), self.forbidden[now.choice]
         for choice, limits in enumerate(self.shifts[1:], 1):
             if choice in forbidden or works >= NEVER:
                 steps.append((NEVER, now))
             else:
                 length, cost = (now.shift_run + 1, works) if choice == now.choice else (1, works + closed)
-                cost += self._shift_run * (length > limits.maximum)
+                cost += self._shift_run if length > limits.maximum else 0
                 steps.append((cost, RunState(choice, shortened(length, limits, left), run, 0)))
         return [self._with_days_away(day, now, step) for step in steps] if self._beside.cost or self._beside.call else steps
 
@@ -140,6 +141,6 @@ class Runs:
         from_night = day in away.free and day > away.fixed and not now.choice and before.choice in self._nights
         cost += away.cost * ((run > limits.maximum and not is_due) + from_night)
         is_called = before.is_called or (away.call > 0 and away.older[day] not in (now.choice, ANY_CHOICE))
-        cost += away.call * (is_called and not before.is_called)
+        cost += away.call if is_called and not before.is_called else 0
         trained = shortened(run, limits, self.days - day - 1) if run else 0
         return cost, now._replace(trained=trained, is_due=is_due, is_called=is_called)

@@ -65,7 +65,9 @@ def is_other_shift(before: Optional[Cell], now: Optional[Cell]) -> bool:
 
 def new_shift_points(place: Tuple[str, int], agreed: Collection[Tuple[str, int]], beside: Collection[Tuple[str, int]]) -> int:
     """What another shift of a nurse on a day costs, if it is one on which she has agreed, or a day off beside days away."""
-    return AGREED_POINTS if place in agreed else POINTS + BESIDE_POINTS * (place in beside)
+    if place in agreed:
+        return AGREED_POINTS
+    return POINTS + BESIDE_POINTS if place in beside else POINTS
 
 
 def with_few_changes(
@@ -192,7 +194,7 @@ class _Judge:
         changed = [day for day in {*before, *cells} if is_other_shift(before.get(day), cells.get(day))] if before else []
         is_called = any(NurseDay(nurse, day) not in self._plan.away for day in changed)
         new = sum(new_shift_points((nurse, day), self._agreed, self._beside) for day in changed if day in cells)
-        return self._alone.cost(nurse, cells) + new + CALL_POINTS * is_called
+        return self._alone.cost(nurse, cells) + new + (CALL_POINTS if is_called else 0)
 
     def _changes(self, nurse: str, cells: Mapping[int, Cell]) -> int:
         """The days of the nurse with another shift or skill: of equal plans the one with fewer of them is better."""
