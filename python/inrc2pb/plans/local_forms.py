@@ -179,7 +179,7 @@ def sure_markup(fields: Fields, plan: Optional[WardPlan], address: str, lines: S
         parts.append(element("pre", "\n".join(lines)))
     way_back = "" if form.verb == "undo" else " Undo takes it back."
     parts.append(element("p", f"This writes {form.writes}.{way_back}"))
-    answers = element("form", *hidden, yes, " ", element("a", "No", href=address), method="post", action=address)
+    answers = element("form", *hidden, yes, " ", element("a", "No", href=f"{address}?no"), method="post", action=address)
     return element("section", *parts, answers)
 
 

@@ -9,7 +9,7 @@ from ..programs.progress import WardProgress
 from ..week.faults import FileFault, FileFaults, Misuse, ProgramFault, fault_line
 from . import render
 from .kept import KeptSheet
-from .outcome import Event, Outcome, Undone, WeekOver
+from .outcome import Event, Outcome, Planned, Undone, WeekOver
 from .store import Means, Reader, WardFolder
 from .verbs import Verbs
 from .words import PeriodOver
@@ -48,6 +48,11 @@ class Said(NamedTuple):
     def ends_period(self) -> bool:
         """Whether it says that a period is over."""
         return isinstance(self.fault, PeriodOver) or (isinstance(self.outcome, WeekOver) and self.outcome.next is None)
+
+    @property
+    def look(self) -> Optional[Planned]:
+        """The plan that was found, if its user is to look at it before it is written."""
+        return self.outcome if isinstance(self.outcome, Planned) and self.outcome.is_look else None
 
     @property
     def is_undo(self) -> bool:
@@ -103,23 +108,26 @@ class Jobs:
         return Said(self._spoken.getvalue().splitlines(), self._said.fields, runs=True) if self.runs else self._said
 
     def begin(self, event: Event, fields: Fields, stamp: Optional[str]) -> None:
-        """Begins to do what a form asks for, if the plan that holds has this stamp, or with any plan. Raises Busy if another one runs."""
+        """Begins to do what a form asks for, if the plan that holds has this stamp, or with any plan; a plan that was found for the same
+        form is written. Raises Busy if another one runs."""
         with self._lock:
             self.check_free()
+            found = self._said.look if self._said.fields == fields and not event.look else None
             self._spoken = io.StringIO()
             failed = Misuse("this failed: the terminal of inrc2pb-plan says why")
             self._said = Said([str(failed)], fields, fault=failed)
-            self._thread = threading.Thread(target=self._run, args=(event, stamp, self._spoken))
+            self._thread = threading.Thread(target=self._run, args=(event, stamp, self._spoken, found))
             self._thread.start()
 
-    def _run(self, event: Event, stamp: Optional[str], spoken: io.StringIO) -> None:
+    def _run(self, event: Event, stamp: Optional[str], spoken: io.StringIO, found: Optional[Planned]) -> None:
         fields = self._said.fields
         try:
             with self.folder.locked(lambda line: print(line, file=spoken)):
                 # No other run writes now.
                 if stamp is not None:
                     self.check_stamp(stamp)
-                outcome = self.verbs(spoken).done(event)
+                verbs = self.verbs(spoken)
+                outcome = verbs.written(found, event) if found else verbs.done(event)
                 self._said = Said(render.lines(outcome, _WRITE), fields, outcome)
         except KeyboardInterrupt:
             self._said = Said(["stopped while it waited: nothing was written"], fields)

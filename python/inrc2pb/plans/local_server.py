@@ -30,6 +30,10 @@ from .words import PeriodOver
 _MOST_BYTES, _MOST_FIELDS, _SECONDS = 10_000, 20, 20
 # The part of an address that says why its form was refused: a verb ran, or there was another plan.
 LATE = "late"
+# The part of an address that says that what was asked is not to be written.
+NO = "no"
+# The forms whose question has what a search finds.
+_LOOKED = ("away", "back")
 _PAUSE = 0.2
 # What a browser says of a form that another page sends.
 _FOREIGN = ("cross-site", "same-site")
@@ -124,6 +128,10 @@ class Site:
             if stamp is not None:
                 self.jobs.check_stamp(stamp)
                 self.jobs.check_free()
+            if stamp is not None and SURE not in fields and form["verb"] in _LOOKED and not self.jobs.asked(event).fault:
+                # The question says who moves where, which the search finds.
+                self.jobs.begin(event._replace(look=True), form, stamp)
+                return ""
             if stamp is None or SURE in fields:
                 now = form if stamp is not None else {**form, STAMP: self.jobs.folder.stamp}
                 self.jobs.begin(event, now, stamp)
@@ -205,7 +213,10 @@ class _Handler(BaseHTTPRequestHandler):
         elif path:
             self._refuse(404, "there is no such page")
         else:
-            asks = sent if sent and not sent.is_refused else None
+            if NO in query and said.look:
+                self.site.jobs.forget()
+                said = self.site.jobs.said()
+            asks = sent if sent and not sent.is_refused else _look(said, stamp) if not sent and not _place(plan, query) else None
             kept = _kept(said, sent)
             place = _place(plan, query) or (None if sent else _looked(plan, kept, said))
             shown = Shown(
@@ -289,6 +300,11 @@ class _Handler(BaseHTTPRequestHandler):
 
     def log_message(self, *_: object) -> None:
         """Nothing is logged: addresses have the secret."""
+
+
+def _look(said: Said, stamp: str) -> Optional[Sent]:
+    """The question whether to write a plan that was found, if the plan with this stamp still holds."""
+    return Sent(dict(said.fields), said.lines, False) if said.look and said.fields.get(STAMP) == stamp else None
 
 
 def _kept(said: Said, sent: Optional[Sent]) -> Fields:

@@ -21,13 +21,15 @@ from .ward_sheet import WeekRow
 
 class Event(NamedTuple):
     """What a user asks for: a verb, or a reason to be away; the names and days after it; the seconds of a search, if they are not the usual
-    ones; whether all shifts may change; and whether a swap, a day that is set, or a plan that exceeds a maximum that holds, is written."""
+    ones; whether all shifts may change; whether a swap, a day that is set, or a plan that exceeds a maximum that holds, is written; and
+    whether the plan of a search is looked at before it is written."""
 
     verb: str
     words: Tuple[str, ...] = ()
     seconds: Optional[float] = None
     free: bool = False
     do: bool = False
+    look: bool = False
 
     @property
     def typed(self) -> str:
@@ -127,7 +129,8 @@ class Away(Outcome):
 @dataclass(frozen=True)
 class Planned(Outcome):
     """A search has found a plan: the plan before it, with its absences, if there is one; the same with the absences of now; what was asked;
-    the new plan; the penalty of its weeks; the bound, if it speaks of such plans; whether the user stopped the search."""
+    the new plan; the penalty of its weeks; the bound, if it speaks of such plans; whether the user stopped the search; the verb; and
+    whether the user looks at it before it is written."""
 
     before: Optional[WardPlan]
     old: WardPlan
@@ -137,6 +140,8 @@ class Planned(Outcome):
     bound: Optional[KnownBound]
     is_stopped: bool
     absence: Optional[Away] = None
+    verb: str = ""
+    is_look: bool = False
 
 
 @dataclass(frozen=True)

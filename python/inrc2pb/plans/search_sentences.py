@@ -105,6 +105,8 @@ def planned_lines(planned: Planned, write: str) -> List[str]:
         said.append(bound_text(planned.bound))
     if planned.is_stopped:
         said.append("stopped: this is the best plan until then")
+    if planned.is_look:
+        return said
     if not planned.is_written:
         return [*said, *days_away_lines(new), not_written_text(write)]
     if missing:

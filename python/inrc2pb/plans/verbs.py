@@ -33,8 +33,9 @@ from .ward import WardPlan, first_plan, for_leavers, limits_of
 
 # The seconds of a search, for each week if it is a whole plan.
 WEEK_SECONDS, CHANGE_SECONDS = 20.0, 30.0
-# How much longer than its seconds a search of a whole plan may take to make nights and weekends more even.
-EVENING_SHARE = 0.1
+# How much longer than its seconds a search of a whole plan may take to make nights and weekends more even, and how many seconds at most, or
+# if its user has stopped it.
+EVENING_SHARE, MOST_EVENING, STOPPED_EVENING = 0.1, 8.0, 1.0
 
 
 class Verbs:
@@ -92,6 +93,10 @@ class Verbs:
             "undo": _undo,
         }
         return verbs[event.verb](self._store, event)
+
+    def written(self, planned: Planned, event: Event) -> Planned:
+        """Writes the plan that an event has found, after its user has looked at it."""
+        return _saved(replace(planned, is_look=False), self._store.save(planned.verb, planned.plan, event.typed))
 
 
 def _check(store: PlanStore, event: Event) -> Checked:
@@ -157,7 +162,7 @@ def _searched(store: PlanStore, event: Event, verb: str, old: WardPlan, asked: A
         if asked.few_changes and old.is_planned:
             found = found._replace(plan=without_needless_changes(old, found.plan))
         if not asked.few_changes:
-            found = found._replace(plan=_evened(found.plan, asked))
+            found = found._replace(plan=_evened(found, asked))
         works, before = found.plan.works, old.works
         new = found.plan.with_state(found.plan.state.agreeing(lambda one: works.get(one) == before.get(one)))
         older = absence.old if absence else old
@@ -172,17 +177,21 @@ def _searched(store: PlanStore, event: Event, verb: str, old: WardPlan, asked: A
             bound=found.bound,
             is_stopped=found.stopped,
             absence=absence,
+            verb=verb,
             status=status,
         )
         if not asked.do and newly_exceeded(seen, new):
             return replace(planned, status=Status.NOT_KEPT)
+        if event.look:
+            return replace(planned, is_look=True)
         return _saved(planned, store.save(verb, new, event.typed))
 
 
-def _evened(plan: WardPlan, asked: Asked) -> WardPlan:
+def _evened(found: Found, asked: Asked) -> WardPlan:
     """The plan with nights and weekends that are shared more evenly, if the program charges as much for it."""
-    even = more_even(plan, asked.first, EVENING_SHARE * asked.seconds)
-    return even if sum(penalties(even).values()) == sum(penalties(plan).values()) else plan
+    seconds = STOPPED_EVENING if found.stopped else min(EVENING_SHARE * asked.seconds, MOST_EVENING)
+    even = more_even(found.plan, asked.first, seconds)
+    return even if sum(penalties(even).values()) == sum(penalties(found.plan).values()) else found.plan
 
 
 _AnOutcome = TypeVar("_AnOutcome", bound=Outcome)

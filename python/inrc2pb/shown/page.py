@@ -99,7 +99,9 @@ def _summary(page: Content) -> Iterator[str]:
     """Sentences below the title."""
     view = page.view
     count = sum(len(week.cells) for week in view.weeks)
-    cost = f", penalty {view.penalty}" if view.penalty is not None and not page.only_table else ""
+    cost = "" if view.penalty is None or page.only_table else f", penalty {view.penalty}"
+    if cost and view.penalty is not None and page.name:
+        cost = f", {plural(view.penalty, 'point')}"
     old = page.old.penalty if page.old and not page.old.breaks_absences else None
     before = f" instead of {old}" if cost and old is not None else ""
     named = f"{view.weeks_text}: " if page.monday else ""

@@ -26,7 +26,7 @@ class Mouse(BrowserTest):
         self.swaps()
         self.unfolds("The week is over")
         self.button("End the week")
-        self.says_yes("The week is over: ", "week 1 (calendar week 49) is over: the plan goes on from ")
+        self.says_yes("The week is over: ", "week 1 .calendar week 49. is over: the plan goes on from ")
         self.button("Undo")
         self.says_yes("this takes back: over, ", "undone: over, ")
         self.assertEqual(self.plans(), ["plan", "page", "set", "ill", "swap"])

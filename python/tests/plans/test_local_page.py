@@ -17,6 +17,7 @@ from served_page import ServedPage
 from test_plans import DATED, DATES
 from ward import HAS_CBC, run
 
+from inrc2pb.plans import verbs
 from inrc2pb.plans.local_forms import FORMS, event_of, form_markup
 from inrc2pb.plans.outcome import Event
 
@@ -243,7 +244,6 @@ class Page(ServedPage):
             ("verb=page", "<h2>Publish?</h2>"),
             ("verb=plan&seconds=5&free=yes", "<h2>Plan: seconds 5, all shifts may change?</h2>"),
             ("verb=over&corrections=", "<h2>The week is over: Mon 30 Nov to Sun 6 Dec?</h2>"),
-            ("verb=away&nurse=Chen&first=2026-12-04&last=&reason=ill", "<h2>A nurse is away: nurse Chen, day Fri 4 Dec, reason ill?</h2>"),
         ):
             with self.subTest(fields):
                 status, page = self.asks("POST", form=fields)
@@ -262,10 +262,52 @@ class Page(ServedPage):
     def test_the_question_of_unpaid_days_says_what_counts_of_the_contract(self):
         # 17 * 13 / 14 shifts, rounded down; the maximum, 22, is more than the days of the plan.
         self.write_plan()
-        page = self.asks("POST", form="verb=away&nurse=Chen&first=2026-12-04&reason=unpaid")[1]
         says = "Chen is away or unpaid on 1 of 14 days: contract Full counts in proportion, at least 15 shifts in place of at least 17."
-        self.assertIn(f"<pre>{says}</pre>", page)
-        self.assertNotIn("<pre>", self.asks("POST", form="verb=away&nurse=Chen&first=2026-12-04&reason=ill")[1])
+        for reason in ("unpaid", "ill"):
+            asked = self.jobs.asked(Event(reason, ("Chen", "2026-12-04")))
+            self.assertEqual(asked.lines, [says] if reason == "unpaid" else [])
+
+    @unittest.skipUnless(HAS_CBC, "cbc is not installed")
+    def test_the_question_of_an_illness_says_who_moves_where(self):
+        # Chen has Night on Friday, and somebody has to take it.
+        self.write_plan()
+        before, form = self.cells(), "verb=away&nurse=Chen&first=2026-12-04&last=&reason=ill&seconds=5"
+        self.assertEqual(self.asks("POST", form=form)[0], 303)
+        page = html.unescape(self.ended())
+        self.assertIn("<h2>A nurse is away: nurse Chen, day Fri 4 Dec, reason ill, seconds 5?</h2>", page)
+        self.assertIn("Chen, Fri 4 Dec: ill instead of Night Nurse\n", page)
+        moved = re.search("([A-Z][a-z]+), Fri 4 Dec: Night Nurse instead of off\n", page)
+        self.assertIn(f"to call: {moved[1]}", page)
+        self.assertEqual((page.count("Yes, write it"), self.cells(), "Take it back" in page), (1, before, False))
+        # Yes writes this plan, without another search.
+        with mock.patch.object(verbs, "search_plan", side_effect=AssertionError):
+            written = self.asks("POST", form=self.yes(page))[0], self.ended()
+        self.assertEqual(written[0], 303)
+        self.assertIn("Take it back", written[1])
+        self.assertEqual(self.cells()[moved[1], 4], ("Night", "Nurse"))
+
+    @unittest.skipUnless(HAS_CBC, "cbc is not installed")
+    def test_no_writes_nothing_and_is_asked_no_more(self):
+        self.write_plan()
+        before = self.stamp
+        self.asks("POST", form="verb=away&nurse=Chen&first=2026-12-04&reason=ill&seconds=5")
+        self.assertIn("Yes, write it", self.ended())
+        for path in (f"{self.site.path}?no", self.site.path):
+            self.assertNotIn("Yes, write it", self.asks(path=path)[1])
+        self.assertEqual(self.stamp, before)
+        # A question for a plan that holds no more is not asked.
+        self.asks("POST", form="verb=away&nurse=Chen&first=2026-12-04&reason=ill&seconds=5")
+        page = self.ended()
+        self.does("page")
+        self.assertNotIn("Yes, write it", self.asks(path=self.site.path)[1])
+        self.asks("POST", form=self.yes(page))
+        self.assertIn("this form was shown for an older plan", html.unescape(self.ended()))
+
+    def yes(self, page):
+        """The form that the button Yes of a page sends."""
+        section = re.search("<section><h2>.*?</section>", page, re.S)[0]
+        return urlencode({html.unescape(name): html.unescape(value) for name, value in
+                          re.findall('type="hidden" name="([^"]*)" value="([^"]*)"', section)})  # fmt: skip
 
     def test_the_question_of_undo_names_the_verb(self):
         self.write_plan()
