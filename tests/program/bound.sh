@@ -185,7 +185,7 @@ says_within() {
 # each of five nurses costs 20: 25 of 52 shifts are free, and 5 if one nurse works them all. A tree of 100 cases of 30 nurses has the bound of
 # its one list of prices, which is the penalty of the best roster.
 bounds_in_time() {
-    local folder=$examples/last120 names node nodes
+    local folder=$examples/last120 held names node nodes
     sed 's/^WEEKS = .*/WEEKS = 8/' "$folder/ward.txt" > "$room/eight_weeks.txt"
     sed '2s/^3/0/' "$folder/history-3.txt" > "$room/eight_weeks_history.txt"
     says_within 60 'eight weeks of 120 nurses' 'lower bound 52415\n' --sce eight_weeks.txt --his eight_weeks_history.txt \
@@ -209,6 +209,9 @@ bounds_in_time() {
         --fix 52=first_works --given last_off --minimums
     says 'a year whose last Monday is held' 'lower bound 540\npenalty 940\n' --sce year.txt --his year_history.txt --week "${nodes[@]}" \
         --fix 52=first_works --given last_on --proof year_prices --roster "${names[@]}"
+    mapfile -t held < <(seq -f '--fix=%.0f=first_works' 52)
+    says 'a year whose Mondays are all held' 'lower bound 940\npenalty 940\noptimal\n' --sce year.txt --his year_history.txt --week "${nodes[@]}" \
+        "${held[@]}" --roster "${names[@]}"
     refuses 'a year without its last held cell' 6 'week 52: roster breaks H5' --sce year.txt --his year_history.txt --week "${nodes[@]}" \
         --fix 52=first_works --given last_off --roster "${names[@]:1}" second_works
     refuses 'a year without its last day off' 6 'facts line 5: not met' --sce year.txt --his year_history.txt --week "${nodes[@]}" \
