@@ -1,5 +1,5 @@
 #!/usr/bin/env bash
-# Records each call with which the program opens, reads or writes. Each file is opened once, for one use, in the order of the
+# Records each call with which the programs open, read or write. Each file is opened once, for one use, in the order of the
 # checks, and read to its end and no further; an output is opened at its first write, with the mode 666, and gets a write for
 # each full buffer and one for the rest; after a failed call there is no other call to the same file. Then each of these calls
 # fails in turn, once as if a signal had interrupted it (EINTR), once as on a broken device (EIO), and of two runs once as on a
@@ -10,6 +10,7 @@
 #
 # Needs bash, the usual tools of a shell, and a C compiler: $CC, else cc, else the clang of Rattle's kit.
 . "$(dirname "$0")/../kit/kit.sh"
+needs_bound
 
 kit_clang() { echo "$(dirname "$(realpath "$(command -v rt)")")/../toolchain/bin/clang"; }
 "${CC:-$(command -v cc || kit_clang)}" -O1 -shared -fPIC -o "$room/told.so" tests/kit/told_calls.c || exit 2
@@ -123,8 +124,8 @@ ends_at() {
     esac
     [ "$ended" = "$status" ] || complain "status $ended, not $status"
     if [ -n "$fault" ]; then
-        echo "write errors $((${#fault} + 10))" >> "$room/wanted"
-        line fault "inrc2pb: $fault"
+        line fault "$program_name: $fault"
+        echo "write errors $(stat -c %s "$room/fault")" >> "$room/wanted"
         holds err fault
     fi
 }
@@ -179,8 +180,32 @@ refuses_calls() {
     refuses_each "$@" 'words that are refused' 2 encode
 }
 
+# The calls of `inrc2pb-bound`: all its files are opened before one is read, and its text is one write.
+bounds_rosters() {
+    local program=$bound program_name=inrc2pb-bound files=(roster facts certificate.txt roster) words
+    words=("${five[@]}" --fix roster --given facts --proof certificate.txt --roster roster)
+    printf '%s\n' FACTS n005w4 'ROWS = 0' > "$room/facts"
+    calls 'a bound' 0 "${words[@]}"
+    { opens_week "${files[@]}"; reads_week "${files[@]}"; echo 'write output'; } > "$room/wanted"
+    are
+    fills output out
+    calls 'a bound of two weeks, each with its held cells' 0 "${five[@]}" week-0.txt --fix 2=again --fix 1=roster
+    { opens_week roster week-0.txt again; reads_week roster week-0.txt again; echo 'write output'; } > "$room/wanted"
+    are
+    calls 'no such roster' 3 "${five[@]}" --proof certificate.txt --roster missing
+    { opens_week certificate.txt missing; echo 'write errors'; } > "$room/wanted"
+    are
+    calls 'a certificate with a fault' 1 "${five[@]}" --proof facts --roster roster
+    { opens_week facts roster; reads_week facts; echo 'write errors'; } > "$room/wanted"
+    are
+    refuses_each EINTR 4 'a bound' 0 "${words[@]}"
+    refuses_each EIO 5 'a bound' 0 "${words[@]}"
+    refuses_each EIO 5 help 0 --help
+}
+
 does_jobs
 fails
+bounds_rosters
 refuses_calls EINTR 4
 refuses_calls EIO 5
 refuses_main_calls ETIMEDOUT 110
