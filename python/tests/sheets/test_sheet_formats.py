@@ -10,6 +10,7 @@ import zipfile
 from example_sheets import DATA, SHEETS, changed, texts
 from pathlib import Path
 from ward import HelperTest
+from xml.etree import ElementTree
 from xml.sax.saxutils import escape
 
 from inrc2pb.commands import ward
@@ -250,6 +251,16 @@ class Formats(HelperTest):
             "sheet plan, row 7, column Z: 'training' is struck through, and counts: delete it",
             "sheet plan, row 8, column B: a color without a word counts for nothing: write leave or wish, for example",
         ])  # fmt: skip
+
+    def test_the_manifest_of_the_example_names_its_parts(self):
+        path = self.folder / "ward.ods"
+        write_template(path, MONDAY)
+        with zipfile.ZipFile(path) as archive:
+            first, *names = archive.namelist()
+            manifest = ElementTree.fromstring(archive.read("META-INF/manifest.xml"))
+        self.assertEqual(first, "mimetype")
+        parts = [next(value for name, value in entry.items() if name.endswith("full-path")) for entry in manifest]
+        self.assertEqual(parts, ["/", *(name for name in names if not name.startswith("META-INF/"))])
 
     def test_struck_cells_are_named_from_top_to_bottom(self):
         path = self.folder / "ward.ods"

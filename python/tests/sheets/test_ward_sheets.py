@@ -244,6 +244,7 @@ class Contents(unittest.TestCase):
             ("plan", 1, 13, "", "row 1, column O: the column before this one is no day: delete it, or move it after the last day"),
             ("plan", 1, 13, "# Sat", "row 1, column O: the column before this one is no day: delete it, or move it after the last day"),
             ("plan", 1, 1, "Sun 1", "row 1, column B: 'Sun 1' should be a Mon: the plan begins on a Monday, and has each day once"),
+            ("plan", 1, 3, "Tue 1", "row 1, column D: 'Tue 1' should be a Wed: the plan begins on a Monday, and has each day once"),
             (
                 "plan",
                 1,

@@ -120,6 +120,13 @@ class Page(PageTest):
             ["Chen: 10 (S4 10)10 (S4) Sat: on Night, and asked to be off", "Dilek: 10 (S4 10)10 (S4) Fri: on Day, and asked to be off"],
         )
 
+    def test_places_with_fewer_nurses_than_best_have_a_fold_after_the_nurses(self):
+        roster = self.folder / "few.txt"
+        roster.write_text(ROSTER.read_text().replace("Bruno Mon Day Nurse\n", "").replace("ASSIGNMENTS = 33", "ASSIGNMENTS = 32"))
+        *others, places = [words(part) for part in self.page(*WEEK_OPTIONS, "--roster", roster).iter("details")]
+        self.assertEqual(places, "Places with fewer nurses than best: 30 (S1 30)30 (S1) Day Nurse, Mon: 1 of 2 nurses")
+        self.assertFalse([text for text in others if "S1" in text])
+
     def test_places_with_too_few_and_too_many(self):
         roster = self.changed(ROSTER, "Amara Mon Day Charge", "Amara Mon Day Nurse")
         page = self.page(*WEEK_OPTIONS, "--roster", roster)
