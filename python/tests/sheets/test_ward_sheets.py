@@ -390,6 +390,10 @@ class Contents(unittest.TestCase):
             absences = absences_of(self.read(changed("nurses", 9, 4, text))[2][0])
             self.assertEqual({one.day for one in absences if one.nurse == "Hana"}, {0, 1}, text)
 
+    def test_a_promised_day_off_is_kept_as_an_absence(self):
+        absences = absences_of(self.read(changed("plan", 9, 3, "off"))[2][0])
+        self.assertEqual({(one.day, one.shift) for one in absences if one.nurse == "Hana"}, {(2, None)})
+
     def test_skills(self):
         # A skill with a blank, one of two skills with a blank between, and one that nobody needs.
         sheets = changed("needs", 2, 2, "Charge Nurse")
