@@ -66,7 +66,7 @@ class CompiledRows:
 
     def cheapest(self, pay: Any, nurses: Sequence[int], run_cost: int = 0) -> Tuple[Any, Any]:
         """As that of Blocks."""
-        pays = numpy.ascontiguousarray(pay[list(nurses), self._days.start : self._days.stop])
+        pays = numpy.ascontiguousarray(pay[:, self._days.start : self._days.stop])
         chosen = (_Nurse * len(nurses))(*(self._nurses[nurse] for nurse in nurses))
         costs, rows = numpy.empty(len(nurses), dtype=numpy.int64), numpy.zeros(pays.shape[:2], dtype=numpy.uint8)
         task = _Task(*pays.shape, run_cost, ctypes.addressof(chosen), pays.ctypes.data)

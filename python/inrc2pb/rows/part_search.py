@@ -92,10 +92,10 @@ class PartSearch:
             part = clock.part(clock.left() * FIXING_SHARE)
             search.generate(part)
             chance = None if task.seed is None else random.Random(task.seed)
-            is_week = len(search.plan.weeks) == 1
-            found = search.dive(part, task.share, chance) if is_week else search.dive_by_weeks(part, task.share, chance)
+            found = search.dive(part, task.share, chance)
             if found:
                 search.keep(found, "fixing rows")
+                search.descend(found, "fixing rows")
             ended = True
         return Done(ended, self._program.iterations - before)
 
@@ -137,7 +137,7 @@ class PartSearch:
         if search.is_proved:
             return True
         if search.penalty is None or search.gap() > DIVE_GAP:
-            found = search.dive(clock) if len(part.days) < LONG_DAYS else search.dive_by_weeks(clock, WEEKS_SHARE)
+            found = search.dive(clock, 0.0 if len(part.days) < LONG_DAYS else WEEKS_SHARE)
             if found and search.keep(found, f"{name}, fixing rows"):
                 return True
         if part.limited and search.penalty is not None and search.gap() > CHOOSE_GAP:

@@ -2,14 +2,14 @@
 
 import copy
 import numpy
-from typing import Any, Dict, Iterable, List, NamedTuple, Optional, Sequence, Tuple, Union
+from typing import Any, Dict, Iterable, List, NamedTuple, Optional, Sequence, Tuple
 
 from ..judging.runs import NEVER, Beside, RunState, Runs
 from ..week.facts import WORK_DAYS
 from ..week.records import Place
 from ..week.soft_rules import SHIFT_RUN
 from .compiled import priced_together
-from .plan import FREE, POINT, STEP, Plan, Points, Thousandths
+from .plan import POINT, STEP, Plan, Points, Thousandths
 from .row_arrays import Member
 from .row_graph import Check, Graph, Totals
 
@@ -18,9 +18,8 @@ MAX_PRICE = 999_999_999
 NurseWeek = bytes
 # A price in thousandths for each place of a plan, in its order.
 Prices = List[int]
-# The price of a nurse of each crew, in thousandths.
-Gains = Union[Sequence[int], Dict[int, int]]
-_Pay = List[List[int]]
+# The price of a nurse of each crew, in thousandths: a list or an array.
+Gains = Any
 # What the runs of a nurse depend on beside her past: her contract, what a day of work above its maximum costs more, and her days away.
 _Kind = Tuple[str, int, Beside]
 
@@ -82,8 +81,6 @@ class Pricing:
     `check` is called while the graphs are built, and may raise an exception to end that. `shift_run` is the weight of a charge of a run of
     a shift type.
     """
-
-    _free: "Optional[Pricing]" = None
 
     def __init__(self, plan: Plan, crews: Crews, check: Check, shift_run: int = SHIFT_RUN) -> None:
         self.plan, self.crews = plan, crews
@@ -153,29 +150,11 @@ class Pricing:
         costs[choice] = NEVER
         self.wishes[nurse] = {**self.wishes[nurse], day: costs}
 
-    def free(self) -> "Pricing":
-        """The same for a plan that has no absences and limits to keep."""
-        if self._free is None:
-            self._free = Pricing(self.plan.kept(FREE), self.crews, lambda: None)
-        return self._free
-
-    def _pay(self, nurse: int, gains: Gains) -> _Pay:
-        """What each choice costs the nurse beside the costs of her row: her wishes less what she earns."""
-        pay: _Pay = [[-gains[crew] for crew in crews] for crews in self.crews.of[nurse]]
-        for day, wishes in self.wishes[nurse].items():
-            pay[day] = [wish + paid for wish, paid in zip(wishes, pay[day])]
-        return pay
-
     def cheapest(self, nurse: int, gains: Gains) -> Optional[Priced]:
         """The nurse's cheapest row if the crews earn this; None if she has no row."""
-        value, row = self.graphs[nurse].cheapest(self.starts[nurse], self._pay(nurse, gains))
-        if value >= NEVER // 2:
-            return None
-        value += self.base[nurse]
-        earned = sum(gains[crews[choice]] for crews, choice in zip(self.crews.of[nurse], row))
-        return Priced(Thousandths(value), row, Points((value + earned) // POINT))
+        return self.cheapest_of([nurse], gains)[0]
 
-    def cheapest_of(self, nurses: Sequence[int], gains: Sequence[int]) -> List[Optional[Priced]]:
+    def cheapest_of(self, nurses: Sequence[int], gains: Gains) -> List[Optional[Priced]]:
         """The cheapest row of each of these nurses."""
         if self._batch is None:
             self._batch = _Batch(self, self._days, self._rows)
@@ -189,8 +168,10 @@ class Pricing:
 
     def within(self, nurse: int, gains: Gains, gap: int, most: int) -> List[NurseWeek]:
         """The nurse's rows that cost at most this gap more than her cheapest one, but no more than `most` + 1."""
-        pay, graph, start = self._pay(nurse, gains), self.graphs[nurse], self.starts[nurse]
-        return graph.within(start, pay, graph.cheapest(start, pay)[0] + gap, most)
+        pay = [[-gains[crew] for crew in crews] for crews in self.crews.of[nurse]]
+        for day, wishes in self.wishes[nurse].items():
+            pay[day] = [wish + paid for wish, paid in zip(wishes, pay[day])]
+        return self.graphs[nurse].within(self.starts[nurse], pay, gap, most)
 
     def places_cost(self, prices: Prices) -> Thousandths:
         """What all places cost at least, if they pay these prices to their nurses."""
@@ -219,11 +200,12 @@ class _Batch:
             members.append(Member(nurse, graph.arrays, start, rest))
         self._together = priced_together(members, days, self._wishes < NEVER // 2)
 
-    def cheapest(self, nurses: Sequence[int], gains: Sequence[int]) -> List[Optional[Priced]]:
+    def cheapest(self, nurses: Sequence[int], gains: Gains) -> List[Optional[Priced]]:
         """The cheapest row of each of these nurses."""
-        earned = numpy.array(gains, dtype=numpy.int64)[self._crews]
-        costs, rows = self._together.cheapest(self._wishes - earned, nurses)
-        return [self._priced(nurse, cost, row.tobytes(), earned[nurse]) for nurse, cost, row in zip(nurses, costs.tolist(), rows)]
+        wanted = list(nurses)
+        earned = numpy.asarray(gains, dtype=numpy.int64)[self._crews[wanted]]
+        costs, rows = self._together.cheapest(self._wishes[wanted] - earned, wanted)
+        return [self._priced(*priced) for priced in zip(wanted, costs.tolist(), map(bytes, rows), earned)]
 
     def _priced(self, nurse: int, least: int, row: NurseWeek, earned: Any) -> Optional[Priced]:
         """A row with the choices that it keeps, if it costs less than what is forbidden. Its cost is walked anew."""
@@ -235,13 +217,6 @@ class _Batch:
             return None
         income = int(earned[numpy.arange(len(row)), list(row)].sum())
         return Priced(Thousandths(cost * POINT - income), row, cost)
-
-
-def plain_bound(pricing: Pricing, prices: Prices) -> Points:
-    """What no roster of the plan costs less than by these prices: no program has proved it."""
-    gains = pricing.crews.gains(prices)
-    found = pricing.cheapest_of(range(len(pricing.plan.nurses)), gains)
-    return in_steps(Thousandths(pricing.places_cost(prices) + sum(priced.value for priced in found if priced)))
 
 
 def in_steps(cost: Thousandths) -> Points:

@@ -26,13 +26,6 @@ class Arrays:
         self.size = sum(costs.size for costs, _, _ in self.days)
         # The number of nodes before each day, and at the end.
         self.nodes = [*(costs.shape[1] for costs, _, _ in self.days), len(self.days[-1][2])]
-        self._alone: Optional[Block] = None
-
-    def cheapest(self, start: int, pay: Sequence[Sequence[int]]) -> Tuple[int, bytes]:
-        """The minimum cost of a row from this node on, and the first row that has it, if a choice costs this pay beside its own costs."""
-        self._alone = self._alone or Block([Member(0, self, start)], len(self.days))
-        values, rows = self._alone.cheapest(numpy.array([pay], dtype=numpy.int64), [0], [start])
-        return int(values[0]), rows[0].tobytes()
 
     def after(self, last: int, row: Sequence[int]) -> Any:
         """What the choices of a row from a day on cost after each node of that day."""
@@ -114,9 +107,9 @@ class Block:
         costs = numpy.concatenate([arcs[0] for arcs in days], axis=1)
         return _Day(costs, numpy.concatenate(heads, axis=1), numpy.concatenate(paid), numpy.concatenate(runs, axis=1) if runs else None)
 
-    def cheapest(self, pay: Any, wanted: Sequence[int], starts: Optional[Sequence[int]] = None, run_cost: int = 0) -> Tuple[Any, Any]:
+    def cheapest(self, pay: Any, wanted: Sequence[int], run_cost: int = 0) -> Tuple[Any, Any]:
         """The minimum cost of a row of each of these nurses, who are numbers in the block, and the first row that has it, on the days of
-        the block. `pay` has what a choice costs beside its own costs, by nurse, day and choice. `starts` has other nodes to begin at."""
+        the block. `pay` has what a choice costs beside its own costs, by nurse, day and choice."""
         pay = pay[:, self._first : self._last]
         if self._is_one:
             pay, columns = pay.take([self.nurses[number] for number in wanted], axis=0), numpy.arange(len(wanted))
@@ -129,7 +122,7 @@ class Block:
             today = pay[:, number].T if self._is_one else pay[:, number].reshape(-1, 1)
             paid.append(minimum + today.take(day.paid, axis=0))
             minimum = _least(paid[-1], day.heads, costs[number])
-        nodes = first = self._starts[wanted] if starts is None else numpy.array(starts)
+        nodes = first = self._starts[wanted]
         rows = numpy.empty((len(wanted), len(self._days)), dtype=numpy.uint8)
         for number, (day, reached) in enumerate(zip(self._days, reversed(paid))):
             heads = day.heads[:, nodes]
@@ -159,18 +152,21 @@ class Blocks:
         if allowed is not None:
             narrow = {member.nurse for member in members if allowed[member.nurse, days.start : days.stop].mean() <= NARROW}
             members = [reached(member, days, allowed[member.nurse]) if member.nurse in narrow else member for member in members]
-        self._blocks, self._days = blocks_of(members, days.stop, days.start), days
+        self._blocks, self._days, self._count = blocks_of(members, days.stop, days.start), days, len(members)
 
     def cheapest(self, pay: Any, nurses: Sequence[int], run_cost: int = 0) -> Tuple[Any, Any]:
         """The minimum cost of a row of each of these nurses, and the first row that has it, on these days. `pay` has what a choice costs
-        beside its own costs, by nurse, day and choice, and `run_cost` is the cost of a charge of a shift run that is counted apart."""
+        beside its own costs, by place in `nurses`, day and choice, and `run_cost` is the cost of a charge of a shift run that is counted
+        apart."""
         places = {nurse: place for place, nurse in enumerate(nurses)}
+        of_all = numpy.zeros((self._count, *pay.shape[1:]), dtype=numpy.int64)
+        of_all[list(nurses)] = pay
         costs, rows = numpy.empty(len(places), dtype=numpy.int64), numpy.empty((len(places), len(self._days)), dtype=numpy.uint8)
         for block in self._blocks:
             numbers = [number for number, nurse in enumerate(block.nurses) if nurse in places]
             if numbers:
                 found = [places[block.nurses[number]] for number in numbers]
-                costs[found], rows[found] = block.cheapest(pay, numbers, run_cost=run_cost)
+                costs[found], rows[found] = block.cheapest(of_all, numbers, run_cost)
         return costs, rows
 
 

@@ -121,8 +121,6 @@ class RowGeneration:
         share = 0.0
         while not self.complete:
             now = self.solved = self.program.solve(clock)
-            if self._is_settled(now):
-                break
             self._drop(now)
             tried = [round(share * best + (1 - share) * price) for best, price in zip(self.prices, now.prices)] if share else now.prices
             found = self._priced(tried, everyone, clock)
@@ -139,10 +137,6 @@ class RowGeneration:
                     self.complete = True
             share = SMOOTHING if new else 0.0
         self._heard()
-
-    def _is_settled(self, now: Solved) -> bool:
-        """Whether no more rows are needed, after this solution."""
-        return False
 
     def _drop(self, now: Solved) -> None:
         """Drops the most expensive columns, if there are too many. Each nurse keeps one."""

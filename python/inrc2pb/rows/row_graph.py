@@ -136,10 +136,6 @@ class Graph:
             minimum = list(map(min, *[map(add, gather(reached), costs) for gather, costs in arcs]))
         return minimum, paid[::-1]
 
-    def cheapest(self, start: int, pay: Sequence[Sequence[int]]) -> Tuple[int, bytes]:
-        """The minimum cost of a row from this node on, and the first row that has it. NEVER or more: there is no row."""
-        return self.arrays.cheapest(start, pay)
-
     def walked(self, start: int, row: Sequence[int]) -> Tuple[int, int]:
         """The node at which these first choices of a row end, and what they cost without any pay; NEVER or more if a hard rule forbids
         them."""
@@ -149,11 +145,12 @@ class Graph:
             node = day.heads[choice][node]
         return node, total
 
-    def within(self, start: int, pay: Sequence[Sequence[int]], limit: int, most: int) -> List[bytes]:
-        """All rows that cost at most the limit, but no more than `most` + 1 of them."""
+    def within(self, start: int, pay: Sequence[Sequence[int]], gap: int, most: int) -> List[bytes]:
+        """All rows that cost at most this gap more than the cheapest one, but no more than `most` + 1 of them."""
         minimum, paid = self.values(pay)
         found: List[bytes] = []
-        open_rows = [(start, 0, b"")] if minimum[start] <= limit else []
+        limit = minimum[start] + gap
+        open_rows = [(start, 0, b"")]
         while open_rows and len(found) <= most:
             node, spent, row = open_rows.pop()
             if len(row) == len(paid):

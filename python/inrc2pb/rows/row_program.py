@@ -49,8 +49,7 @@ class RowProgram:
         self._crews, self._nurses, self._program = crews, len(plan.nurses), program
         self.below = BELOW_MINIMUM if plan.charging else 1
         self._known: Dict[Tuple[int, NurseWeek, Tuple[int, ...]], int] = {}
-        # The columns of each nurse, those that are not in use, and those that are shut.
-        self._numbers: List[List[int]] = [[] for _ in plan.nurses]
+        # The columns that are not in use, and those that are shut.
         self._dropped: Dict[int, None] = {}
         self._shut: Dict[int, None] = {}
         # The row of each crew that has several places.
@@ -88,7 +87,6 @@ class RowProgram:
         entries = [(nurse, 1.0), *((row, 1.0) for row in rows if row is not None)]
         number = self._program.add_columns([Column(cost, *_FREE, entries)])
         self._known[key] = len(self.columns)
-        self._numbers[nurse].append(len(self.columns))
         self.columns.append(RowColumn(nurse, row, cost, number))
         return self._known[key], True
 
@@ -114,10 +112,6 @@ class RowProgram:
         self._dropped.update(dict.fromkeys(new))
         self._program.bound_columns({self.columns[column].number: _OUT for column in new})
 
-    def hold(self, column: int) -> None:
-        """Lets a nurse have the row of this column only."""
-        self.shut(other for other in self._numbers[self.columns[column].nurse] if other != column)
-
     def shut(self, columns: Iterable[int]) -> None:
         """Lets no nurse have these rows."""
         new = [column for column in columns if column not in self._shut]
@@ -141,12 +135,11 @@ class RowProgram:
         left = [number for number in range(self._program.columns) if number not in out]
         numbers, part = {number: place for place, number in enumerate(left)}, copy.copy(self)
         part._program, part._dropped, part._shut, part._links = self._program.part(left, program), {}, {}, dict(self._links)
-        part.columns, part._known, part._numbers = [], {}, [[] for _ in self._numbers]
+        part.columns, part._known = [], {}
         for key, column in self._known.items():
             known = self.columns[column]
             if known.number in numbers:
                 part._known[key] = len(part.columns)
-                part._numbers[known.nurse].append(len(part.columns))
                 part.columns.append(known._replace(number=numbers[known.number]))
         return part
 
@@ -168,15 +161,18 @@ class RowProgram:
 
     # ---- solutions
 
-    def solve(self, clock: Clock) -> Solved:
-        """Solves the linear program from the basis of its last solution. Prices that are no prices are cut."""
+    def solve(self, clock: Clock, how: str = PRIMAL) -> Solved:
+        """Solves the linear program from the basis of its last solution, by the primal or the dual simplex method. Prices that are no
+        prices are cut."""
         left = self.most_iterations - self.iterations
         if left < 1:
             raise TimeIsOver
-        found = self._program.solve(clock, PRIMAL, int(left) if left < math.inf else 0)
+        found = self._program.solve(clock, how, int(left) if left < math.inf else 0)
         self.iterations += found.iterations
         if found.status == STOPPED:
             raise TimeIsOver
+        if found.status != OPTIMAL and how != PRIMAL:
+            return self.solve(clock)
         if found.status != OPTIMAL:
             raise SolverFault("the solver of linear programs found no solution")
         of_places = found.prices[self._nurses : self._nurses + len(self._crews.places)]

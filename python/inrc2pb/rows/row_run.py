@@ -2,8 +2,9 @@
 
 import concurrent.futures
 import contextlib
+import threading
 import time
-from typing import Callable, List, Optional, TypeVar
+from typing import Callable, Dict, List, Optional, TypeVar
 
 from ..judging.runs import NEVER
 from ..programs.clock import Clock, TimeIsOver
@@ -15,11 +16,12 @@ from .case_tree import CaseTree
 from .certificate import Certificate, Leaf
 from .first_rows import matched_rows
 from .plan import POINT, STEP, Plan, Points
-from .pricing import Crews, NurseWeek, Pricing
+from .pricing import Crews, NurseWeek, Priced, Prices, Pricing
 from .row_generation import NoRow, RowGeneration
 from .row_parts import RowParts
-from .row_search import GIVEN, Offer, RowSearch, WholeSearch
+from .row_search import GIVEN, Offer, RowSearch, WrongBound
 from .skills import staffed
+from .week_dives import WeekDives
 from .workers import CaseWorker, workers
 
 # The shares of the time that is left: for new rows before a dive, for the dive, for one when no row is missing, for an integer program
@@ -37,6 +39,34 @@ PROOF_SECONDS = 5.0
 # Seconds between two looks whether the gap is small.
 WAIT_SECONDS = 0.2
 Found = TypeVar("Found")
+
+
+class WholeSearch(WeekDives):
+    """The search over all rows of a plan, whose best roster several threads may improve. It refutes a bound above its penalty."""
+
+    def __init__(self, pricing: Pricing, solver: Optional[LinearSolver], clock: Clock, offer: Offer, heard: Callable[[], None]) -> None:
+        super().__init__(pricing, solver, clock, offer, heard)
+        self._lock = threading.RLock()
+
+    def keep(self, rows: List[NurseWeek], finder: str) -> bool:
+        """Offers rows that may be better than the best roster. Returns whether they are."""
+        with self._lock:
+            is_better = super().keep(rows, finder)
+            self._check_bound()
+            return is_better
+
+    def swap(self, rows: List[NurseWeek]) -> bool:
+        """Takes other rows that cost as much as those of the best roster. Returns whether they do."""
+        with self._lock:
+            return super().swap(rows)
+
+    def _raise_bound(self, prices: Prices, found: Dict[int, Priced]) -> None:
+        super()._raise_bound(prices, found)
+        self._check_bound()
+
+    def _check_bound(self) -> None:
+        if self.penalty is not None and self.lower_bound is not None and self.penalty < self.lower_bound:
+            raise WrongBound(self.lower_bound, self.penalty)
 
 
 class RowRun:
@@ -103,6 +133,7 @@ class RowRun:
             if search.complete and search.misses_minimums and (self._keeps_limits or self._no_roster()):
                 return
             if search.complete and self._dives_beside and search.penalty is not None:
+                search.take_greatest()
                 break
             rows = self._try(search.dive, LAST_DIVE_SHARE if search.complete else DIVE_SHARE)
             if rows:

@@ -1,33 +1,21 @@
 """The search for rosters over rows: each nurse's whole week, or whole period, is one column of a linear program.
 
-Its generated rows are fixed a few at a time, with new ones in between. If the roster is still above the bound, an integer program
-chooses among all rows that a better roster can have.
+If a roster is above the bound, an integer program chooses among all rows that a better roster can have.
 """
 
-import math
-import random
-import threading
 from typing import Callable, Dict, List, NamedTuple, Optional, Sequence
 
-from ..programs.clock import Clock, TimeIsOver
+from ..programs.clock import Clock
 from ..week.faults import Misuse
 from .first_rows import Descent
 from ..solvers.linear_solvers import LinearSolver
 from .plan import POINT, STEP, Plan, Points, Thousandths
-from .pricing import NurseWeek, Priced, Prices, Pricing
-from .row_generation import EXACT, WORTH, RowGeneration
-from .row_program import RowProgram, Solved
+from .pricing import NurseWeek, Prices, Pricing
+from .row_generation import RowGeneration
+from .row_program import RowProgram
 from .skills import staffed
 
-# The share of the nurses whose rows are fixed at once: at first, at least, and at most.
-FIRST_SHARE, LEAST_SHARE, MOST_SHARE = 0.06, 0.02, 0.5
-# How many times the part of the time that a step takes is fixed in it, if the time is short.
-HURRY = 1.5
-# The most rounds of new rows between two fixings, and if the time is short.
-DIVE_ROUNDS, SHORT_ROUNDS = 30, 2
 MOST_SWEEPS = 4
-# A larger share counts as a whole row. The factors of shares in a dive by chance.
-WHOLE, BY_CHANCE = 0.999, (0.5, 1.0)
 # The name of what found the rows with which a search begins.
 GIVEN = "the given roster"
 
@@ -107,90 +95,18 @@ class RowSearch(RowGeneration):
         value = None if penalty is None else self.value_of(rows)
         if value is not None:
             self.rows, self.penalty = rows, value if self.plan.asks else penalty
+        self.descend(rows, "one nurse after another")
+
+    def descend(self, rows: Sequence[NurseWeek], finder: str) -> None:
+        """Takes these rows, made better one after another, and adds them to the program."""
         descent = Descent(self.pricing, rows)
         try:
             for _ in range(MOST_SWEEPS):
                 if not descent.sweep(self.clock.check):
                     break
         finally:
-            self.keep(descent.rows, "one nurse after another")
+            self.keep(descent.rows, finder)
             self.add_roster(descent.rows)
-
-    # ---- fixed rows
-
-    def dive(self, clock: Clock, share: float = 0.0, chance: Optional[random.Random] = None) -> Optional[List[NurseWeek]]:
-        """Fixes rows a few at a time, with new ones in between: this share of the nurses, if it is not 0, and by chance not only those of
-        the greatest shares. Returns a row of each nurse, None if they cannot be better than the best. At the end of the time the other rows
-        are those of the greatest shares, made better one after another."""
-        chosen: Dict[int, int] = {}
-        try:
-            found = self._dive(clock, chosen, share, chance)
-        except TimeIsOver:
-            self.clock.check()
-            self._round({**self._greatest(self.solved), **{nurse: self.program.columns[column].row for nurse, column in chosen.items()}})
-            return None
-        finally:
-            self.program.free()
-        return [self.program.columns[chosen[nurse]].row for nurse in range(len(self.plan.nurses))] if found else None
-
-    def _greatest(self, solved: Optional[Solved]) -> Dict[int, NurseWeek]:
-        """The row of each nurse that has the greatest share in a solution."""
-        shares, columns = solved.shares if solved else {}, self.program.columns
-        return {columns[number].nurse: columns[number].row for number in sorted(shares, key=shares.__getitem__)}
-
-    def _round(self, rows: Dict[int, NurseWeek]) -> None:
-        """Takes these rows, made better one after another, if each nurse has one."""
-        if len(rows) < len(self.plan.nurses):
-            return
-        descent = Descent(self.pricing, [rows[nurse] for nurse in range(len(self.plan.nurses))])
-        try:
-            while descent.sweep(self.clock.check):
-                pass
-        finally:
-            self.keep(descent.rows, "fixing rows in a short time")
-
-    def _dive(self, clock: Clock, chosen: Dict[int, int], fixed_share: float, chance: Optional[random.Random]) -> bool:
-        """Chooses a column of each nurse, by number. Returns whether there is one."""
-        columns, nurses = self.program.columns, len(self.plan.nurses)
-        share, hurry, last = fixed_share or FIRST_SHARE, 0.0, -math.inf
-        while len(chosen) < nurses:
-            before = clock.left()
-            now = self._relaxed_beside(chosen, last, clock, SHORT_ROUNDS if hurry > share else DIVE_ROUNDS)
-            if self.penalty is not None and now.value > self.penalty - STEP + EXACT:
-                return False
-            if not fixed_share:
-                share = min(MOST_SHARE, share * 1.5) if now.value <= last + EXACT else max(LEAST_SHARE, share * 0.7)
-            last = now.value
-            free = nurses - len(chosen)
-            # So many at once that the time is enough.
-            hurry = HURRY * (before - clock.left()) / max(EXACT, clock.left())
-            most = max(1, int(max(share, hurry) * free))
-            before_fixing, fixed = len(chosen), 0
-            weights = {number: share * (chance.uniform(*BY_CHANCE) if chance else 1) for number, share in now.shares.items()}
-            for number in sorted(weights, key=weights.__getitem__, reverse=True):
-                if columns[number].nurse not in chosen and (fixed < most or now.shares[number] > WHOLE):
-                    chosen[columns[number].nurse] = number
-                    self.program.hold(number)
-                    fixed += now.shares[number] <= WHOLE
-            if len(chosen) == before_fixing:
-                return False
-        return True
-
-    def _relaxed_beside(self, chosen: Dict[int, int], last: float, clock: Clock, rounds: int) -> Solved:
-        """The linear program with these columns fixed. While its value is above the last one, the other nurses get new rows."""
-        free = [nurse for nurse in range(len(self.plan.nurses)) if nurse not in chosen]
-        now = self.program.solve(clock)
-        for _ in range(rounds if chosen else 0):
-            if now.value <= last + EXACT:
-                break
-            new = 0
-            for nurse, priced in self._priced(now.prices, free, clock).items():
-                if priced.value - now.nurses[nurse] < -WORTH:
-                    new += self._add(nurse, priced.row, priced.cost, now.prices)
-            if not new:
-                break
-            now = self.program.solve(clock)
-        return now
 
     # ---- the rows of a better roster
 
@@ -256,31 +172,3 @@ class RowSearch(RowGeneration):
             self.add_row(nurse, row)
         wanted = set(found)
         return [number for number, column in enumerate(self.program.columns) if (column.nurse, column.row) in wanted]
-
-
-class WholeSearch(RowSearch):
-    """The search over all rows of a plan, whose best roster several threads may improve. It refutes a bound above its penalty."""
-
-    def __init__(self, pricing: Pricing, solver: Optional[LinearSolver], clock: Clock, offer: Offer, heard: Callable[[], None]) -> None:
-        super().__init__(pricing, solver, clock, offer, heard)
-        self._lock = threading.RLock()
-
-    def keep(self, rows: List[NurseWeek], finder: str) -> bool:
-        """Offers rows that may be better than the best roster. Returns whether they are."""
-        with self._lock:
-            is_better = super().keep(rows, finder)
-            self._check_bound()
-            return is_better
-
-    def swap(self, rows: List[NurseWeek]) -> bool:
-        """Takes other rows that cost as much as those of the best roster. Returns whether they do."""
-        with self._lock:
-            return super().swap(rows)
-
-    def _raise_bound(self, prices: Prices, found: Dict[int, Priced]) -> None:
-        super()._raise_bound(prices, found)
-        self._check_bound()
-
-    def _check_bound(self) -> None:
-        if self.penalty is not None and self.lower_bound is not None and self.penalty < self.lower_bound:
-            raise WrongBound(self.lower_bound, self.penalty)

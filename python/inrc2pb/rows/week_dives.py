@@ -1,22 +1,26 @@
-"""Dives of a period: the weeks of nurses are fixed a few at a time, those first that most shares of a solution have in common. A nurse
-still gets new rows with her fixed weeks."""
+"""Dives: the weeks of nurses are fixed a few at a time, those first that most shares of a solution have in common. A nurse still gets new
+rows with her fixed weeks."""
 
 import math
 import random
-from typing import Dict, List, NamedTuple, Optional
+from typing import Dict, List, NamedTuple, Optional, Set
 
 from ..programs.clock import Clock, TimeIsOver
+from ..solvers.resident_program import DUAL, PRIMAL
 from ..week.records import WEEK_DAYS
 from .plan import POINT, STEP
 from .pricing import NurseWeek
 from .row_generation import EXACT, WORTH
 from .row_program import RowProgram, Solved
-from .row_search import SHORT_ROUNDS, WHOLE, RowSearch
+from .row_search import RowSearch
 
-# The most rounds of new rows between two fixings, and how near the value of the program, in points, must be to what its prices prove.
-MOST_ROUNDS, NEAR = 40, STEP / 2
-# The factors of shares in a dive by chance.
-BY_CHANCE = (0.8, 1.0)
+# The share of the open weeks that is fixed at once, if a dive has none of its own: at first, at least, and at most.
+FIRST_SHARE, LEAST_SHARE, MOST_SHARE = 0.06, 0.02, 0.5
+# The most rounds of new rows between two fixings, and if the time is short. Before, they end when the value of the program, in points, is
+# as near to what its prices prove.
+MOST_ROUNDS, SHORT_ROUNDS, NEAR = 40, 2, STEP / 2
+# A larger share counts as a whole week. The factors of shares in a dive by chance.
+WHOLE, BY_CHANCE = 0.999, (0.8, 1.0)
 # How many times the part of the time that a step takes is fixed in it, if the time is short. The later ones take less.
 HURRY = 0.8
 
@@ -38,38 +42,53 @@ class _Week(NamedTuple):
 
 
 class WeekDives(RowSearch):
-    """A search that also dives by weeks."""
+    """A search that also dives."""
 
-    def dive_by_weeks(self, clock: Clock, share: float, chance: Optional[random.Random] = None) -> Optional[List[NurseWeek]]:
-        """Fixes this share of the open weeks of nurses at once, by chance not only those of the greatest shares. Returns a row of each
-        nurse, None if they cannot be better than the best. At the end of the time the rows are those of the greatest shares, made better
-        one after another."""
+    def dive(self, clock: Clock, share: float = 0.0, chance: Optional[random.Random] = None) -> Optional[List[NurseWeek]]:
+        """Fixes this share of the open weeks of nurses at once, without one as many as the solutions allow, and by chance not only those of
+        the greatest shares. Returns a row of each nurse, None if they cannot be better than the best. At the end of the time the rows are
+        those of the greatest shares, made better one after another."""
         pricing, program = self.pricing, self.program
         # The rows of the greatest shares in the last solution.
         self._last = self._greatest(self.solved)
         try:
-            return self._dive_by_weeks(clock, share, chance)
+            return self._dive(clock, share, chance)
         except TimeIsOver:
             self.pricing = pricing
             self.clock.check()
-            self._round(self._last)
+            self._take(self._last, "fixing rows in a short time")
             return None
         finally:
             self._leave(program)
             self.pricing = pricing
             program.free()
 
-    def _dive_by_weeks(self, clock: Clock, share: float, chance: Optional[random.Random]) -> Optional[List[NurseWeek]]:
+    def _greatest(self, solved: Optional[Solved]) -> Dict[int, NurseWeek]:
+        """The row of each nurse that has the greatest share in a solution."""
+        shares, columns = solved.shares if solved else {}, self.program.columns
+        return {columns[number].nurse: columns[number].row for number in sorted(shares, key=shares.__getitem__)}
+
+    def take_greatest(self) -> None:
+        """Takes the rows of the greatest shares in the solution without fixed weeks, made better one after another."""
+        self._take(self._greatest(self.solved), "the greatest shares")
+
+    def _take(self, rows: Dict[int, NurseWeek], finder: str) -> None:
+        if len(rows) == len(self.plan.nurses):
+            self.descend([rows[nurse] for nurse in range(len(rows))], finder)
+
+    def _dive(self, clock: Clock, fixed_share: float, chance: Optional[random.Random]) -> Optional[List[NurseWeek]]:
         whole = self.program
         left = [_Week(nurse, number) for nurse in range(len(self.plan.nurses)) for number in range(len(self.plan.weeks))]
         fixed: Dict[_Week, NurseWeek] = {}
-        last, hurry = -math.inf, 0.0
+        share, last, hurry = fixed_share or FIRST_SHARE, -math.inf, 0.0
         while left:
             before = clock.left()
             nurses = sorted({week.nurse for week in left}) if fixed else []
             now = self._relaxed_with(nurses, last, clock, SHORT_ROUNDS if hurry > share else MOST_ROUNDS)
-            if self.penalty is not None and now.value > self.penalty - STEP + EXACT:
+            if self._is_no_better(now.value):
                 return None
+            if not fixed_share:
+                share = min(MOST_SHARE, share * 1.5) if now.value <= last + EXACT else max(LEAST_SHARE, share * 0.7)
             self._last = self._greatest(now)
             # So many at once that the time is enough.
             last, hurry = now.value, HURRY * (before - clock.left()) / max(EXACT, clock.left())
@@ -78,14 +97,18 @@ class WeekDives(RowSearch):
                 return None
             fixed.update(new)
             left = [week for week in left if week not in new]
-            self._keep_weeks(new)
-            if self.program.is_mostly_shut:
+            self._keep_weeks(new, {week.nurse for week in left})
+            if left and self.program.is_mostly_shut:
                 # The solver looks at shut columns, too.
                 part = self.program.open_part(self.linear_program())
                 self._leave(whole)
                 self.program = part
         weeks = range(len(self.plan.weeks))
         return [b"".join(fixed[_Week(nurse, number)] for number in weeks) for nurse in range(len(self.plan.nurses))]
+
+    def _is_no_better(self, value: float) -> bool:
+        """Whether rosters of at least this value, in points, are not better than the best one."""
+        return self.penalty is not None and value > self.penalty - STEP + EXACT
 
     def _leave(self, whole: RowProgram) -> None:
         """Goes back to the program with which the dive began, with the new rows."""
@@ -97,7 +120,8 @@ class WeekDives(RowSearch):
     def _relaxed_with(self, nurses: List[int], last: float, clock: Clock, rounds: int) -> Solved:
         """The linear program with the fixed weeks. While its value is above the last one, and above what its prices prove, these nurses get
         new rows."""
-        now, bound = self.program.solve(clock), -math.inf
+        # Fixed weeks take columns away, for which the dual method is made, and new rows add columns.
+        now, bound = self.program.solve(clock, DUAL if nurses else PRIMAL), -math.inf
         for _ in range(rounds if nurses else 0):
             if now.value <= last + EXACT:
                 break
@@ -106,7 +130,7 @@ class WeekDives(RowSearch):
             bound = max(bound, now.value - sum(gains.values()) / POINT)
             better = {nurse: priced for nurse, priced in found.items() if gains[nurse] > WORTH}
             new = sum(self._add(nurse, priced.row, priced.cost, now.prices) for nurse, priced in better.items())
-            if not new or now.value - bound <= NEAR:
+            if not new or self._is_no_better(bound) or (now.value - bound <= NEAR and not self._is_no_better(now.value)):
                 break
             now = self.program.solve(clock)
         return now
@@ -129,9 +153,10 @@ class WeekDives(RowSearch):
                 others.setdefault(week.nurse, week)
         return {**new, **{week: best[week] for week in others.values()}}
 
-    def _keep_weeks(self, new: Dict[_Week, NurseWeek]) -> None:
-        """Lets rows have these weeks only."""
-        self.pricing = self.pricing.keeping([(week.nurse, week.days, choices) for week, choices in new.items()])
+    def _keep_weeks(self, new: Dict[_Week, NurseWeek], nurses: Set[int]) -> None:
+        """Lets rows have these weeks only. These nurses have open weeks."""
+        kept = [(week.nurse, week.days, choices) for week, choices in new.items() if week.nurse in nurses]
+        self.pricing = self.pricing.keeping(kept) if kept else self.pricing
         of_nurse: Dict[int, List[_Week]] = {}
         for week in new:
             of_nurse.setdefault(week.nurse, []).append(week)

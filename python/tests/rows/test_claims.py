@@ -12,7 +12,8 @@ from ward import HAS_CBC
 from inrc2pb.programs.clock import Clock
 from inrc2pb.programs.processes import Processes
 from inrc2pb.rows.plan import Plan
-from inrc2pb.rows.row_search import RowSearch, WholeSearch, WrongBound
+from inrc2pb.rows.row_run import WholeSearch
+from inrc2pb.rows.row_search import RowSearch, WrongBound
 from inrc2pb.solvers.linear_solvers import LinearSolver
 
 STEP = 5

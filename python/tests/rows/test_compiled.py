@@ -41,7 +41,7 @@ class CompiledPricing(unittest.TestCase):
         fast, plain = CompiledRows(members, days, self.library), Blocks(members, days, allowed)
         nurses = [member.nurse for member in members]
         for some in (nurses, nurses[::-2]):
-            (costs, rows), (wanted, wanted_rows) = fast.cheapest(pay, some), plain.cheapest(pay, some)
+            (costs, rows), (wanted, wanted_rows) = fast.cheapest(pay[some], some), plain.cheapest(pay[some], some)
             for number in range(len(some)):
                 self.assertEqual(min(costs[number], NEVER // 2), min(wanted[number], NEVER // 2))
                 if costs[number] < NEVER // 2:

@@ -16,6 +16,7 @@ from inrc2pb.rows.pricing import Crews, Pricing
 from inrc2pb.rows.part_search import Dive, Done, Part, PartSearch
 from inrc2pb.rows.row_parts import STUCK_WORK, Restart, RowParts
 from inrc2pb.rows.row_search import RowSearch
+from inrc2pb.rows.week_dives import WeekDives
 from inrc2pb.solvers.linear_solvers import LinearSolver
 
 MONTH = ROOT / "examples" / "month"
@@ -188,43 +189,24 @@ class Restarts(unittest.TestCase):
 
 
 class DiveTest(HelperTest):
-    """Tests of dives in a search of this class."""
-
-    search_class = RowSearch
+    """Tests of dives."""
 
     def setUp(self):
         super().setUp()
         self.solver = LinearSolver(Processes(), self.folder, self.fail)
         self.addCleanup(self.solver.close)
 
-    def generated(self):
-        """A search over two weeks of the month that knows all rows of its linear program."""
-        plan = Plan.of(SCENARIO, HISTORY, WEEKS)
+    def generated(self, weeks=2):
+        """A search over the first weeks of the month that knows all rows of its linear program."""
+        plan = Plan.of(SCENARIO, HISTORY, WEEKS[:weeks])
         pricing = Pricing(plan, Crews(plan), lambda: None)
-        search = self.search_class(pricing, self.solver, Clock(LONG), lambda rows, _finder: search.value_of(rows), lambda: None)
+        search = WeekDives(pricing, self.solver, Clock(LONG), lambda rows, _finder: search.value_of(rows), lambda: None)
         search.generate(search.clock)
         return search
 
 
 @unittest.skipUnless(HAS_CBC, "needs cbc")
 class Dives(DiveTest):
-    def test_dives_end_near_the_bound_and_the_same_chance_at_the_same_roster(self):
-        search = self.generated()
-        lower, value = search.lower_bound, search.solved.value
-        for share, seed in ((0.06, None), (0.12, 3)):
-            rows = search.dive(search.clock, share, seed and random.Random(seed))
-            # A linear program that is not held back by any rows again has its value.
-            self.assertLessEqual(search.program.solve(search.clock).value, value + 1e-6)
-            self.assertLessEqual(lower, search.value_of(rows))
-            self.assertLess(search.value_of(rows), lower + 100)
-        one, other = (self.generated().dive(Clock(LONG), 0.12, random.Random(5)) for _ in range(2))
-        self.assertEqual(one, other)
-
-    def test_a_dive_that_cannot_be_better_has_no_rows(self):
-        search = self.generated()
-        search.penalty = search.lower_bound
-        self.assertIsNone(search.dive(search.clock, 0.5))
-
     def test_parts_dive_in_a_period_and_if_the_gap_is_wide(self):
         search = self.generated()
         search.begin(matched_rows(search.plan, search.pricing.crews, lambda: None), None)
@@ -248,7 +230,7 @@ class Dives(DiveTest):
         asked, program.most_iterations = [], program.iterations + 3
         solve = program._program.solve
         with mock.patch.object(program._program, "solve", lambda *words: asked.append(words[2]) or solve(*words)):
-            search.program.hold(next(iter(search.solved.shares)))
+            search.program.shut(list(search.solved.shares)[1:])
             for _ in range(2):
                 try:
                     program.solve(search.clock)

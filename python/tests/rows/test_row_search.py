@@ -24,6 +24,7 @@ from inrc2pb.rows.row_run import RowRun
 from inrc2pb.rows.row_search import RowSearch
 from inrc2pb.judging.rules import costs, first_broken
 from inrc2pb.rows.skills import staffed
+from inrc2pb.rows.week_dives import WeekDives
 
 CBC = shutil.which("cbc")
 FAKE = Path(__file__).resolve().parents[1] / "fake_cbc.py"
@@ -178,11 +179,11 @@ class RowSearches(HelperTest):
         solver = LinearSolver(Processes(), self.folder, self.fail)
         self.addCleanup(solver.close)
         pricing = Pricing(plan, Crews(plan), lambda: None)
-        search = RowSearch(pricing, solver, Clock(600), lambda rows, finder: search.value_of(rows), lambda: None)
+        search = WeekDives(pricing, solver, Clock(600), lambda rows, finder: search.value_of(rows), lambda: None)
         search.begin(matched_rows(plan, search.pricing.crews, lambda: None), None)
         search.generate(search.clock)
         before = search.penalty
-        with mock.patch.object(RowSearch, "_dive", side_effect=TimeIsOver):
+        with mock.patch.object(WeekDives, "_dive", side_effect=TimeIsOver):
             self.assertIsNone(search.dive(Clock(600)))
         self.assertLess(search.penalty, before)
         cells = staffed(plan, search.pricing.crews, search.rows).cells

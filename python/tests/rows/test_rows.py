@@ -11,7 +11,7 @@ from inrc2pb.judging.absences import MARK
 from inrc2pb.programs.clock import Clock, TimeIsOver
 from inrc2pb.judging.next_history import next_history
 from inrc2pb.rows.plan import FREE, STRICT, Plan
-from inrc2pb.rows.pricing import Crews, Pricing, plain_bound
+from inrc2pb.rows.pricing import Crews, Pricing
 from inrc2pb.judging.rules import broken, costs, first_broken, nurse_costs
 from inrc2pb.rows.skills import staffed
 
@@ -45,6 +45,12 @@ def random_plan(seed, weeks=1, nurses=4, shifts=4):
 def pricing_of(plan, check=lambda: None):
     """The prices of a plan."""
     return Pricing(plan, Crews(plan), check)
+
+
+def bound_of(pricing, prices):
+    """What no roster costs less than by these prices, in thousandths."""
+    found = pricing.cheapest_of(range(len(pricing.plan.nurses)), pricing.crews.gains(prices))
+    return sum(priced.value for priced in found if priced) + pricing.places_cost(prices)
 
 
 def cost_by_rules(plan, nurse, cells):
@@ -104,7 +110,7 @@ class Rows(unittest.TestCase):
             pricing, week = pricing_of(plan), records.Week(plan.scenario, plan.history, plan.weeks[0])
             prices = [chance.choice([0, 15, 30, 200]) * POINT for _ in pricing.crews.places]
             found = [pricing.cheapest(nurse, pricing.crews.gains(prices)) for nurse in range(4)]
-            bound = sum(priced.value for priced in found) + pricing.places_cost(prices)
+            bound = bound_of(pricing, prices)
             for _ in range(4):
                 rows = [chance.choice([priced.row, bytes(7)]) for priced in found]
                 roster = staffed(plan, pricing.crews, rows)
@@ -125,8 +131,8 @@ class Rows(unittest.TestCase):
             self.assertTrue(keeping.is_away(away.nurse, away.day, next(iter(plan.scenario.shift_types))))
             pricing = pricing_of(keeping)
             prices = [chance.choice([0, 30, 900]) * POINT for _ in pricing.crews.places]
-            self.assertEqual(plain_bound(pricing.free(), prices), plain_bound(pricing_of(free), prices))
-            self.assertLessEqual(plain_bound(pricing.free(), prices), plain_bound(pricing, prices))
+            self.assertEqual(bound_of(pricing_of(keeping.kept(FREE)), prices), bound_of(pricing_of(free), prices))
+            self.assertLessEqual(bound_of(pricing_of(free), prices), bound_of(pricing, prices))
 
     def test_skills_fill_as_many_places_as_they_can(self):
         for seed in range(200):

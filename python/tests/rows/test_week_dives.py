@@ -15,7 +15,7 @@ from inrc2pb.rows.plan import POINT
 from inrc2pb.rows.part_search import Dive, PartSearch
 from inrc2pb.rows.row_parts import RowParts
 from inrc2pb.rows.row_program import RowProgram
-from inrc2pb.rows.week_dives import WeekDives
+from inrc2pb.solvers.resident_program import DUAL, INFEASIBLE, PRIMAL
 
 
 class Kept(unittest.TestCase):
@@ -38,32 +38,62 @@ class Kept(unittest.TestCase):
 
 @unittest.skipUnless(HAS_CBC, "needs cbc")
 class Dives(DiveTest):
-    search_class = WeekDives
-
     def test_dives_end_near_the_bound_and_the_same_chance_at_the_same_roster(self):
-        search = self.generated()
-        lower, value, pricing = search.lower_bound, search.solved.value, search.pricing
-        for share, seed in ((0.08, None), (0.3, 3)):
-            rows = search.dive_by_weeks(search.clock, share, seed and random.Random(seed))
-            # A linear program that is not held back by any weeks again has its value.
-            self.assertLessEqual(search.program.solve(search.clock).value, value + 1e-6)
-            self.assertIs(search.pricing, pricing)
-            self.assertLessEqual(lower, search.value_of(rows))
-            self.assertLess(search.value_of(rows), lower + 100)
-        one, other = (self.generated().dive_by_weeks(Clock(LONG), 0.2, random.Random(5)) for _ in range(2))
+        for weeks in (1, 2):
+            search = self.generated(weeks)
+            lower, value, pricing = search.lower_bound, search.solved.value, search.pricing
+            # Without a share it fixes as much at once as the solutions allow.
+            for share, seed in ((0.0, None), (0.08, None), (0.3, 3)):
+                with self.subTest(weeks=weeks, share=share):
+                    rows = search.dive(search.clock, share, seed and random.Random(seed))
+                    # A linear program that is not held back by any weeks again has its value.
+                    self.assertLessEqual(search.program.solve(search.clock).value, value + 1e-6)
+                    self.assertIs(search.pricing, pricing)
+                    self.assertLessEqual(lower, search.value_of(rows))
+                    self.assertLess(search.value_of(rows), lower + 100)
+        one, other = (self.generated().dive(Clock(LONG), 0.2, random.Random(5)) for _ in range(2))
         self.assertEqual(one, other)
+
+    def test_the_dual_method_comes_after_weeks_were_fixed(self):
+        search, asked = self.generated(1), []
+        solve = RowProgram.solve
+
+        def watched(program, clock, how=PRIMAL):
+            asked.append(how)
+            return solve(program, clock, how)
+
+        fixings = mock.Mock(side_effect=search._keep_weeks)
+        with mock.patch.object(RowProgram, "solve", watched), mock.patch.object(search, "_keep_weeks", fixings):
+            self.assertIsNotNone(search.dive(search.clock))
+        self.assertEqual(asked[0], PRIMAL)
+        # After the last fixing there is nothing to solve.
+        self.assertEqual(asked.count(DUAL), fixings.call_count - 1)
+
+    def test_a_program_that_the_dual_method_does_not_solve(self):
+        search, asked = self.generated(1), []
+        resident = search.program._program
+        solve, value = resident.solve, search.solved.value
+
+        def failing(clock, how, iterations):
+            asked.append(how)
+            found = solve(clock, how, iterations)
+            return found._replace(status=INFEASIBLE) if how == DUAL else found
+
+        with mock.patch.object(resident, "solve", failing):
+            self.assertAlmostEqual(search.program.solve(search.clock, DUAL).value, value, 6)
+        self.assertEqual(asked, [DUAL, PRIMAL])
 
     def test_shut_columns_leave_the_program_of_a_dive(self):
         search, solved = self.generated(), []
         whole, before = search.program, len(search.program.columns)
         solve = RowProgram.solve
 
-        def watched(program, clock):
+        def watched(program, clock, how=PRIMAL):
             solved.append((program, len(program.columns), program.is_mostly_shut))
-            return solve(program, clock)
+            return solve(program, clock, how)
 
         with mock.patch.object(RowProgram, "solve", watched):
-            rows = search.dive_by_weeks(search.clock, 0.3)
+            rows = search.dive(search.clock, 0.3)
         self.assertIsNotNone(rows)
         # After the first weeks are fixed few of the columns are left, and no program that is solved has many that are shut.
         self.assertIs(solved[0][0], whole)
@@ -90,19 +120,19 @@ class Dives(DiveTest):
     def test_a_dive_that_cannot_be_better_has_no_rows(self):
         search = self.generated()
         search.penalty = search.lower_bound
-        self.assertIsNone(search.dive_by_weeks(search.clock, 0.5))
+        self.assertIsNone(search.dive(search.clock, 0.5))
 
     def test_a_dive_that_its_time_ends(self):
         search = self.generated()
         search.begin(matched_rows(search.plan, search.pricing.crews, lambda: None), None)
         before, pricing, fix = search.penalty, search.pricing, search._keep_weeks
 
-        def end(weeks):
-            fix(weeks)
+        def end(*words):
+            fix(*words)
             raise TimeIsOver
 
         with mock.patch.object(search, "_keep_weeks", end):
-            self.assertIsNone(search.dive_by_weeks(Clock(LONG), 0.2))
+            self.assertIsNone(search.dive(Clock(LONG), 0.2))
         self.assertLess(search.penalty, before)
         self.assertEqual(search.penalty, search.value_of(search.rows))
         self.assertIs(search.pricing, pricing)
@@ -111,8 +141,8 @@ class Dives(DiveTest):
         search, fixed = self.generated(), {}
         keep = search._keep_weeks
 
-        def see(weeks):
-            keep(weeks)
+        def see(weeks, nurses):
+            keep(weeks, nurses)
             fixed.update(weeks)
             for number in search.program.solve(search.clock).shares:
                 column = search.program.columns[number]
@@ -120,7 +150,7 @@ class Dives(DiveTest):
                     self.assertTrue(week.nurse != column.nurse or week.of(column.row) == choices)
 
         with mock.patch.object(search, "_keep_weeks", see):
-            rows = search.dive_by_weeks(search.clock, 0.2)
+            rows = search.dive(search.clock, 0.2)
         self.assertEqual(len(fixed), 60)
         self.assertTrue(all(week.of(rows[week.nurse]) == choices for week, choices in fixed.items()))
 

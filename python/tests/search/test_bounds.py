@@ -18,7 +18,7 @@ from ward import HelperTest, files, program, run, time_ends_at
 from inrc2pb.programs.program import WeekFiles
 from inrc2pb.rows.certificate import Certificate, Leaf, Split
 from inrc2pb.rows.plan import FREE, ONLY_ABSENCES, STRICT, Plan
-from inrc2pb.rows.pricing import Crews, Pricing, plain_bound
+from inrc2pb.rows.pricing import Crews, Pricing, in_steps
 from inrc2pb.search import bounds
 from inrc2pb.search.bounds import PLAIN, PROVER, Bound, Bounds, week_options
 from inrc2pb.search.period_search import BEYOND
@@ -32,6 +32,13 @@ OPTIONS = ("--sce", SCENARIO, "--his", HISTORY, "--week", WEEK, "--week", SECOND
 FAILED = f"{PROVER} failed, so bounds are computed in {PLAIN}: "
 CASES = Path(__file__).resolve().parents[1] / "data" / "cases"
 CASES_FILES = WeekFiles(CASES / "ward.txt", CASES / "history.txt", CASES / "week.txt")
+
+
+def plain_bound(plan, prices):
+    """What no roster of the plan costs less than by these prices."""
+    pricing = Pricing(plan, Crews(plan), lambda: None)
+    found = pricing.cheapest_of(range(len(plan.nurses)), pricing.crews.gains(prices))
+    return in_steps(pricing.places_cost(prices) + sum(priced.value for priced in found if priced))
 
 
 class FakeProver(HelperTest):
@@ -93,7 +100,7 @@ class Proofs(FakeProver):
         prices = [price for _ in plan.demand]
         certificate = Certificate(1, Crews(plan).places, Leaf(prices))
         return SimpleNamespace(
-            plan=plan, crews=Crews(plan), lower_bound=plain_bound(Pricing(plan, Crews(plan), lambda: None), prices),
+            plan=plan, crews=Crews(plan), lower_bound=plain_bound(plan, prices),
             certificate=lambda: certificate, search=SimpleNamespace(prices=prices),
         )  # fmt: skip
 
@@ -134,7 +141,7 @@ class Proofs(FakeProver):
     def test_without_a_program_a_bound_of_other_rosters_is_computed_anew(self):
         for price in (5000, 30_000):
             run = self.certified(self.away, price)
-            free = plain_bound(Pricing(self.away.kept(FREE), run.crews, lambda: None), run.search.prices)
+            free = plain_bound(self.away.kept(FREE), run.search.prices)
             self.assertLessEqual(free, run.lower_bound)
             self.assertEqual(self.bounds(None).of(run, FREE, 60.0), Bound(free, PLAIN))
             self.assertEqual(self.bounds(None).of(run, STRICT, 60.0), Bound(run.lower_bound, PLAIN, "absences"))
@@ -144,7 +151,7 @@ class Proofs(FakeProver):
         leaf = Leaf(run.search.prices)
         run.certificate = lambda: Certificate(1, run.crews.places, Split(Even(), leaf, leaf))
         free = self.bounds(None).of(run, FREE, 60.0)
-        self.assertIn(free.points - plain_bound(Pricing(self.away.kept(FREE), run.crews, lambda: None), leaf.prices), (0, 5))
+        self.assertIn(free.points - plain_bound(self.away.kept(FREE), leaf.prices), (0, 5))
 
     def test_a_program_that_lies_or_fails(self):
         run = self.certified(self.free)
