@@ -1,6 +1,7 @@
 """A search for the best rosters of several weeks together: each nurse's days of all weeks are one row."""
 
 import tempfile
+from dataclasses import replace
 from pathlib import Path
 from typing import Callable, List, Optional, Sequence, Tuple
 
@@ -17,7 +18,7 @@ from ..rows.row_search import GIVEN
 from ..rows.skills import rows_of, staffed
 from ..solvers.linear_solvers import INSTALL, LinearSolver, is_installed
 from ..week.faults import ProgramFault, Stopped
-from ..week.records import Cell, in_week
+from ..week.records import Cell, Limits, Scenario, in_week
 from .bounds import PLAIN, PROOF_SECONDS, STOPPED_SECONDS, Bound, Bounds
 from .planned_weeks import PlannedWeeks
 
@@ -159,7 +160,7 @@ class PeriodSearch:
         return rows_of(plan, (cell for cell in self._start if not plan.is_away(cell.nurse, cell.day, cell.shift)))
 
     def _week_after_week(self, plan: Plan, solver: Optional[LinearSolver]) -> Optional[List[NurseWeek]]:
-        """Rows of all weeks, each planned before the next one and with what it may charge early; None if a week has no roster."""
+        """Rows of all weeks, each planned before the next one and as the last one of a part of the period; None if a week has no roster."""
         history, rows = plan.history, [b""] * len(plan.nurses)
         seconds = self._clock.left() * FIRST_SHARE / len(plan.weeks)
         for number, data in enumerate(plan.weeks):
@@ -170,9 +171,8 @@ class PeriodSearch:
                 found.append(better)
                 return run.search.value_of(better) if run.search else None
 
-            week = Plan.of(
-                plan.scenario, history, [data], early=True, held=held, keeping=ABSENCES_KEPT if plan.keeping == STRICT else plan.keeping
-            )
+            keeping = ABSENCES_KEPT if plan.keeping == STRICT else plan.keeping
+            week = Plan.of(_part(plan.scenario, history.week + 1), history, [data], held=held, keeping=keeping)
             run = RowRun(week, solver, self._clock.part(seconds), offer, lambda: None, splits=False)
             run.run()
             if not found:
@@ -218,6 +218,19 @@ class PeriodSearch:
             less = "no plan that keeps them costs less" if only else "no plan costs less"
             return f"{bound}: {less}" + (", proved" if self.bound.by != PLAIN else "")
         return f"{bound}: the gap is {self.penalty - self.bound.points}, {gap_share(self.penalty, self.bound.points)}"
+
+
+def _part(scenario: Scenario, weeks: int) -> Scenario:
+    """The same ward in a period of so many weeks: its contracts have that part of their totals, so that none is used up too soon."""
+
+    def share(total: int) -> int:
+        return round(total * weeks / scenario.weeks)
+
+    contracts = {
+        name: replace(contract, assignments=Limits(*map(share, contract.assignments)), max_weekends=share(contract.max_weekends))
+        for name, contract in scenario.contracts.items()
+    }
+    return replace(scenario, weeks=weeks, contracts=contracts)
 
 
 def _why_none(run: RowRun) -> str:

@@ -10,6 +10,7 @@ from ward import ROOT, files, records
 from inrc2pb.judging.absences import MARK
 from inrc2pb.programs.clock import Clock, TimeIsOver
 from inrc2pb.judging.next_history import next_history
+from inrc2pb.rows.first_rows import Descent, matched_rows
 from inrc2pb.rows.plan import FREE, STRICT, Plan
 from inrc2pb.rows.pricing import Crews, Pricing
 from inrc2pb.judging.rules import broken, costs, first_broken, nurse_costs
@@ -157,6 +158,15 @@ class Rows(unittest.TestCase):
         weeks = [files.read_week(ward / f"week-{number}.txt", scenario) for number in range(4)]
         with self.assertRaises(TimeIsOver):
             pricing_of(Plan.of(scenario, files.read_history(ward / "history-0.txt", scenario), weeks), Clock(0.0).check)
+
+    def test_rows_that_get_better_one_after_another(self):
+        for seed in range(20):
+            plan, _ = random_plan(seed, nurses=6)
+            pricing = pricing_of(plan)
+            descent = Descent(pricing, matched_rows(plan, pricing.crews, lambda: None))
+            while descent.sweep(lambda: None):
+                # What one more nurse of a crew is worth is that of a descent which begins with these rows.
+                self.assertEqual(list(descent._worth), list(Descent(pricing, descent.rows)._worth))
 
 
 if __name__ == "__main__":
