@@ -125,9 +125,9 @@ class RowProgram:
         self._shut.clear()
 
     @property
-    def is_mostly_shut(self) -> bool:
-        """Whether less than half of its columns are open."""
-        return len(self.columns) < 2 * len({**self._dropped, **self._shut})
+    def has_many_shut(self) -> bool:
+        """Whether more than a fifth of its columns are not open."""
+        return len(self.columns) < 5 * len({**self._dropped, **self._shut})
 
     def open_part(self, program: LinearProgram) -> "RowProgram":
         """The same in this empty linear program, without columns that are dropped or shut. It begins at the basis of the last solution."""

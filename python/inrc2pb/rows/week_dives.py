@@ -98,7 +98,7 @@ class WeekDives(RowSearch):
             fixed.update(new)
             left = [week for week in left if week not in new]
             self._keep_weeks(new, {week.nurse for week in left})
-            if left and self.program.is_mostly_shut:
+            if left and self.program.has_many_shut:
                 # The solver looks at shut columns, too.
                 part = self.program.open_part(self.linear_program())
                 self._leave(whole)

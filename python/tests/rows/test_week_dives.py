@@ -89,7 +89,7 @@ class Dives(DiveTest):
         solve = RowProgram.solve
 
         def watched(program, clock, how=PRIMAL):
-            solved.append((program, len(program.columns), program.is_mostly_shut))
+            solved.append((program, len(program.columns), program.has_many_shut))
             return solve(program, clock, how)
 
         with mock.patch.object(RowProgram, "solve", watched):
