@@ -192,7 +192,8 @@ class RowParts:
         with self._lock:
             self._diving -= 1
             if not is_better:
-                self._dived += done.work if done.ended else math.inf
+                # Some end before the first step.
+                self._dived += max(1, done.work) if done.ended else math.inf
 
     def improve(self, part: Part, solver: LinearSolver, clock: Clock, roster: Union[RowSearch, Restart]) -> Done:
         """Looks for better rows of a neighborhood of a roster."""
