@@ -49,13 +49,13 @@ class ShiftChange(NamedTuple):
 def shift_changes(old: Iterable[Cell], new: Iterable[Cell]) -> List[ShiftChange]:
     """The nurses' days with another shift type or skill, in the order of days."""
     before, now = ({(cell.day, cell.nurse): cell for cell in cells} for cells in (old, new))
-    found = [ShiftChange(nurse, day, before.get((day, nurse)), now.get((day, nurse))) for day, nurse in sorted({*before, *now})]
-    return [one for one in found if one.before != one.now]
+    changes = [ShiftChange(nurse, day, before.get((day, nurse)), now.get((day, nurse))) for day, nurse in sorted({*before, *now})]
+    return [change for change in changes if change.before != change.now]
 
 
 def called(changes: Iterable[ShiftChange], away: Mapping[NurseDay, str]) -> List[str]:
     """The nurses to call: those with a change on a day on which they are not away."""
-    return list(dict.fromkeys(one.nurse for one in changes if one.place not in away))
+    return list(dict.fromkeys(change.nurse for change in changes if change.place not in away))
 
 
 def is_other_shift(before: Optional[Cell], now: Optional[Cell]) -> bool:
@@ -100,10 +100,10 @@ def _requests(scenario: Scenario, nurse: str, day: int, shift_on: Dict[Tuple[str
 def days_off_beside_absences(plan: WardPlan) -> FrozenSet[NurseDay]:
     """The nurses' days off in the weeks that are not over, at most two days from a day on which they are away. Days on which a nurse is
     back earlier are none."""
-    back = {(one.nurse, one.day) for one in plan.state.absences if one.word in (BACK, SHEET)}
+    back = {(absence.nurse, absence.day) for absence in plan.state.absences if absence.word in (BACK, SHEET)}
     away = [(nurse, day) for (nurse, day), word in plan.away.items() if word not in DAYS_OFF]
     near = {NurseDay(nurse, day + later) for nurse, day in away for later in range(-NEAR, NEAR + 1)}
-    return frozenset(one for one in near if one not in plan.works and one not in plan.away and one not in back)
+    return frozenset(place for place in near if place not in plan.works and place not in plan.away and place not in back)
 
 
 # ---- skills of shifts that stay
@@ -112,10 +112,10 @@ def days_off_beside_absences(plan: WardPlan) -> FrozenSet[NurseDay]:
 def with_old_skills(scenario: Scenario, cells: Sequence[Cell], old: Sequence[Cell]) -> List[Cell]:
     """The same shifts, each place with as many nurses, and with the skills of the old roster where possible."""
     before = {(cell.nurse, cell.day, cell.shift): cell.skill for cell in old}
-    found: Dict[Tuple[int, str], List[Cell]] = {}
+    by_shift: Dict[Tuple[int, str], List[Cell]] = {}
     for cell in cells:
-        found.setdefault((cell.day, cell.shift), []).append(cell)
-    return [cell for of_shift in found.values() for cell in _labelled(scenario, of_shift, before)]
+        by_shift.setdefault((cell.day, cell.shift), []).append(cell)
+    return [cell for of_shift in by_shift.values() for cell in _labelled(scenario, of_shift, before)]
 
 
 def _labelled(scenario: Scenario, cells: List[Cell], before: Dict[Tuple[str, int, str], str]) -> List[Cell]:
@@ -236,51 +236,51 @@ def _steps(old: Works, works: Works, nurses: Sequence[str]) -> Iterator[Works]:
 
 def _taken_back(works: Works, group: Sequence[ShiftChange]) -> Dict[NurseDay, Cell]:
     """The assignments without these changes."""
-    found = dict(works)
-    for one in group:
-        found.pop(one.place, None)
-        if one.before:
-            found[one.place] = one.before
-    return found
+    taken = dict(works)
+    for change in group:
+        taken.pop(change.place, None)
+        if change.before:
+            taken[change.place] = change.before
+    return taken
 
 
 def _given_to(old: Works, works: Works, of_nurse: Sequence[ShiftChange], other: str) -> Optional[Works]:
     """The assignments with a nurse's new shifts given to another one; None if there are none, or she worked on one of these days."""
-    found, new = _taken_back(works, of_nurse), [one for one in of_nurse if one.now]
-    if not new or any(NurseDay(other, one.day) in old for one in new):
+    given, new = _taken_back(works, of_nurse), [change for change in of_nurse if change.now]
+    if not new or any(NurseDay(other, change.day) in old for change in new):
         return None
-    found.update({NurseDay(other, one.day): one.now._replace(nurse=other) for one in new if one.now})
-    return found
+    given.update({NurseDay(other, change.day): change.now._replace(nurse=other) for change in new if change.now})
+    return given
 
 
 def _of_each_nurse(changes: Sequence[ShiftChange]) -> Dict[str, List[ShiftChange]]:
-    found: Dict[str, List[ShiftChange]] = {}
-    for one in changes:
-        found.setdefault(one.nurse, []).append(one)
-    return found
+    by_nurse: Dict[str, List[ShiftChange]] = {}
+    for change in changes:
+        by_nurse.setdefault(change.nurse, []).append(change)
+    return by_nurse
 
 
 def _groups(changes: Sequence[ShiftChange]) -> Iterator[List[ShiftChange]]:
     """All changes of a nurse, her days in a row, those of a day, two of a day, and each alone."""
     by_nurse, by_day = _of_each_nurse(changes), collections.defaultdict(list)
-    for one in changes:
-        by_day[one.day].append(one)
+    for change in changes:
+        by_day[change.day].append(change)
     yield from by_nurse.values()
     for of_nurse in by_nurse.values():
         yield from _runs(of_nurse)
     yield from by_day.values()
     for of_day in by_day.values():
-        yield from ([one, other] for number, one in enumerate(of_day) for other in of_day[:number])
-    yield from ([one] for one in changes)
+        yield from ([change, other] for number, change in enumerate(of_day) for other in of_day[:number])
+    yield from ([change] for change in changes)
 
 
 def _runs(of_nurse: Sequence[ShiftChange]) -> Iterator[List[ShiftChange]]:
     """The changes of a nurse on days that follow one another."""
     run: List[ShiftChange] = []
-    for one in of_nurse:
-        if run and one.day != run[-1].day + 1:
+    for change in of_nurse:
+        if run and change.day != run[-1].day + 1:
             yield run
             run = []
-        run.append(one)
+        run.append(change)
     if run:
         yield run

@@ -51,14 +51,14 @@ def absence(old: WardPlan, event: Event) -> Away:
 def lost_by(old: WardPlan, nurse: str, days: Iterable[int]) -> Dict[int, int]:
     """The shifts that an illness of a nurse takes from a plan on the wall: her shift of each day, none if she is off, and what was known
     before if she is ill already. Of days on which she is away for another reason only those of training have one."""
-    known, found = lost_shifts(old.state.absences), {}
-    for one in (NurseDay(nurse, day) for day in days):
-        word = old.away.get(one, "")
-        if word == ILL and one in known:
-            found[one.day] = known[one]
+    known, lost = lost_shifts(old.state.absences), {}
+    for place in (NurseDay(nurse, day) for day in days):
+        word = old.away.get(place, "")
+        if word == ILL and place in known:
+            lost[place.day] = known[place]
         elif word in ("", *DAYS_OFF, TRAINING):
-            found[one.day] = int(one in old.works or word == TRAINING)
-    return found
+            lost[place.day] = int(place in old.works or word == TRAINING)
+    return lost
 
 
 def back(old: WardPlan, event: Event) -> Away:

@@ -45,13 +45,13 @@ def more_even(plan: WardPlan, first: int, seconds: float, clock: Callable[[], fl
     """The plan after exchanges of days from the first one on, for so many seconds at most, which make nights or weekends more even, and
     neither less. Exchanges that leave both as they are come between, since they make room for others, and some that cost points which later
     ones save again."""
-    end, found = clock() + seconds, _Exchanges(plan, first)
+    end, exchanges = clock() + seconds, _Exchanges(plan, first)
     for _ in range(_MOST_WAYS):
-        if clock() >= end or found.is_even:
+        if clock() >= end or exchanges.is_even:
             break
-        if not found.improved(lambda: clock() < end):
-            found.wander()
-    return plan.with_cells(cell for row in found.rows.values() for cell in row.values())
+        if not exchanges.improved(lambda: clock() < end):
+            exchanges.wander()
+    return plan.with_cells(cell for row in exchanges.rows.values() for cell in row.values())
 
 
 class _RowCosts:
@@ -128,9 +128,9 @@ class _Exchanges:
     def is_even(self) -> bool:
         """Whether no exchange can help, since the numbers of each contract differ by one at most."""
         if self._is_even is None:
-            found = evenness(self._plan.with_cells(cell for row in self.rows.values() for cell in row.values()))
-            spreads = (*found.nights, *found.weekends)
-            self._is_even = not self._groups or not self._days or all(one.most <= one.fewest + 1 for one in spreads)
+            shared = evenness(self._plan.with_cells(cell for row in self.rows.values() for cell in row.values()))
+            spreads = (*shared.nights, *shared.weekends)
+            self._is_even = not self._groups or not self._days or all(spread.most <= spread.fewest + 1 for spread in spreads)
         return self._is_even
 
     def improved(self, goes_on: Callable[[], bool]) -> bool:

@@ -87,23 +87,23 @@ class Agreement(NamedTuple):
 
 def unkept(plan: WardPlan) -> List[Unkept]:
     """What the weeks that are not over do not keep: who works while she is away, and who has more than a limit that holds."""
-    found: List[Unkept] = []
+    missed: List[Unkept] = []
     for number in plan.weeks:
         week, cells = plan.week(number), plan.state.roster(number)
         working, above = working_while_away(absences_of(week.data), cells), exceeded(week, week.data.limits, cells)
         if working:
-            found.append(Unkept(number, working=tuple(working)))
+            missed.append(Unkept(number, working=tuple(working)))
         if above:
-            found.append(Unkept(number, above=tuple(above)))
-    return found
+            missed.append(Unkept(number, above=tuple(above)))
+    return missed
 
 
 def broken(plan: WardPlan, number: int) -> List[Broken]:
     """The hard rules and limits that hold that a week of the plan breaks."""
     week, cells = plan.week(number), plan.state.roster(number)
-    found = [Broken(number, breach.plain) for breach in breaches(week, cells)]
+    rules = [Broken(number, breach.plain) for breach in breaches(week, cells)]
     above = exceeded(week, week.data.limits, cells)
-    return [*found, Broken(number, above=tuple(above))] if above else found
+    return [*rules, Broken(number, above=tuple(above))] if above else rules
 
 
 def exceeded_in_weeks(plan: WardPlan) -> Iterator[Tuple[int, Charge]]:
@@ -118,25 +118,25 @@ def too_many_shifts(plan: WardPlan) -> List[TooMany]:
     """The nurses whose shifts exceed limits that hold, by the spreadsheet, if there is a plan."""
     if not plan.weeks or not plan.is_planned:
         return []
-    found: List[TooMany] = []
+    too_many: List[TooMany] = []
     for (fact, _), (kept, _) in zip(plan.ward.claims, plan.limits):
         if isinstance(fact, Charged) and isinstance(kept, Charged) and fact.kind == SHIFTS and fact.nurse is not None:
             contract, shifts = plan.scenario.contract_of(fact.nurse).assignments.maximum, plan.shifts_of(fact.nurse)
             most = contract + fact.most
             if shifts > most:
-                found.append(TooMany(fact.nurse, shifts, most, contract + kept.most, _last_to_take(plan, fact.nurse, shifts - most)))
-    return found
+                too_many.append(TooMany(fact.nurse, shifts, most, contract + kept.most, _last_to_take(plan, fact.nurse, shifts - most)))
+    return too_many
 
 
 def _last_to_take(plan: WardPlan, nurse: str, number: int) -> Optional[int]:
     """The last day from which a plan can take so many shifts of a nurse away: they are not over, not held, and not on days away."""
-    free = sorted(one.day for one in plan.works if one.nurse == nurse and one not in plan.held and one not in plan.away)
+    free = sorted(place.day for place in plan.works if place.nurse == nurse and place not in plan.held and place not in plan.away)
     return free[-number] if len(free) >= number else None
 
 
 def too_many_by_days_away(plan: WardPlan) -> List[TooMany]:
     """Those whose shifts are too many only since days away count as shifts."""
-    return [one for one in too_many_shifts(plan) if one.shifts <= one.kept]
+    return [many for many in too_many_shifts(plan) if many.shifts <= many.kept]
 
 
 # A maximum that holds and is exceeded: its nurse, its rule, and its week, or for days in a row with training their first day.
@@ -146,17 +146,17 @@ _Exceeded = Tuple[str, str, int]
 def newly_exceeded(old: Optional[WardPlan], new: WardPlan) -> bool:
     """Whether a plan exceeds a maximum that holds by more than an older plan does."""
     before = _exceeded(old) if old else {}
-    return any(above > before.get(one, 0) for one, above in _exceeded(new).items())
+    return any(above > before.get(maximum, 0) for maximum, above in _exceeded(new).items())
 
 
 def _exceeded(plan: WardPlan) -> Dict[_Exceeded, int]:
     """By how much each maximum that holds is exceeded, with shifts for days away and with days in a row with training."""
-    found: Dict[_Exceeded, int] = {(charge.nurse or "", charge.rule, week): charge.times for week, charge in exceeded_in_weeks(plan)}
-    found.update({(one.nurse, _TOTAL, 0): one.shifts - one.most for one in too_many_shifts(plan)})
+    exceeded_by: Dict[_Exceeded, int] = {(charge.nurse or "", charge.rule, week): charge.times for week, charge in exceeded_in_weeks(plan)}
+    exceeded_by.update({(many.nurse, _TOTAL, 0): many.shifts - many.most for many in too_many_shifts(plan)})
     kept = {fact.nurse for fact, _ in plan.limits if isinstance(fact, Charged) and fact.kind == WORK_DAYS}
     rows = beside_days_away(plan) if plan.is_planned else []
-    found.update({(row.nurse, WORK_DAYS, row.days[0]): row.number - row.most for row in rows if row.nurse in kept and not row.shift})
-    return found
+    exceeded_by.update({(row.nurse, WORK_DAYS, row.days[0]): row.number - row.most for row in rows if row.nurse in kept and not row.shift})
+    return exceeded_by
 
 
 def beside_days_away(plan: WardPlan) -> List[Beside]:
@@ -168,25 +168,25 @@ def beside_of(plan: WardPlan, away: DaysAway, shifts: Mapping[NurseDay, str]) ->
     """The same with these days away and shift types, both by the days from the first one that is not over."""
     first = plan.first
     rows = long_rows(plan.scenario, plan.past, away, shifts)
-    found = [Beside(row.nurse, (first + row.days[0], first + row.days[-1]), row.number, row.most) for row in rows]
+    odd = [Beside(row.nurse, (first + row.days[0], first + row.days[-1]), row.number, row.most) for row in rows]
     known = {**{NurseDay(nurse, -1): before.last_shift or "" for nurse, before in plan.past.nurses.items()}, **shifts}
     for nurse, day in nights_before(away, known):
         word = plan.away[NurseDay(nurse, first + day)]
-        found.append(Beside(nurse, (first + day - 1, first + day), shift=known[NurseDay(nurse, day - 1)], word=word))
-    return found
+        odd.append(Beside(nurse, (first + day - 1, first + day), shift=known[NurseDay(nurse, day - 1)], word=word))
+    return odd
 
 
 def sums(plan: WardPlan) -> Dict[str, Sums]:
     """What each nurse has in the whole period: in weeks that are over, and in those that are planned."""
-    wishes = [replace(one, day=WEEK_DAYS * number + one.day) for number, week in enumerate(plan.data) for one in wishes_of(week)]
+    wishes = [replace(wish, day=WEEK_DAYS * number + wish.day) for number, week in enumerate(plan.data) for wish in wishes_of(week)]
     return sums_of(plan.scenario.nurses, plan.state.cells, wishes, plan.days_away.nights, plan.ward.times)
 
 
 def refused_wishes(plan: WardPlan) -> List[Request]:
     """The wishes of the weeks that are not over that the plan does not grant, with days of the plan."""
     works = {(cell.nurse, cell.day, shift) for cell in plan.cells for shift in (cell.shift, None)}
-    asked = [replace(one, day=WEEK_DAYS * number + one.day) for number in plan.weeks for one in wishes_of(plan.data[number])]
-    return [one for one in dict.fromkeys(asked) if (one.nurse, one.day, one.shift) in works]
+    asked = [replace(wish, day=WEEK_DAYS * number + wish.day) for number in plan.weeks for wish in wishes_of(plan.data[number])]
+    return [wish for wish in dict.fromkeys(asked) if (wish.nurse, wish.day, wish.shift) in works]
 
 
 def lost_wishes(old: Optional[WardPlan], new: WardPlan) -> List[Request]:
@@ -198,14 +198,14 @@ def lost_wishes(old: Optional[WardPlan], new: WardPlan) -> List[Request]:
 def due_to_days_away(plan: WardPlan) -> List[Due]:
     """The charges in which days away have a part: `inrc2pb` knows no days away, so they are days off, a day of a weekend or the end of days
     of work for it, and their shifts and weekends are in the totals of the period."""
-    found: List[Due] = []
+    due: List[Due] = []
     for week in plan.view().weeks:
         for charge in week.charges or ():
             if charge.nurse is not None:
                 points, words = _due(plan, week.number, charge, charge.nurse)
                 if points and words:
-                    found.append(Due(week.number, charge, points, words))
-    return found
+                    due.append(Due(week.number, charge, points, words))
+    return due
 
 
 def _due(plan: WardPlan, number: int, charge: Charge, nurse: str) -> Tuple[int, Tuple[str, ...]]:
@@ -239,7 +239,7 @@ def broken_agreements(old: WardPlan, new: WardPlan) -> List[Agreement]:
     """What a new plan does not keep of the days of swaps, and of those that were set. A promise to a nurse who is away is told once: the
     older plan had kept it."""
     kept = {*new.state.agreed, *new.state.promised}
-    swaps = [Agreement(one, old.works.get(one)) for one in old.state.agreed if one not in kept]
-    promises = [one for one in new.state.set_days if new.works.get(one.place) != one.cell]
-    told = [one for one in promises if one.place not in new.away or old.works.get(one.place) == one.cell]
-    return [*swaps, *(Agreement(one.place, one.cell, is_set=True) for one in told)]
+    swaps = [Agreement(place, old.works.get(place)) for place in old.state.agreed if place not in kept]
+    broken = [promise for promise in new.state.set_days if new.works.get(promise.place) != promise.cell]
+    told = [promise for promise in broken if promise.place not in new.away or old.works.get(promise.place) == promise.cell]
+    return [*swaps, *(Agreement(promise.place, promise.cell, is_set=True) for promise in told)]

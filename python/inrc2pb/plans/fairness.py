@@ -56,9 +56,9 @@ def _share(plan: WardPlan, row: Mapping[int, Cell]) -> Share:
 
 def evenness(plan: WardPlan) -> Evenness:
     """How even a plan is."""
-    found, owners = shares(plan), contracts_of(plan)
-    nights = {name: [found[one].nights for one in nurses if may_work_nights(plan, one)] for name, nurses in owners.items()}
-    weekends = {name: [found[one].weekends for one in nurses if may_work_weekends(plan, one)] for name, nurses in owners.items()}
+    by_nurse, owners = shares(plan), contracts_of(plan)
+    nights = {name: [by_nurse[nurse].nights for nurse in nurses if may_work_nights(plan, nurse)] for name, nurses in owners.items()}
+    weekends = {name: [by_nurse[nurse].weekends for nurse in nurses if may_work_weekends(plan, nurse)] for name, nurses in owners.items()}
     return Evenness(_spreads(nights), _spreads(weekends))
 
 
@@ -69,11 +69,11 @@ def _spreads(numbers: Mapping[str, Sequence[int]]) -> Tuple[Spread, ...]:
 
 def contracts_of(plan: WardPlan) -> Dict[str, List[str]]:
     """The nurses of each contract, also those for whom a part of it counts."""
-    found: Dict[str, List[str]] = {}
+    owners: Dict[str, List[str]] = {}
     for name, nurse in plan.scenario.nurses.items():
         part = part_contract(nurse.contract, plan.scenario.contracts)
-        found.setdefault(part.whole if part else nurse.contract, []).append(name)
-    return found
+        owners.setdefault(part.whole if part else nurse.contract, []).append(name)
+    return owners
 
 
 def may_work_nights(plan: WardPlan, nurse: str) -> bool:

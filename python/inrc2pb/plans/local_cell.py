@@ -74,11 +74,11 @@ class Actions:
         nurse, day = self._place
         if self._swaps.works(nurse, day) is None:
             return None
-        found = offers_of(self._swaps, nurse, day)
-        if not found.offers:
-            return _group("Someone else takes it", [element("p", f"Nobody can take it: {nobody_text(found)}.")])
+        offers = offers_of(self._swaps, nurse, day)
+        if not offers.offers:
+            return _group("Someone else takes it", [element("p", f"Nobody can take it: {nobody_text(offers)}.")])
         buttons = []
-        for offer in found.offers[:MOST_OFFERS]:
+        for offer in offers.offers[:MOST_OFFERS]:
             others = {"other_day": self._plan.days.head(other) for other in offer.swap.days if other != day}
             words = {"verb": "swap", "other": offer.swap.other, "write_it": "yes", **others}
             buttons.append(self._button(offer_text(self._swaps, offer).strip(), **words))
@@ -133,8 +133,8 @@ class Actions:
 
     def _back(self) -> Optional[Markup]:
         """What was written for this day is taken back: an absence, a day that was set, or a swap."""
-        found = list(self._taken_back())
-        return _group("Take back", found) if found else None
+        buttons = list(self._taken_back())
+        return _group("Take back", buttons) if buttons else None
 
     def _taken_back(self) -> Iterator[Markup]:
         if self._is_away:

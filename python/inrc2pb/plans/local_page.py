@@ -165,14 +165,14 @@ def _lines(lines: Sequence[str], is_fault: bool) -> List[Markup]:
 def _said(said: Said, shown: Shown, address: str) -> List[Markup]:
     """The lines of the last verb, and a button that stops it, that takes back what it wrote, or that writes that of which it tells."""
     stop = element("form", element("button", "Stop, and keep the best plan", name="verb", value="stop"), method="post", action=address)
-    found = said.outcome
-    is_look = isinstance(found, Swapped) and not found.is_written and not found.faults
+    outcome = said.outcome
+    is_look = isinstance(outcome, Swapped) and not outcome.is_written and not outcome.faults
     words = {name: value for name, value in shown.kept.items() if value}
     write = [button_markup({**words, "write it": "yes"}, "Write this swap", address)] if is_look else []
-    if isinstance(found, (Away, Planned, WeekOver)) and not found.is_written:
+    if isinstance(outcome, (Away, Planned, WeekOver)) and not outcome.is_written:
         asked = {name: value for name, value in said.fields.items() if value}
         write = [button_markup({**asked, "write it": "yes"}, "Write it all the same", address)]
-    is_written = found is not None and found.is_written and not said.is_undo
+    is_written = outcome is not None and outcome.is_written and not said.is_undo
     undo = [button_markup({"verb": "undo", STAMP: shown.stamp}, "Take it back", address)] if is_written and not shown.asks else []
     return [*_lines(said.lines, said.fault is not None), *([stop] if said.runs else []), *write, *undo]
 

@@ -57,12 +57,12 @@ def write_pages(
 
 def other_plan_pages(top: Path, stamp: str) -> Tuple[str, ...]:
     """The names of the pages that show another plan than the one with this name."""
-    found = []
+    names = []
     for path in (top / ROSTER, top / WALL):
         shown = _PLAN.search(own_bytes(top, path.name).decode(errors="replace")) if is_own_file(path) else None
         if shown and shown[1] != stamp:
-            found.append(path.name)
-    return tuple(found)
+            names.append(path.name)
+    return tuple(names)
 
 
 def taken_away(top: Path, names: Sequence[str]) -> List[Path]:
@@ -91,8 +91,8 @@ def worked_name(days: PlanDays, periods: int) -> str:
 def worked_pages(top: Path) -> Dict[str, str]:
     """The names of the pages of weeks that are over, of all periods, the last one first, and their texts."""
     names = sorted((file.name for file in top.iterdir() if is_own_file(file)), key=lambda name: (len(name), name), reverse=True)
-    found = [match for match in map(_WORKED.fullmatch, names) if match]
-    return {match[0]: f"Weeks that are over{_period_text(match[1])}" for match in found}
+    matches = [match for match in map(_WORKED.fullmatch, names) if match]
+    return {match[0]: f"Weeks that are over{_period_text(match[1])}" for match in matches}
 
 
 def _period_text(period: Optional[str]) -> str:

@@ -69,12 +69,12 @@ def known_bound(search: PeriodSearch) -> Optional[KnownBound]:
 def _older_rows(old: WardPlan) -> Dict[str, bytes]:
     """The rows of the nurses who have shifts in the plan. On a day on which one is away she need not be called."""
     numbers = {shift: number for number, shift in enumerate(old.scenario.shift_types, 1)}
-    found: Dict[str, bytes] = {}
-    for nurse in dict.fromkeys(one.nurse for one in old.works):
+    rows: Dict[str, bytes] = {}
+    for nurse in dict.fromkeys(place.nurse for place in old.works):
         places = (NurseDay(nurse, day) for day in range(old.first, old.days.total))
-        cells = ((one, old.works.get(one)) for one in places)
-        found[nurse] = bytes(ANY_CHOICE if one in old.away else numbers[cell.shift] if cell else 0 for one, cell in cells)
-    return found
+        cells = ((place, old.works.get(place)) for place in places)
+        rows[nurse] = bytes(ANY_CHOICE if place in old.away else numbers[cell.shift] if cell else 0 for place, cell in cells)
+    return rows
 
 
 def _weeks(files: PeriodFiles, beside: DaysAway, calls: Calls) -> PlannedWeeks:
@@ -90,7 +90,7 @@ def _files(old: WardPlan, asked: Asked, folder: Path) -> PeriodFiles:
     history, given = folder / history_name(old.state.open_week), folder / _FACTS
     agreed = kept_agreed(old, asked)
     claims = [*_later_claims(old, asked.first), *_past_claims(old, asked.first)]
-    claims += [_off(one) for one, cell in agreed.items() if cell is None and asked.agreed is not Keep.MOST]
+    claims += [_off(place) for place, cell in agreed.items() if cell is None and asked.agreed is not Keep.MOST]
     write_text(folder / "ward.txt", old.ward.texts["ward.txt"])
     write_text(history, history_text(old.past))
     write_text(given, facts_text(old.scenario.name, claims))
@@ -114,11 +114,12 @@ def _week(old: WardPlan, number: int, asked: Asked, agreed: _Agreed) -> WeekData
     """The file of a week, in which few shifts change, if that is asked for, and as few of these agreed ones as possible."""
     if not old.is_planned:
         return old.data[number]
-    new = set(old.scenario.nurses) - {one.nurse for one in old.works}
+    new = set(old.scenario.nurses) - {place.nurse for place in old.works}
     first = WEEK_DAYS * number
     softly = range(max(asked.first - first, 0), WEEK_DAYS if asked.few_changes else 0)
     of_week, beside = (
-        [(one.nurse, one.day - first) for one in days if one.day // WEEK_DAYS == number] for days in (agreed, days_off_beside_absences(old))
+        [(place.nurse, place.day - first) for place in days if place.day // WEEK_DAYS == number]
+        for days in (agreed, days_off_beside_absences(old))
     )
     works: Dict[NurseDay, Optional[Cell]] = {**old.works, **agreed}
     roster = in_week([cell for cell in works.values() if cell], number)
@@ -129,18 +130,18 @@ def kept_agreed(old: WardPlan, asked: Asked) -> Dict[NurseDay, Optional[Cell]]:
     """The days of swaps, and those that were set, that can be kept: nobody is away on them, who works has the skill, and the spreadsheet
     holds no shift."""
 
-    def can_be_kept(one: NurseDay, cell: Optional[Cell]) -> bool:
-        is_possible = cell is None or (cell.skill in old.scenario.nurses[one.nurse].skills and not is_broken_by(old.absences, cell))
-        return one.day >= asked.first and one not in old.held and is_possible
+    def can_be_kept(place: NurseDay, cell: Optional[Cell]) -> bool:
+        is_possible = cell is None or (cell.skill in old.scenario.nurses[place.nurse].skills and not is_broken_by(old.absences, cell))
+        return place.day >= asked.first and place not in old.held and is_possible
 
-    swaps = {} if asked.agreed is Keep.NONE else {one: old.works.get(one) for one in old.state.agreed}
-    asked_for = {**swaps, **{one.place: one.cell for one in old.state.set_days}} if old.is_planned else {}
-    return {one: cell for one, cell in asked_for.items() if can_be_kept(one, cell)}
+    swaps = {} if asked.agreed is Keep.NONE else {place: old.works.get(place) for place in old.state.agreed}
+    asked_for = {**swaps, **{promise.place: promise.cell for promise in old.state.set_days}} if old.is_planned else {}
+    return {place: cell for place, cell in asked_for.items() if can_be_kept(place, cell)}
 
 
-def _off(one: NurseDay) -> Claim:
+def _off(place: NurseDay) -> Claim:
     """That a nurse is off on a day."""
-    return Claim(Choice(one.day // WEEK_DAYS + 1, one.nurse, one.day % WEEK_DAYS, None))
+    return Claim(Choice(place.day // WEEK_DAYS + 1, place.nurse, place.day % WEEK_DAYS, None))
 
 
 def _later_claims(old: WardPlan, first: int) -> List[Claim]:
@@ -155,7 +156,7 @@ def _later_claims(old: WardPlan, first: int) -> List[Claim]:
 def _past_claims(old: WardPlan, first: int) -> Iterator[Claim]:
     """That whoever was off before this day, in the weeks that are not over, stays off."""
     places = (NurseDay(nurse, day) for day in range(old.first, first) for nurse in old.scenario.nurses)
-    return (_off(one) for one in places if one not in old.works)
+    return (_off(place) for place in places if place not in old.works)
 
 
 def why_no_plan(plan: WardPlan) -> Optional[Tuple[int, Shortage]]:

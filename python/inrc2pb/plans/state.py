@@ -101,7 +101,7 @@ class State:
     @property
     def promised(self) -> Dict[NurseDay, SetDay]:
         """The nurses' days that were set."""
-        return {one.place: one for one in self.set_days}
+        return {promise.place: promise for promise in self.set_days}
 
     @property
     def kept(self) -> Tuple[NurseDay, ...]:
@@ -138,11 +138,11 @@ class State:
 
     def agreeing(self, fits: Callable[[NurseDay], bool]) -> "State":
         """The same with those days of swaps that fit. Days that were set stay until they are taken back."""
-        return replace(self, agreed=tuple(one for one in self.agreed if fits(one)))
+        return replace(self, agreed=tuple(place for place in self.agreed if fits(place)))
 
     def keeping(self, fits: Callable[[NurseDay], bool]) -> "State":
         """The same with those days of swaps, and those that were set, that fit."""
-        return replace(self.agreeing(fits), set_days=tuple(one for one in self.set_days if fits(one.place)))
+        return replace(self.agreeing(fits), set_days=tuple(promise for promise in self.set_days if fits(promise.place)))
 
 
 # ---- the words of days away
@@ -153,28 +153,28 @@ def with_days(absences: Sequence[DayWord], nurse: str, days: Iterable[int], word
     that her illness takes from a plan on the wall."""
     new = [DayWord(nurse, day, word, lost.get(day)) for day in days]
     # Other words stay below: who is ill on days of leave has her leave again if she is back.
-    taken, stay = {(one.nurse, one.day) for one in new}, word == ILL
-    kept = (one for one in absences if (one.nurse, one.day) not in taken or (stay and one.word not in (ILL, SHEET)))
+    taken, stay = {(absence.nurse, absence.day) for absence in new}, word == ILL
+    kept = (absence for absence in absences if (absence.nurse, absence.day) not in taken or (stay and absence.word not in (ILL, SHEET)))
     return (*kept, *new)
 
 
 def without_last(absences: Sequence[DayWord], nurse: str, days: Collection[int]) -> Tuple[DayWord, ...]:
     """The absences without the last one of each of these days of a nurse: the one below it holds again, or else what the spreadsheet
     says."""
-    words = {day: [one.word for one in absences if (one.nurse, one.day) == (nurse, day)] for day in days}
-    others = (one for one in absences if one.nurse != nurse or one.day not in words)
-    return (*others, *(DayWord(nurse, day, word) for day, found in words.items() for word in found[:-1] or [SHEET]))
+    words = {day: [absence.word for absence in absences if (absence.nurse, absence.day) == (nurse, day)] for day in days}
+    others = (absence for absence in absences if absence.nurse != nurse or absence.day not in words)
+    return (*others, *(DayWord(nurse, day, word) for day, written in words.items() for word in written[:-1] or [SHEET]))
 
 
 def words_of(absences: Sequence[DayWord], nurse: str) -> Dict[int, str]:
     """The word that holds on each day of a nurse for which a verb has written one."""
-    return {one.day: one.word for one in absences if one.nurse == nurse}
+    return {absence.day: absence.word for absence in absences if absence.nurse == nurse}
 
 
 def lost_shifts(absences: Sequence[DayWord]) -> Dict[NurseDay, int]:
     """The shifts that illnesses have taken from plans on the wall, by the last word of each day that says it."""
-    known = {NurseDay(one.nurse, one.day): one.lost for one in absences}
-    return {one: lost for one, lost in known.items() if lost is not None}
+    known = {NurseDay(absence.nurse, absence.day): absence.lost for absence in absences}
+    return {place: lost for place, lost in known.items() if lost is not None}
 
 
 # ---- the folder of a plan
@@ -194,9 +194,9 @@ def record_text(record: Record) -> str:
         "weeks": record.days.weeks,
         "weeks over": record.open_week,
         "published": record.published,
-        "days away": [list(one if one.lost is not None else one[:3]) for one in record.absences],
-        "agreed days": [list(one) for one in record.agreed],
-        _SET: [list(one) for one in record.set_days],
+        "days away": [list(absence if absence.lost is not None else absence[:3]) for absence in record.absences],
+        "agreed days": [list(place) for place in record.agreed],
+        _SET: [list(promise) for promise in record.set_days],
         _TYPED: record.typed,
     }
     lines = [f"  {json.dumps(name)}: {json.dumps(value, ensure_ascii=False)}" for name, value in values.items()]
@@ -308,19 +308,19 @@ def read_state(folder: Path) -> State:
 def _with_shifts(set_days: Sequence[SetDay], cells: Sequence[Cell]) -> Tuple[SetDay, ...]:
     """The days that were set, those of an older version with the shifts of the rosters."""
     works = {NurseDay(cell.nurse, cell.day): cell for cell in cells}
-    found = ((one, works.get(one.place)) for one in set_days)
+    pairs = ((promise, works.get(promise.place)) for promise in set_days)
     return tuple(
-        one if one.shift is not None else one._replace(shift=cell.shift if cell else "", skill=cell.skill if cell else "")
-        for one, cell in found
+        promise if promise.shift is not None else promise._replace(shift=cell.shift if cell else "", skill=cell.skill if cell else "")
+        for promise, cell in pairs
     )
 
 
 def state_texts(state: State, record: Record, scenario: Scenario, histories: Sequence[History]) -> Dict[str, str]:
     """The files of a plan's folder beside those of the ward: what its verbs have written, and the rosters and histories that are known."""
     order = {nurse: number for number, nurse in enumerate(scenario.nurses)}
-    found = {START: history_text(state.start), NAME: record_text(record)}
-    found.update({f"history-{week}.txt": history_text(past) for week, past in enumerate(histories[: state.open_week + 1])})
+    texts = {START: history_text(state.start), NAME: record_text(record)}
+    texts.update({f"history-{week}.txt": history_text(past) for week, past in enumerate(histories[: state.open_week + 1])})
     for week in range(state.planned):
         cells = sorted(state.roster(week), key=lambda cell: (order.get(cell.nurse, len(order)), cell.day))
-        found[roster_name(week)] = solution_text(Solution(week, scenario.name, tuple(cells)))
-    return found
+        texts[roster_name(week)] = solution_text(Solution(week, scenario.name, tuple(cells)))
+    return texts

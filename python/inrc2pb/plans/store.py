@@ -63,14 +63,14 @@ class WardFolder:
     def spreadsheet(self) -> Path:
         """The only spreadsheet of the folder; the folder itself if its sheets are .csv files."""
         files = [path for path in sorted(self.top.iterdir()) if path.is_file() and not path.name.startswith((".", "~"))]
-        found = [path for path in files if path.suffix.lower() in _SPREADSHEETS]
-        if len(found) > 1:
-            raise Misuse(f"{self.top} has several spreadsheets, {quoted(path.name for path in found)}: leave one of them in it")
-        tables = found or [path for path in files if path.suffix.lower() in _CSV]
+        spreadsheets = [path for path in files if path.suffix.lower() in _SPREADSHEETS]
+        if len(spreadsheets) > 1:
+            raise Misuse(f"{self.top} has several spreadsheets, {quoted(path.name for path in spreadsheets)}: leave one of them in it")
+        tables = spreadsheets or [path for path in files if path.suffix.lower() in _CSV]
         for path in tables:
             check_inside(path, self.top)
         if tables:
-            return found[0] if found else self.top
+            return spreadsheets[0] if spreadsheets else self.top
         raise Misuse(f"{self.top} has no spreadsheet: put the ward's .ods or .xlsx file into it, or give a new folder and `new`")
 
     def all_plans(self) -> List[Path]:
@@ -251,8 +251,8 @@ class PlanStore:
     def worked_pages(self, plan: Optional[WardPlan]) -> Dict[str, str]:
         """The pages of weeks that are over, and their texts; if the sheet has a fault, so there is no plan, that of the roster too."""
         is_left = plan is None and is_own_file(self.folder.top / pages.ROSTER)
-        found = {pages.ROSTER: "The roster as it was last written"} if is_left else {}
-        return {**found, **pages.worked_pages(self.folder.top)}
+        links = {pages.ROSTER: "The roster as it was last written"} if is_left else {}
+        return {**links, **pages.worked_pages(self.folder.top)}
 
     def hung_up(self, plan: WardPlan) -> Optional[WardPlan]:
         """The last plan of the same days that was hung up before the one that holds, if the spreadsheet still has its names."""
@@ -284,7 +284,7 @@ class PlanStore:
         names = [pages.ROSTER, pages.WALL]
         if undone and holds and (undone.days, undone.open_week) != (holds.days, holds.open_week):
             names.append(pages.worked_name(holds.days, self._periods()))
-        before = {nurse: days for one in (undone, holds) if one for nurse, days in self._before(one.days).items()}
+        before = {nurse: days for record in (undone, holds) if record for nurse, days in self._before(record.days).items()}
         try:
             return Pages(gone=(*pages.taken_away(top, names), *pages.calendars_taken_away(top, [], before)))
         except OSError as fault:
@@ -296,13 +296,13 @@ class PlanStore:
 
     def _earlier_sums(self, plan: WardPlan) -> Dict[str, Sums]:
         """What each nurse had in the periods that are over, by the last plan of each, but for damaged folders."""
-        found: Dict[str, Sums] = {}
+        sums: Dict[str, Sums] = {}
         folders = self.folder.all_plans()
         for last, ended in zip(folders, folders[1:]):
             if _ends_period(ended):
                 for nurse, of_period in _sums_of_folder(last, plan).items():
-                    found[nurse] = found.get(nurse, Sums()).plus(of_period)
-        return found
+                    sums[nurse] = sums.get(nurse, Sums()).plus(of_period)
+        return sums
 
     def _before(self, days: PlanDays) -> Dict[str, Set[int]]:
         """The days of each nurse's shifts in plans of these days that hung on the wall, also in those that were undone."""
@@ -339,19 +339,19 @@ def _sums_of_folder(folder: Path, plan: WardPlan) -> Dict[str, Sums]:
         weeks = [read_week(folder / f"week-{number}.txt", ward) for number in range(state.days.weeks)]
     except (FileFault, OSError):
         return {}
-    wishes = [replace(one, day=WEEK_DAYS * number + one.day) for number, week in enumerate(weeks) for one in wishes_of(week)]
+    wishes = [replace(wish, day=WEEK_DAYS * number + wish.day) for number, week in enumerate(weeks) for wish in wishes_of(week)]
     return sums_of(ward.nurses, state.cells, wishes, plan.days_away.nights, plan.ward.times)
 
 
 def published_days(folders: Iterable[Path], days: PlanDays) -> Dict[str, Set[int]]:
     """The days of each nurse's shifts in plans of these days that hung on the wall, but for damaged files."""
-    found: Dict[str, Set[int]] = {}
+    days_of: Dict[str, Set[int]] = {}
     records = ((folder, known_record(folder)) for folder in folders)
     published = [folder for folder, of_plan in records if of_plan and of_plan.published and of_plan.days == days]
     for number, path in ((number, folder / roster_name(number)) for folder in published for number in range(days.weeks)):
         for cell in _known_cells(path):
-            found.setdefault(cell.nurse, set()).add(WEEK_DAYS * number + cell.day)
-    return found
+            days_of.setdefault(cell.nurse, set()).add(WEEK_DAYS * number + cell.day)
+    return days_of
 
 
 def _known_cells(path: Path) -> Sequence[Cell]:
@@ -368,7 +368,7 @@ def plan_texts(plan: WardPlan, record: Record) -> Dict[str, str]:
 
 def penalties(plan: WardPlan) -> Dict[int, int]:
     """The penalty of each week that is not over, by `inrc2pb extend`."""
-    found = {}
+    by_week = {}
     with tempfile.TemporaryDirectory(prefix="inrc2pb-plan-") as name:
         folder = Path(name)
         for file, text in plan.ward.texts.items():
@@ -377,5 +377,5 @@ def penalties(plan: WardPlan) -> Dict[int, int]:
             history, roster = folder / f"history-{number}.txt", folder / roster_name(number)
             write_text(history, history_text(plan.histories[number]))
             write_solution(roster, Solution(number, plan.scenario.name, plan.state.roster(number)))
-            found[number] = penalty_of(WeekFiles(folder / "ward.txt", history, folder / f"week-{number}.txt"), roster)
-    return found
+            by_week[number] = penalty_of(WeekFiles(folder / "ward.txt", history, folder / f"week-{number}.txt"), roster)
+    return by_week

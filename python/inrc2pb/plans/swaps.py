@@ -93,13 +93,13 @@ class NurseWeeks:
         """The hard rules, absences and held shifts that these shifts break, each by itself, in the order of days."""
         last = self._plan.past.nurses[nurse].last_shift
         shift_on = {**({self._plan.first - 1: last} if last else {}), **{day: cell.shift for day, cell in cells.items()}}
-        found = [Fault(Kind.HELD, nurse, day) for day, cell in self._held[nurse].items() if cells.get(day) != cell]
+        faults = [Fault(Kind.HELD, nurse, day) for day, cell in self._held[nurse].items() if cells.get(day) != cell]
         for cell in cells.values():
-            found += self._cell_faults(cell)
+            faults += self._cell_faults(cell)
             before = shift_on.get(cell.day - 1)
             if before and self._plan.scenario.forbids(before, cell.shift):
-                found.append(Fault(Kind.FOLLOWS, nurse, cell.day, cell.shift, before))
-        return sorted(found, key=lambda fault: fault.day)
+                faults.append(Fault(Kind.FOLLOWS, nurse, cell.day, cell.shift, before))
+        return sorted(faults, key=lambda fault: fault.day)
 
     def _cell_faults(self, cell: Cell) -> Iterator[Fault]:
         """Why the nurse cannot have this shift alone."""
@@ -118,7 +118,7 @@ class NurseWeeks:
 
     def excess(self, nurse: str, cells: NurseCells) -> int:
         """How much that is in all."""
-        return sum(excess(one.charges) for one in self.above(nurse, cells))
+        return sum(excess(week.charges) for week in self.above(nurse, cells))
 
     def beside(self, nurse: str, cells: NurseCells) -> List[Beside]:
         """What is wrong beside the nurse's days of training and leave with these shifts."""
@@ -141,10 +141,10 @@ def _of_nurse(data: WeekData, nurse: str) -> WeekData:
 
 def by_nurse(plan: WardPlan, works: Mapping[NurseDay, Cell]) -> Dict[str, Dict[int, Cell]]:
     """The shifts of each nurse, by day."""
-    found: Dict[str, Dict[int, Cell]] = {nurse: {} for nurse in plan.scenario.nurses}
+    rows: Dict[str, Dict[int, Cell]] = {nurse: {} for nurse in plan.scenario.nurses}
     for (nurse, day), cell in works.items():
-        found.setdefault(nurse, {})[day] = cell
-    return found
+        rows.setdefault(nurse, {})[day] = cell
+    return rows
 
 
 class Swap(NamedTuple):
@@ -223,20 +223,20 @@ class Swaps:
 
     def offers(self, nurse: str, day: int) -> List[Offer]:
         """All swaps by which another nurse takes this shift, the cheapest and nearest first: alone, or for one of her shifts."""
-        found = [Offer(self.cost(swap), swap) for swap in self._possible(nurse, day) if not self.faults(swap)]
-        return sorted(found, key=lambda offer: (offer.cost, len(offer.swap.days), max(abs(other - day) for other in offer.swap.days)))
+        offers = [Offer(self.cost(swap), swap) for swap in self._possible(nurse, day) if not self.faults(swap)]
+        return sorted(offers, key=lambda offer: (offer.cost, len(offer.swap.days), max(abs(other - day) for other in offer.swap.days)))
 
     # ---- one day of one nurse
 
     def day_faults(self, place: NurseDay, now: Optional[Cell]) -> List[Fault]:
         """Why the nurse cannot have this shift on her day in place of her old one, or cannot be off."""
         nurse, day = place
-        found = list(self._faults(nurse, self._with_day(place, now), (day,)))
+        faults = list(self._faults(nurse, self._with_day(place, now), (day,)))
         for left, step in self._steps(place, now):
             minimum = self.plan.needs[left].minimum if left in self.plan.needs else 0
             if step < 0 and self._number[left] <= minimum:
-                found.append(Fault(Kind.MINIMUM, nurse, day, f"{left.shift} {left.skill}", number=minimum))
-        return found
+                faults.append(Fault(Kind.MINIMUM, nurse, day, f"{left.shift} {left.skill}", number=minimum))
+        return faults
 
     def day_cost(self, place: NurseDay, now: Optional[Cell]) -> int:
         """What that adds to the penalty: the charges of the nurse, and of the places that she leaves and takes."""
@@ -252,8 +252,8 @@ class Swaps:
         if now is None:
             offers = self.offers(*place) if self.works(*place) else []
             return [Instead(offer.cost, offer.swap.other, offer.swap) for offer in offers]
-        found = [self._instead(place, now, other) for other in self._cells if other != place.nurse]
-        return sorted((one for one in found if one), key=lambda one: one.cost)
+        ways = [self._instead(place, now, other) for other in self._cells if other != place.nurse]
+        return sorted((way for way in ways if way), key=lambda way: way.cost)
 
     def _instead(self, place: NurseDay, now: Cell, other: str) -> Optional[Instead]:
         """How another nurse could have this shift instead, if she could."""

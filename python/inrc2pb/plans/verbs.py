@@ -122,24 +122,24 @@ def _plan(store: PlanStore, event: Event) -> Outcome:
 
 def _away(store: PlanStore, event: Event) -> Outcome:
     """A nurse is away: the plan changes little, and only from the first of the days on."""
-    found = events.absence(store.planned(), event)
-    return _searched_for(store, event, found, found.days[0], found.days[-1])
+    absence = events.absence(store.planned(), event)
+    return _searched_for(store, event, absence, absence.days[0], absence.days[-1])
 
 
 def _back(store: PlanStore, event: Event) -> Outcome:
     """A nurse is back."""
-    found = events.back(store.planned(), event)
-    return _searched_for(store, event, found, found.days[0])
+    absence = events.back(store.planned(), event)
+    return _searched_for(store, event, absence, absence.days[0])
 
 
-def _searched_for(store: PlanStore, event: Event, found: Away, *named: int) -> Outcome:
+def _searched_for(store: PlanStore, event: Event, absence: Away, *named: int) -> Outcome:
     """The outcome of a search with an absence, or without it; the verb is named with these days. If the days alone exceed a maximum that
     holds, there is no search before the user is asked."""
-    if not event.do and newly_exceeded(found.old, found.there):
-        return replace(found, status=Status.NOT_KEPT)
-    _say(store, absence_lines(found))
-    verb = " ".join([found.word, found.nurse, *map(found.old.days.head, named)])
-    return _searched(store, event, verb, found.new, Asked(found.days[0], True, event.seconds or CHANGE_SECONDS, do=event.do), found)
+    if not event.do and newly_exceeded(absence.old, absence.there):
+        return replace(absence, status=Status.NOT_KEPT)
+    _say(store, absence_lines(absence))
+    verb = " ".join([absence.word, absence.nurse, *map(absence.old.days.head, named)])
+    return _searched(store, event, verb, absence.new, Asked(absence.days[0], True, event.seconds or CHANGE_SECONDS, do=event.do), absence)
 
 
 def _say(store: PlanStore, said: Sequence[str]) -> None:
@@ -247,12 +247,12 @@ def _judged_swap(store: PlanStore, event: Event) -> Union[Offers, Swapped]:
 
 def _swap(store: PlanStore, event: Event) -> Union[Offers, Swapped]:
     """The same; with `do` the swap is written, and later plans keep it, unless it takes another one back."""
-    found = _judged_swap(store, event)
-    if not event.do or not isinstance(found, Swapped) or found.faults:
-        return found
+    swapped = _judged_swap(store, event)
+    if not event.do or not isinstance(swapped, Swapped) or swapped.faults:
+        return swapped
     # The program has the last word on the new rosters.
-    penalties(found.new)
-    return _saved(found, store.save(_named(found.old, found.swap), found.new, event.typed))
+    penalties(swapped.new)
+    return _saved(swapped, store.save(_named(swapped.old, swapped.swap), swapped.new, event.typed))
 
 
 def _named(plan: WardPlan, swap: Swap) -> str:
@@ -262,14 +262,14 @@ def _named(plan: WardPlan, swap: Swap) -> str:
 
 def _set(store: PlanStore, event: Event) -> DaySet:
     """What it costs, breaks, or takes back that a nurse has a shift on a day, and who could do it instead; with `do` it is written."""
-    found = events.set_day(store.fitting(), event)
-    if not event.do or found.faults:
-        return found
+    day_set = events.set_day(store.fitting(), event)
+    if not event.do or day_set.faults:
+        return day_set
     # The program has the last word on the new rosters.
-    penalties(found.new)
-    words = BACK if found.takes_back else found.now.shift if found.now else OFF
-    verb = f"set {found.place.nurse} {found.old.days.head(found.place.day)} {words}"
-    return _saved(found, store.save(verb, found.new, event.typed))
+    penalties(day_set.new)
+    words = BACK if day_set.takes_back else day_set.now.shift if day_set.now else OFF
+    verb = f"set {day_set.place.nurse} {day_set.old.days.head(day_set.place.day)} {words}"
+    return _saved(day_set, store.save(verb, day_set.new, event.typed))
 
 
 def _agreed_swap(store: PlanStore, plan: WardPlan, place: NurseDay) -> Optional[Swap]:
@@ -302,22 +302,22 @@ def _before_swap(store: PlanStore, old: WardPlan, asked: Swap) -> Optional[State
 
 def _over(store: PlanStore, event: Event) -> WeekOver:
     """The first week that is not over is over; after the last one a new period begins."""
-    found = events.end_of_week(store.fitting(), event)
-    worked, number = found.worked, found.old.state.open_week
-    if not event.do and any(newly_exceeded(found.old, plan) for plan in (worked, found.next) if plan):
-        return replace(found, status=Status.NOT_KEPT)
-    if found.next:
-        return _saved(found, store.save(f"over {number}", found.next, event.typed))
+    over = events.end_of_week(store.fitting(), event)
+    worked, number = over.worked, over.old.state.open_week
+    if not event.do and any(newly_exceeded(over.old, plan) for plan in (worked, over.next) if plan):
+        return replace(over, status=Status.NOT_KEPT)
+    if over.next:
+        return _saved(over, store.save(f"over {number}", over.next, event.typed))
     past = next_history(worked.scenario, worked.histories[number], worked.state.roster(number), new_period=True)
     store.add("over period", first_plan(replace(worked.ward, days=worked.days.next(), counted=Counted()), past), event.typed)
     # The pages show the period that is over.
-    return _saved(found, store.pages(worked.with_state(replace(worked.state, open_week=number + 1))))
+    return _saved(over, store.pages(worked.with_state(replace(worked.state, open_week=number + 1))))
 
 
 def _page(store: PlanStore, event: Event) -> Published:
     """Writes all pages and calendars. From now on the plan hangs on the wall."""
-    found = events.published(store.fitting())
-    return _saved(found, store.save(PAGE, found.plan, event.typed))
+    published = events.published(store.fitting())
+    return _saved(published, store.save(PAGE, published.plan, event.typed))
 
 
 def _undoing(store: PlanStore) -> Undone:

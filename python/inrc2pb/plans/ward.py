@@ -66,15 +66,15 @@ class Ward:
     @cached_property
     def leaving(self) -> Dict[str, int]:
         """The day from which each nurse is gone to the end of the plan, if there is one."""
-        gone, total = {one for one, word in self.reasons.items() if word in NOT_EMPLOYED}, self.days.total
-        found: Dict[str, int] = {}
+        gone, total = {place for place, word in self.reasons.items() if word in NOT_EMPLOYED}, self.days.total
+        leaving: Dict[str, int] = {}
         for nurse in dict.fromkeys(nurse for nurse, _ in sorted(gone)):
             first = total
             while NurseDay(nurse, first - 1) in gone:
                 first -= 1
             if 0 < first < total:
-                found[nurse] = first
-        return found
+                leaving[nurse] = first
+        return leaving
 
     def knows(self, cell: Cell) -> bool:
         """Whether the ward has the names of a shift."""
@@ -172,25 +172,26 @@ class WardPlan:
     def absences(self) -> FrozenSet[Absence]:
         """The shifts that nurses may not have in the weeks that are not over."""
         weeks = ((WEEK_DAYS * number, absences_of(self.data[number])) for number in self.weeks)
-        return frozenset(one._replace(day=first + one.day) for first, of_week in weeks for one in of_week)
+        return frozenset(absence._replace(day=first + absence.day) for first, of_week in weeks for absence in of_week)
 
     @cached_property
     def away(self) -> Dict[NurseDay, str]:
         """The days of the weeks that are not over on which nurses are away, and why: a word of the sheet plan, `promised` for days off that
         it promises, or `off` for days on which they are always off."""
-        off = {one: self._off_word(one) for one in (NurseDay(one.nurse, one.day) for one in self.absences if one.shift is None)}
-        return {**off, **{one: word for one, word in self.ward.reasons.items() if one.day >= self.first}}
+        off = (NurseDay(absence.nurse, absence.day) for absence in self.absences if absence.shift is None)
+        words = {place: word for place, word in self.ward.reasons.items() if place.day >= self.first}
+        return {**{place: self._off_word(place) for place in off}, **words}
 
-    def _off_word(self, one: NurseDay) -> str:
+    def _off_word(self, place: NurseDay) -> str:
         """Why a nurse has no shift on a day on which the spreadsheet says that she is off."""
-        return PROMISED if one in self.ward.promised else ALWAYS_OFF
+        return PROMISED if place in self.ward.promised else ALWAYS_OFF
 
     @cached_property
     def days_away(self) -> DaysAway:
         """The days away that concern the days beside them, in the weeks that are not over. Night shifts are known by their times, or else
         by their names. Here and in `shifts` days count from the first one that is not over."""
         training, free = (
-            frozenset(NurseDay(one.nurse, one.day - self.first) for one, word in self.away.items() if word in words)
+            frozenset(NurseDay(place.nurse, place.day - self.first) for place, word in self.away.items() if word in words)
             for words in (_TRAINING, _FREE)
         )
         times = self.ward.times
@@ -220,10 +221,10 @@ class WardPlan:
     @cached_property
     def histories(self) -> List[History]:
         """The history of each week, as far as rosters are known."""
-        found = [credited(self.state.start, self.ward.counted)]
+        histories = [credited(self.state.start, self.ward.counted)]
         for number in range(min(self.state.planned, self.days.weeks - 1)):
-            found.append(next_history(self.scenario, found[-1], self.state.roster(number)))
-        return found
+            histories.append(next_history(self.scenario, histories[-1], self.state.roster(number)))
+        return histories
 
     @property
     def past(self) -> History:
@@ -240,7 +241,7 @@ class WardPlan:
 
     def shifts_of(self, nurse: str) -> int:
         """The shifts of a nurse in the period, with those as which days away count, but none of these days."""
-        return self.past.nurses[nurse].assignments + sum(one.nurse == nurse and one not in self.away for one in self.works)
+        return self.past.nurses[nurse].assignments + sum(place.nurse == nurse and place not in self.away for place in self.works)
 
     def with_cells(self, cells: Iterable[Cell]) -> "WardPlan":
         """The same with these shifts in the weeks that are not over."""
@@ -265,7 +266,7 @@ class WardPlan:
 
     def reasons(self, number: int) -> Dict[Tuple[str, int], str]:
         """Why nurses are away on the days of a week, also of one that is over, with the days of the week."""
-        days = [(one.nurse, one.day) for one in absences_of(self.data[number]) if one.shift is None]
+        days = [(absence.nurse, absence.day) for absence in absences_of(self.data[number]) if absence.shift is None]
         off = {(nurse, day): self._off_word(NurseDay(nurse, WEEK_DAYS * number + day)) for nurse, day in days}
         own = {(nurse, day % WEEK_DAYS): word for (nurse, day), word in self.ward.reasons.items() if day // WEEK_DAYS == number}
         return {**off, **own}
@@ -303,22 +304,22 @@ def continued(ward: Ward, state: State) -> WardPlan:
     unknown = tuple(cell for cell in state.cells if not ward.knows(cell))
     cells = tuple(cell for cell in state.cells if cell not in unknown)
     now = replace(state, days=ward.days, start=_start(ward, state.start), cells=cells)
-    now = now.keeping(lambda one: one.nurse in ward.scenario.nurses and state.first <= one.day < ward.days.total)
-    now = replace(now, set_days=tuple(one for one in now.set_days if one.cell is None or ward.knows(one.cell)))
+    now = now.keeping(lambda place: place.nurse in ward.scenario.nurses and state.first <= place.day < ward.days.total)
+    now = replace(now, set_days=tuple(promise for promise in now.set_days if promise.cell is None or ward.knows(promise.cell)))
     return plan_of(ward, now, unknown)
 
 
 def _with_lost_shifts(ward: Ward, state: State) -> Tuple[DayWord, ...]:
     """The words of verbs, and for an illness that only the spreadsheet has the shifts that it takes from a plan on the wall, if it takes
     some."""
-    known, found = {(one.nurse, one.day) for one in state.absences}, list(state.absences)
+    known, words = {(absence.nurse, absence.day) for absence in state.absences}, list(state.absences)
     works = {(cell.nurse, cell.day) for cell in state.cells}
-    ill = sorted(one for one, word in ward.reasons.items() if word == ILL and one not in known)
+    ill = sorted(place for place, word in ward.reasons.items() if word == ILL and place not in known)
     rows = itertools.groupby(enumerate(ill), key=lambda pair: (pair[1].nurse, pair[1].day - pair[0]))
-    for row in ([one for _, one in pairs] for _, pairs in rows if state.published):
-        if any(one in works for one in row):
-            found += [DayWord(*one, SHEET, int(one in works)) for one in row]
-    return tuple(found)
+    for row in ([place for _, place in pairs] for _, pairs in rows if state.published):
+        if any(place in works for place in row):
+            words += [DayWord(*place, SHEET, int(place in works)) for place in row]
+    return tuple(words)
 
 
 def _check_days(now: PlanDays, before: PlanDays) -> None:

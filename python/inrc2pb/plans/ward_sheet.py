@@ -39,13 +39,13 @@ def _needs_of(row: SheetRow) -> Needs:
 
 def unchanged_rows(rows: Iterable[WeekRow], older: Mapping[int, Needs]) -> List[WeekRow]:
     """The rows that have the numbers of the same week of an older period, so nobody has made them those of this one yet."""
-    found = []
+    unchanged = []
     for row in rows:
         needs = older.get(row.week, {})
-        before = {place._replace(shift=place.shift.casefold(), skill=place.skill.casefold()): one for place, one in needs.items()}
-        if row.needs and all(before.get(place) == one for place, one in row.needs.items()):
-            found.append(row)
-    return found
+        before = {place._replace(shift=place.shift.casefold(), skill=place.skill.casefold()): number for place, number in needs.items()}
+        if row.needs and all(before.get(place) == number for place, number in row.needs.items()):
+            unchanged.append(row)
+    return unchanged
 
 
 def with_written(book: Book, days: Days, written: Sequence[DayWord]) -> Book:
@@ -56,16 +56,16 @@ def with_written(book: Book, days: Days, written: Sequence[DayWord]) -> Book:
     head = days.plan.columns["nurse"]
     places = {_name(row.of("nurse")): row.of("nurse").row - 1 for row in days.plan.rows}
     known = {_name(row.of("nurse")) for row in table_of(book, "nurses").rows}
-    for one in written:
-        nurse = one.nurse.casefold()
-        if one.day >= len(days.columns) or nurse not in known:
+    for absence in written:
+        nurse = absence.nurse.casefold()
+        if absence.day >= len(days.columns) or nurse not in known:
             continue
         if nurse not in places:
             places[nurse] = len(rows)
-            rows.append([""] * head + [readable(one.nurse)])
-        row, column = rows[places[nurse]], days.columns[one.day].column
+            rows.append([""] * head + [readable(absence.nurse)])
+        row, column = rows[places[nurse]], days.columns[absence.day].column
         row.extend([""] * (column + 1 - len(row)))
-        row[column] = _cell(row[column], one.word)
+        row[column] = _cell(row[column], absence.word)
     return book._replace(sheets={**book.sheets, "plan": rows})
 
 

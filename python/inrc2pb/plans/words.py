@@ -54,11 +54,11 @@ class Wording:
 
     def open_day(self, near: Optional[int] = None) -> int:
         """The same. Raises Misuse if the day is in a week that is over."""
-        found = self.day(near)
-        if found < self._first:
+        day = self.day(near)
+        if day < self._first:
             cure = f"the plan goes on from {self._days.text(self._first)}; undo takes the end of that week back"
-            raise Misuse(f"{self._days.text(found)} is in a week that is over: {cure}")
-        return found
+            raise Misuse(f"{self._days.text(day)} is in a week that is over: {cure}")
+        return day
 
     def one_of(self, words: Collection[str]) -> str:
         """The next word, if it is one of these, or else nothing is taken."""
@@ -101,9 +101,9 @@ def _named(text: str, names: Collection[str], whole: bool = False) -> List[str]:
     differ in nothing else."""
     for folded in (str.casefold, _without_accents):
         wanted = folded(text.replace(" ", "_"))
-        found = [name for name in names if folded(name)[: None if whole else len(wanted)] == wanted]
-        if found:
-            return found
+        alike = [name for name in names if folded(name)[: None if whole else len(wanted)] == wanted]
+        if alike:
+            return alike
     return []
 
 
