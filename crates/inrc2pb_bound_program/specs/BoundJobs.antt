@@ -1,13 +1,11 @@
 -- The job that the options spell.
-use Rattle.std.specs.Prelude.{◌≡◌, ◌≢◌, ◌⊎◌, ◌<◌, ◌≤◌, true, false, List, [], ◌∷◌, ◌++◌, Some, codes, flat_map}
+use Rattle.std.specs.Prelude.{◌≡◌, ◌≢◌, ◌⊎◌, ◌<◌, ◌≤◌, true, false, List, [], Some, codes}
 use Rattle.std.specs.Prelude.{length, map, option_map, string_bytes}
 use Rattle.std.specs.Prelude.{unwrap_or}
 use Rattle.std.specs.List.{range_with_len}
 use Rattle.rota_core.specs.Limits.{max_weeks}
 use Rattle.std.specs.declared.string.String.{String}
 use Rattle.clap.specs.Words.{Row, Text, all_of, first_of}
-use Rattle.inrc2pb_job.specs.Jobs.{paths_of}
-use Rattle.inrc2pb_job.specs.Paths.{Path}
 use Rattle.inrc2pb_frame.specs.Options.{HasFlag, LacksOption}
 use Rattle.rota_bound_run.specs.PeriodFiles.{AreFiles}
 use Rattle.rota_bound_run.specs.declared.files.PeriodFiles.{PeriodFiles}
@@ -68,13 +66,3 @@ MissesWeeks options = (max_weeks < length (texts_of (codes "week") options))
 -- a required path is missing, or the options do not fit together
 abbrev pub IsMisused : List Row → Type 0
 IsMisused options = LacksRequired options ⊎ (HasBoth options ⊎ (MissesRosters options ⊎ MissesWeeks options))
-
--- the paths of a week's files
-abbrev pub paths_of_week : {X : Type 0} → WeekFiles (String X) → List Path
-paths_of_week week = string_bytes week.week ∷ paths_of (option_map string_bytes week.fix)
-
--- the paths of the files that the job reads, in the order in which they are opened
-abbrev pub bound_paths : {X : Type 0} → PeriodFiles (String X) → List Path
-bound_paths paths = (string_bytes paths.scenario ∷ []) ++ (string_bytes paths.history ∷ []) ++ flat_map paths_of_week paths.weeks.items
-    ++ paths_of (option_map string_bytes paths.given) ++ paths_of (option_map string_bytes paths.proof)
-    ++ map string_bytes paths.rosters.items

@@ -3,7 +3,7 @@ use Rattle.std.specs.Prelude.{◌≡◌, ℕ, Result, Ok, Err}
 use Rattle.clap.specs.Words.{matches_of}
 use Rattle.rota_pb.specs.RunPorts.{IsUntouched, Writer}
 use Rattle.rota_pb.specs.declared.fault.Fault.{Fault}
-use Rattle.inrc2pb_job.specs.OpenCalls.{Opener, OpensEach}
+use Rattle.inrc2pb_job.specs.Openers.{Opener, OpensAs}
 use Rattle.inrc2pb_frame.specs.Exits.{PrinterState}
 use Rattle.inrc2pb_frame.specs.Given.{Given}
 use Rattle.inrc2pb_frame.specs.Runs.{IsRun, IsWholeRun, Program}
@@ -14,9 +14,9 @@ use Rattle.rota_bound_run.specs.PeriodFiles.{period_readers}
 use Rattle.rota_bound_run.specs.declared.files.PeriodFiles.{PeriodFiles}
 use Rattle.rota_pb.specs.declared.period_fault.PeriodFault.{PeriodFault}
 use Rattle.rota_pb.specs.declared.period_fault.PeriodFault.TheVariants.{Run}
-use Rattle.inrc2pb_bound_program.specs.BoundJobs.{IsBoundJobOf, IsMisused, bound_paths}
+use Rattle.inrc2pb_bound_program.specs.BoundJobs.{IsBoundJobOf, IsMisused}
 use Rattle.inrc2pb_bound_program.specs.CommandLine.{bound_app}
-use Rattle.inrc2pb_bound_program.specs.PeriodOpening.{ArePeriodOpen, IsUnopened}
+use Rattle.inrc2pb_bound_program.specs.PeriodOpening.{open_period}
 use Rattle.inrc2pb_bound_program.specs.declared.job.BoundJob.{BoundJob}
 
 -- the program `inrc2pb-bound`
@@ -31,10 +31,9 @@ inrc2pb_bound = record {
 -- them: they are `opened` before the run, and `left` after it.
 pub data BoundOutcome {F : Type 0} (opener : Opener F) (job : BoundJob) (out : Writer) (result : Result (Unit {0}) PeriodFault) :
     Type 0 where
-  unopened : (fault : Fault) → result ≡ Err (Run fault) → IsUnopened opener (bound_paths job.paths) fault → IsUntouched out →
+  unopened : (fault : Fault) → result ≡ Err (Run fault) → OpensAs opener (open_period opener.port job.paths) (Err fault) → IsUntouched out →
       BoundOutcome opener job out result
-  ran : OpensEach opener (bound_paths job.paths) → (opened left : PeriodFiles F) →
-      ArePeriodOpen opener.port opener.at job.paths opened →
+  ran : (opened left : PeriodFiles F) → OpensAs opener (open_period opener.port job.paths) (Ok opened) →
       (bound_run job.question (period_readers opener.port opened left) out).ends result → BoundOutcome opener job out result
 
 -- no file was opened, and nothing was written

@@ -1,49 +1,55 @@
 -- The files of a period, opened one after the other.
-use Rattle.std.specs.Prelude.{◌≡◌, List, [], ◌∷◌, ◌++◌, Option, Some, None, string_bytes, ⊤}
+use Rattle.std.specs.Prelude.{◌≡◌, List, [], ◌∷◌, Option, Result, Ok, Err, Vec, option_map, string_bytes}
 use Rattle.std.specs.declared.string.String.{String}
 use Rattle.byte_ports.specs.declared.ports.Source.{Ghosts}
-use Rattle.rota_pb.specs.declared.fault.Fault.{Fault}
-use Rattle.rota_pb.specs.declared.fault.Fault.TheVariants.{Memory, Read}
-use Rattle.inrc2pb_job.specs.OpenCalls.{FailsToOpen, Opener, OpensEach}
-use Rattle.inrc2pb_job.specs.Paths.{FileAt, IsNew, Path}
+use Rattle.rota_pb.specs.declared.fault.Fault.TheVariants.{Memory}
+use Rattle.inrc2pb_job.specs.Opening.{Opening, ◌>>=◌, asks_none, end_as, make_room, open_at, open_if_named}
 use Rattle.rota_bound_run.specs.declared.files.PeriodFiles.{PeriodFiles}
 use Rattle.rota_bound_run.specs.declared.files.WeekFiles.{WeekFiles}
 
--- no file opened at one of these paths, or memory ran out after files were opened at the first of them
-pub data IsUnopened {F : Type 0} (opener : Opener F) (paths : List Path) (fault : Fault) : Type 0 where
-  refused : FailsToOpen opener paths → fault ≡ Read → IsUnopened opener paths fault
-  without_memory : (first rest : List Path) → paths ≡ first ++ rest → OpensEach opener first → fault ≡ Memory →
-      IsUnopened opener paths fault
+-- each of these is opened, in their order; before each of them, and at the end, memory may run out
+unfoldable pub open_each : {A B : Type 0} → (A → Opening B) → List A → Opening (List B)
+open_each one_of [] = asks_none (λ found. found ≡ []) (λ fault. fault ≡ Memory)
+open_each one_of (x ∷ xs) = do
+  _ ← make_room
+  one ← one_of x
+  later ← open_each one_of xs
+  end_as (λ found. found ≡ one ∷ later)
 
--- the lists have the same length, and `Is` relates each pair of them
-abbrev pub AreEach : {A B : Type 0} → (A → B → Type 0) → List A → List B → Type 0
-AreEach Is [] [] = ⊤
-AreEach Is [] (y ∷ ys) = ⊥
-AreEach Is (x ∷ xs) [] = ⊥
-AreEach Is (x ∷ xs) (y ∷ ys) = Is x y × AreEach Is xs ys
+-- these are the files of the period
+pub record IsPeriod {F : Type 0} (scenario history : F) (weeks : List (WeekFiles F)) (given proof : Option F) (rosters : List F)
+    (opened : PeriodFiles F) : Type 0 where
+  pub scenario_is : opened.scenario ≡ scenario
+  pub history_is : opened.history ≡ history
+  pub weeks_is : opened.weeks.items ≡ weeks
+  pub given_is : opened.given ≡ given
+  pub proof_is : opened.proof ≡ proof
+  pub rosters_is : opened.rosters.items ≡ rosters
 
-module _ {F X : Type 0} (port : Ghosts F) (at : Path → FileAt) where
-  -- the file is open at the path
-  abbrev pub IsOpenAt : String X → F → Type 0
-  IsOpenAt path file = IsNew port (at (string_bytes path)) file
+module _ {F X : Type 0} (port : Ghosts F) where
+  -- the file at the path
+  abbrev pub open_path : String X → Opening F
+  open_path path = open_at port (string_bytes path)
 
-  -- the file is open at the path, if there is one
-  abbrev pub IsOpenIfNamed : Option (String X) → Option F → Type 0
-  IsOpenIfNamed None None = ⊤
-  IsOpenIfNamed None (Some file) = ⊥
-  IsOpenIfNamed (Some path) None = ⊥
-  IsOpenIfNamed (Some path) (Some file) = IsOpenAt path file
+  -- the files of a week
+  abbrev pub open_week : WeekFiles (String X) → Opening (WeekFiles F)
+  open_week paths = do
+    week ← open_path paths.week
+    fix ← open_if_named port (option_map string_bytes paths.fix)
+    end_as (λ opened. opened ≡ record { week = week; fix = fix })
 
-  -- the files of a week are open at their paths
-  pub record IsWeekOpen (paths : WeekFiles (String X)) (opened : WeekFiles F) : Type 0 where
-    pub week : IsOpenAt paths.week opened.week
-    pub fix : IsOpenIfNamed paths.fix opened.fix
+  -- each file of the period, at its own path
+  abbrev pub open_period : PeriodFiles (String X) → Opening (PeriodFiles F)
+  open_period paths = do
+    scenario ← open_path paths.scenario
+    history ← open_path paths.history
+    weeks ← open_each open_week paths.weeks.items
+    given ← open_if_named port (option_map string_bytes paths.given)
+    proof ← open_if_named port (option_map string_bytes paths.proof)
+    rosters ← open_each open_path paths.rosters.items
+    end_as (IsPeriod scenario history weeks given proof rosters)
 
-  -- each file of the period is open at its own path
-  pub record ArePeriodOpen (paths : PeriodFiles (String X)) (opened : PeriodFiles F) : Type 0 where
-    pub scenario : IsOpenAt paths.scenario opened.scenario
-    pub history : IsOpenAt paths.history opened.history
-    pub weeks : AreEach IsWeekOpen paths.weeks.items opened.weeks.items
-    pub given : IsOpenIfNamed paths.given opened.given
-    pub proof : IsOpenIfNamed paths.proof opened.proof
-    pub rosters : AreEach IsOpenAt paths.rosters.items opened.rosters.items
+-- the result with the list of what a call opened
+abbrev pub list_of : {A Z E : Type 0} → Result (Vec A Z) E → Result (List A) E
+list_of (Ok opened) = Ok opened.items
+list_of (Err fault) = Err fault

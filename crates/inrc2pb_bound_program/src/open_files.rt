@@ -1,11 +1,8 @@
 //! The files of a job, open.
-ghost use Rattle.std.specs.Prelude.{◌≡◌, IfErr, IfOk, flat_map, map, option_map, string_bytes};
-ghost use Rattle.inrc2pb_job.specs.Jobs.{paths_of};
-ghost use Rattle.inrc2pb_job.specs.Openers.{opener_at};
-ghost use Rattle.inrc2pb_job.specs.Opening.{AllOpen, OneRefused};
-ghost use Rattle.inrc2pb_bound_program.specs.BoundJobs.{bound_paths, paths_of_week};
-ghost use Rattle.inrc2pb_bound_program.specs.PeriodOpening.{AreEach, ArePeriodOpen, IsOpenAt, IsOpenIfNamed};
-ghost use Rattle.inrc2pb_bound_program.specs.PeriodOpening.{IsUnopened, IsWeekOpen};
+ghost use Rattle.std.specs.Prelude.{option_map, string_bytes};
+ghost use Rattle.inrc2pb_job.specs.Openers.{OpensAs, opener_at};
+ghost use Rattle.inrc2pb_job.specs.Opening.{open_if_named as if_named_opening};
+ghost use Rattle.inrc2pb_bound_program.specs.PeriodOpening.{list_of, open_path as path_opening, open_each as each_opening, open_period as period_opening, open_week as week_opening};
 
 use inrc2pb_job::{Opens, open};
 use rota_bound_run::{PeriodFiles, WeekFiles};
@@ -21,10 +18,7 @@ pub fn open_period<O: Opens>(
     files: &mut O,
     paths: &PeriodFiles<String>,
 ) -> Result<PeriodFiles<O::File>, Fault>
-    ensures opened { IfOk result (AllOpen (opener_at O.Opens O.File.Source files.old files.new)
-        (bound_paths paths.now) (ArePeriodOpen O.File.Source (O.at files.old) paths.now)) }
-    ensures unopened { IfErr result (IsUnopened (opener_at O.Opens O.File.Source files.old files.new)
-        (bound_paths paths.now)) }
+    ensures { OpensAs (opener_at O.Opens O.File.Source files.old files.new) (period_opening O.File.Source paths.now) result }
 {
     Ok(PeriodFiles {
         scenario: open(files, paths.scenario.as_str())?,
@@ -42,12 +36,7 @@ fn open_weeks<O: Opens>(
     files: &mut O,
     weeks: &[WeekFiles<String>],
 ) -> Result<Vec<WeekFiles<O::File>>, Fault>
-    ensures opened { IfOk result (AllOpen (opener_at O.Opens O.File.Source files.old files.new)
-        (flat_map paths_of_week weeks.now)
-        (λ opened. AreEach (IsWeekOpen O.File.Source (O.at files.old)) weeks.now opened.items)) }
-    ensures unopened { IfErr result (IsUnopened (opener_at O.Opens O.File.Source files.old files.new)
-        (flat_map paths_of_week weeks.now)) }
-    ensures same { O.at files.new ≡ O.at files.old }
+    ensures { OpensAs (opener_at O.Opens O.File.Source files.old files.new) (each_opening (week_opening O.File.Source) weeks.now) (list_of result) }
 {
     let mut opened = Vec::with_capacity(alloc, weeks.len())?;
     for week in weeks {
@@ -64,11 +53,7 @@ fn open_week<O: Opens>(
     files: &mut O,
     paths: &WeekFiles<String>,
 ) -> Result<WeekFiles<O::File>, Fault>
-    ensures opened { IfOk result (AllOpen (opener_at O.Opens O.File.Source files.old files.new)
-        (paths_of_week paths.now) (IsWeekOpen O.File.Source (O.at files.old) paths.now)) }
-    ensures refused { IfErr result (OneRefused (opener_at O.Opens O.File.Source files.old files.new)
-        (paths_of_week paths.now)) }
-    ensures same { O.at files.new ≡ O.at files.old }
+    ensures { OpensAs (opener_at O.Opens O.File.Source files.old files.new) (week_opening O.File.Source paths.now) result }
 {
     Ok(WeekFiles {
         week: open(files, paths.week.as_str())?,
@@ -82,11 +67,7 @@ fn open_each<O: Opens>(
     files: &mut O,
     paths: &[String],
 ) -> Result<Vec<O::File>, Fault>
-    ensures opened { IfOk result (AllOpen (opener_at O.Opens O.File.Source files.old files.new)
-        (map string_bytes paths.now) (λ opened. AreEach (IsOpenAt O.File.Source (O.at files.old)) paths.now opened.items)) }
-    ensures unopened { IfErr result (IsUnopened (opener_at O.Opens O.File.Source files.old files.new)
-        (map string_bytes paths.now)) }
-    ensures same { O.at files.new ≡ O.at files.old }
+    ensures { OpensAs (opener_at O.Opens O.File.Source files.old files.new) (each_opening (path_opening O.File.Source) paths.now) (list_of result) }
 {
     let mut opened = Vec::with_capacity(alloc, paths.len())?;
     for path in paths {
@@ -100,11 +81,7 @@ fn open_each<O: Opens>(
 
 // Opens a file if it is named.
 fn open_if_named<O: Opens>(files: &mut O, path: &Option<String>) -> Result<Option<O::File>, Fault>
-    ensures opened { IfOk result (AllOpen (opener_at O.Opens O.File.Source files.old files.new)
-        (paths_of (option_map string_bytes path.now)) (IsOpenIfNamed O.File.Source (O.at files.old) path.now)) }
-    ensures refused { IfErr result (OneRefused (opener_at O.Opens O.File.Source files.old files.new)
-        (paths_of (option_map string_bytes path.now))) }
-    ensures same { O.at files.new ≡ O.at files.old }
+    ensures { OpensAs (opener_at O.Opens O.File.Source files.old files.new) (if_named_opening O.File.Source (option_map string_bytes path.now)) result }
 {
     match path {
         Some(path) => Ok(Some(open(files, path.as_str())?)),

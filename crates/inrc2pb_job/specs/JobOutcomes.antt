@@ -1,47 +1,59 @@
 -- The effects of a job on the files that it opened, on its input and on its outputs.
-use Rattle.std.specs.Prelude.{◌≡◌, ◌∷◌, ◌++◌, Result, Err, MatchOption}
+use Rattle.std.specs.Prelude.{◌≡◌, Result, Ok, Err, MatchOption}
+use Rattle.byte_ports.specs.declared.ports.Source.{Ghosts}
 use Rattle.rota_pb.specs.declared.fault.Fault.{Fault}
-use Rattle.rota_pb.specs.declared.fault.Fault.TheVariants.{Read}
 use Rattle.rota_pb.specs.Decoding.{decode_run}
 use Rattle.rota_pb.specs.Encoding.{encode_run}
 use Rattle.rota_pb.specs.Extending.{extend_run}
 use Rattle.rota_pb.specs.RunPorts.{IsUntouched, Reader, reader_of, Writer}
-use Rattle.inrc2pb_job.specs.Jobs.{[], Option, Some, None, option_map, string_bytes, IsNew, Path, Inputs, Job, Encode, Decode, Extend}
-use Rattle.inrc2pb_job.specs.Jobs.{paths_of, week_paths}
-use Rattle.inrc2pb_job.specs.OpenInputs.{AreOpen, OpenInputs, readers_of}
-use Rattle.inrc2pb_job.specs.OpenCalls.{FailsToOpen, Opener, OpensEach}
+use Rattle.inrc2pb_job.specs.Jobs.{Option, Some, None, option_map, string_bytes, Path, Inputs, Job, Encode, Decode, Extend}
+use Rattle.inrc2pb_job.specs.OpenInputs.{OpenInputs, open_inputs, readers_of}
+use Rattle.inrc2pb_job.specs.Openers.{Opener, OpensAs}
+use Rattle.inrc2pb_job.specs.Opening.{Opening, ◌>>=◌, end_as, open_at, open_if_named}
 
 -- A file did not open, and nothing was written; or the inputs were open at their paths, and the run encoded their contents: they are
 -- `opened` before the run, and `left` after it.
 pub data Encodes {F : Type 0} (opener : Opener F) (inputs : Inputs) (out : Writer) (result : Result (Unit {0}) Fault) : Type 0 where
-  refused : result ≡ Err Read → FailsToOpen opener (week_paths inputs) → IsUntouched out → Encodes opener inputs out result
-  ran : OpensEach opener (week_paths inputs) → (opened left : OpenInputs F) → AreOpen opener.port opener.at inputs opened →
+  refused : (fault : Fault) → result ≡ Err fault → OpensAs opener (open_inputs opener.port inputs) (Err fault) → IsUntouched out →
+      Encodes opener inputs out result
+  ran : (opened left : OpenInputs F) → OpensAs opener (open_inputs opener.port inputs) (Ok opened) →
       (encode_run opened.choice (readers_of opener.port opened left) out).ends result → Encodes opener inputs out result
+
+-- the inputs, and then the answer, if a file is named for it
+abbrev pub open_with_answer : {F : Type 0} → Ghosts F → Inputs → Option Path → Opening (OpenInputs F × Option F)
+open_with_answer port inputs answer = do
+  opened ← open_inputs port inputs
+  given ← open_if_named port answer
+  end_as (λ both. both ≡ (opened, given))
 
 -- A file did not open, and nothing was touched; or the inputs were open at their paths, and the run decoded the answer: from the file at
 -- its path if one is named, otherwise from the input.
 pub data Decodes {F : Type 0} (opener : Opener F) (inputs : Inputs) (answer : Option Path) (input : Reader) (sol report : Writer)
     (result : Result (Unit {0}) Fault) : Type 0 where
-  refused : result ≡ Err Read → FailsToOpen opener (week_paths inputs ++ paths_of answer) →
+  refused : (fault : Fault) → result ≡ Err fault → OpensAs opener (open_with_answer opener.port inputs answer) (Err fault) →
       IsUntouched input → IsUntouched sol → IsUntouched report → Decodes opener inputs answer input sol report result
-  ran_on_file : (path : Path) → answer ≡ Some path → OpensEach opener (week_paths inputs ++ path ∷ []) →
-      (opened left : OpenInputs F) → AreOpen opener.port opener.at inputs opened →
-      (old new : F) → IsNew opener.port (opener.at path) old → IsUntouched input →
+  ran_on_file : (opened left : OpenInputs F) (old new : F) →
+      OpensAs opener (open_with_answer opener.port inputs answer) (Ok (opened, Some old)) → IsUntouched input →
       (decode_run opened.choice (readers_of opener.port opened left) (reader_of opener.port old new) sol report).ends result →
       Decodes opener inputs answer input sol report result
-  ran_on_input : answer ≡ None → OpensEach opener (week_paths inputs) →
-      (opened left : OpenInputs F) → AreOpen opener.port opener.at inputs opened →
+  ran_on_input : (opened left : OpenInputs F) →
+      OpensAs opener (open_with_answer opener.port inputs answer) (Ok (opened, None)) →
       (decode_run opened.choice (readers_of opener.port opened left) input sol report).ends result →
       Decodes opener inputs answer input sol report result
+
+-- the inputs, and then the roster
+abbrev pub open_with_roster : {F : Type 0} → Ghosts F → Inputs → Path → Opening (OpenInputs F × F)
+open_with_roster port inputs from = do
+  opened ← open_inputs port inputs
+  given ← open_at port from
+  end_as (λ both. both ≡ (opened, given))
 
 -- A file did not open, and nothing was touched; or the inputs were open at their paths and the roster at its own, and the run extended it.
 pub data Extends {F : Type 0} (opener : Opener F) (inputs : Inputs) (from : Path) (out : Writer) (result : Result (Unit {0}) Fault) :
     Type 0 where
-  refused : result ≡ Err Read → FailsToOpen opener (week_paths inputs ++ from ∷ []) → IsUntouched out →
+  refused : (fault : Fault) → result ≡ Err fault → OpensAs opener (open_with_roster opener.port inputs from) (Err fault) → IsUntouched out →
       Extends opener inputs from out result
-  ran : OpensEach opener (week_paths inputs ++ from ∷ []) →
-      (opened left : OpenInputs F) → AreOpen opener.port opener.at inputs opened →
-      (old new : F) → IsNew opener.port (opener.at from) old →
+  ran : (opened left : OpenInputs F) (old new : F) → OpensAs opener (open_with_roster opener.port inputs from) (Ok (opened, old)) →
       (extend_run opened.choice (readers_of opener.port opened left) (reader_of opener.port old new) out).ends result →
       Extends opener inputs from out result
 

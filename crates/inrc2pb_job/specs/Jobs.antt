@@ -1,7 +1,7 @@
 -- The choices of a job for its run, and the paths of its files.
-pub use Rattle.std.specs.Prelude.{◌≡◌, List, [], ◌∷◌, ◌++◌, Option, Some, None, is_some, option_map, string_bytes}
+pub use Rattle.std.specs.Prelude.{◌≡◌, [], Option, Some, None, is_some, option_map, string_bytes}
 use Rattle.rota_pb.specs.declared.week_files.Choice.{Choice}
-pub use Rattle.inrc2pb_job.specs.Paths.{FileAt, IsNew, Path}
+pub use Rattle.inrc2pb_job.specs.Paths.{Path}
 pub use Rattle.inrc2pb_job.specs.declared.job.Inputs.{Inputs}
 pub use Rattle.inrc2pb_job.specs.declared.job.Job.{Job}
 pub use Rattle.inrc2pb_job.specs.declared.job.Job.TheVariants.{Encode, Decode, Extend}
@@ -10,16 +10,6 @@ pub use Rattle.inrc2pb_job.specs.declared.job.Job.TheVariants.{Encode, Decode, E
 pub record IsChoiceOf (inputs : Inputs) (choice : Choice) : Type 0 where
   pub early : choice.early ≡ inputs.early
   pub fixed : choice.fixed ≡ is_some inputs.fix
-
--- the path, if there is one
-abbrev pub paths_of : Option Path → List Path
-paths_of None = []
-paths_of (Some path) = path ∷ []
-
--- the paths of the inputs, in the order in which they are checked
-abbrev pub week_paths : Inputs → List Path
-week_paths inputs = (string_bytes inputs.sce ∷ string_bytes inputs.his ∷ string_bytes inputs.week ∷ [])
-    ++ paths_of (option_map string_bytes inputs.fix)
 
 -- the path of the file that a job writes, if it writes one
 abbrev pub output_path_of : Job → Option Path

@@ -1,7 +1,6 @@
 pub mod JobOutcomes
 pub mod Jobs
 pub mod OpenInputs
-pub mod OpenCalls
 pub mod Openers
 pub mod Opening
 pub mod Paths

@@ -1,8 +1,9 @@
 -- The inputs of a job, open.
-use Rattle.std.specs.Prelude.{⊤, false, true}
+use Rattle.std.specs.Prelude.{◌≡◌, false, true}
 use Rattle.byte_ports.specs.declared.ports.Source.{Ghosts}
 use Rattle.rota_pb.specs.RunPorts.{WeekReaders, reader_of}
-use Rattle.inrc2pb_job.specs.Jobs.{[], Option, Some, None, option_map, string_bytes, FileAt, Inputs, IsChoiceOf, IsNew, Path}
+use Rattle.inrc2pb_job.specs.Jobs.{[], Option, Some, None, option_map, string_bytes, Inputs, IsChoiceOf, Path}
+use Rattle.inrc2pb_job.specs.Opening.{Opening, ◌>>=◌, end_as, open_at}
 use Rattle.inrc2pb_job.specs.declared.optional_file.OptionalFile.{OptionalFile}
 use Rattle.inrc2pb_job.specs.declared.optional_file.OptionalFile.TheVariants.{Named, Absent}
 pub use Rattle.inrc2pb_job.specs.declared.open_files.OpenInputs.{OpenInputs}
@@ -15,20 +16,21 @@ optional_port port = record {
   has_ended = elim [ Named file ↦ port.has_ended file | Absent ↦ true ];
 }
 
--- the file is new, if one is named
-abbrev pub IsOptionalOpen : {F : Type 0} → Ghosts F → (Path → FileAt) → Option Path → OptionalFile F → Type 0
-IsOptionalOpen port at (Some path) (Named file) = IsNew port (at path) file
-IsOptionalOpen port at (Some path) Absent = ⊥
-IsOptionalOpen port at None (Named file) = ⊥
-IsOptionalOpen port at None Absent = ⊤
+-- the file at the path, if one is named
+abbrev pub open_optional : {F : Type 0} → Ghosts F → Option Path → Opening (OptionalFile F)
+open_optional port None = end_as (λ file. file ≡ Absent)
+open_optional port (Some path) = do
+  file ← open_at port path
+  end_as (λ optional. optional ≡ Named file)
 
--- each input is open at its own path, and the choices of the run are the choices of the inputs
-pub record AreOpen {F : Type 0} (port : Ghosts F) (at : Path → FileAt) (inputs : Inputs) (opened : OpenInputs F) : Type 0 where
-  pub choice : IsChoiceOf inputs opened.choice
-  pub scenario : IsNew port (at (string_bytes inputs.sce)) opened.sce
-  pub history : IsNew port (at (string_bytes inputs.his)) opened.his
-  pub week : IsNew port (at (string_bytes inputs.week)) opened.week
-  pub fix : IsOptionalOpen port at (option_map string_bytes inputs.fix) opened.fix
+-- each input is opened at its own path, and the choices of the run are the choices of the inputs
+abbrev pub open_inputs : {F : Type 0} → Ghosts F → Inputs → Opening (OpenInputs F)
+open_inputs port inputs = do
+  sce ← open_at port (string_bytes inputs.sce)
+  his ← open_at port (string_bytes inputs.his)
+  week ← open_at port (string_bytes inputs.week)
+  fix ← open_optional port (option_map string_bytes inputs.fix)
+  end_as (λ opened. (opened ≡ record { choice = opened.choice; sce = sce; his = his; week = week; fix = fix }) × IsChoiceOf inputs opened.choice)
 
 -- the readers of the inputs that are `old` before a run and `new` after it
 abbrev pub readers_of : {F : Type 0} → Ghosts F → OpenInputs F → OpenInputs F → WeekReaders

@@ -1,5 +1,5 @@
 -- The contents of a path, and the paths that were asked for.
-use Rattle.std.specs.Prelude.{◌≡◌, ℕ, List, ◌++◌, false, Option, Some, option_map, ⊤}
+use Rattle.std.specs.Prelude.{◌≡◌, ℕ, List, [], ◌∷◌, ◌++◌, false, Option, Some, option_map, ⊤}
 use Rattle.byte_ports.specs.declared.ports.Source.{Ghosts}
 
 -- the bytes of a path
@@ -43,3 +43,8 @@ PathLog = Option (List Path)
 -- the paths with these after them
 abbrev pub with_paths : PathLog → List Path → PathLog
 with_paths log paths = option_map (λ (before : List Path). before ++ paths) log
+
+-- this path was asked for, and the contents of all paths stay as they were
+pub record AsksFor (path : Path) (at_old at_new : Path → FileAt) (log_old log_new : PathLog) : Type 0 where
+  pub log : log_new ≡ with_paths log_old (path ∷ [])
+  pub same : at_new ≡ at_old

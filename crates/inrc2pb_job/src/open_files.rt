@@ -1,10 +1,8 @@
 //! The inputs of a job, open.
-ghost use Rattle.std.specs.Prelude.{◌≡◌, [], ◌∷◌, IfErr, IfOk, option_map, string_bytes};
-ghost use Rattle.inrc2pb_job.specs.Jobs.{paths_of, week_paths};
-ghost use Rattle.inrc2pb_job.specs.OpenInputs.{AreOpen, IsOptionalOpen};
-ghost use Rattle.inrc2pb_job.specs.Openers.{opener_at};
-ghost use Rattle.inrc2pb_job.specs.Opening.{AllOpen, OneRefused};
-ghost use Rattle.inrc2pb_job.specs.Paths.{IsNew};
+ghost use Rattle.std.specs.Prelude.{option_map, string_bytes};
+ghost use Rattle.inrc2pb_job.specs.OpenInputs.{open_inputs as inputs_opening, open_optional as optional_opening};
+ghost use Rattle.inrc2pb_job.specs.Openers.{OpensAs, opener_at};
+ghost use Rattle.inrc2pb_job.specs.Opening.{open_at};
 
 use crate::job::Inputs;
 use crate::optional_file::OptionalFile;
@@ -37,11 +35,7 @@ impl<F: Drop> Drop for OpenInputs<F> {
 /// # Errors
 /// `Read` if an input does not open.
 pub fn open_inputs<O: Opens>(files: &mut O, inputs: &Inputs) -> Result<OpenInputs<O::File>, Fault>
-    ensures opened { IfOk result (AllOpen (opener_at O.Opens O.File.Source files.old files.new)
-        (week_paths inputs.now) (AreOpen O.File.Source (O.at files.old) inputs.now)) }
-    ensures refused { IfErr result (OneRefused (opener_at O.Opens O.File.Source files.old files.new)
-        (week_paths inputs.now)) }
-    ensures same { O.at files.new ≡ O.at files.old }
+    ensures { OpensAs (opener_at O.Opens O.File.Source files.old files.new) (inputs_opening O.File.Source inputs.now) result }
 {
     Ok(OpenInputs {
         choice: inputs.choice(),
@@ -57,11 +51,7 @@ pub fn open_inputs<O: Opens>(files: &mut O, inputs: &Inputs) -> Result<OpenInput
 /// # Errors
 /// `Read` if the input does not open.
 pub fn open<O: Opens>(files: &mut O, path: &str) -> Result<O::File, Fault>
-    ensures opened { IfOk result (AllOpen (opener_at O.Opens O.File.Source files.old files.new)
-        (path.now ∷ []) (IsNew O.File.Source (O.at files.old path.now))) }
-    ensures refused { IfErr result (OneRefused (opener_at O.Opens O.File.Source files.old files.new)
-        (path.now ∷ [])) }
-    ensures same { O.at files.new ≡ O.at files.old }
+    ensures { OpensAs (opener_at O.Opens O.File.Source files.old files.new) (open_at O.File.Source path.now) result }
 {
     match files.open(path) {
         Ok(file) => Ok(file),
@@ -77,12 +67,7 @@ pub fn open_optional<O: Opens>(
     files: &mut O,
     path: &Option<String>,
 ) -> Result<OptionalFile<O::File>, Fault>
-    ensures opened { IfOk result (AllOpen (opener_at O.Opens O.File.Source files.old files.new)
-        (paths_of (option_map string_bytes path.now))
-        (IsOptionalOpen O.File.Source (O.at files.old) (option_map string_bytes path.now))) }
-    ensures refused { IfErr result (OneRefused (opener_at O.Opens O.File.Source files.old files.new)
-        (paths_of (option_map string_bytes path.now))) }
-    ensures same { O.at files.new ≡ O.at files.old }
+    ensures { OpensAs (opener_at O.Opens O.File.Source files.old files.new) (optional_opening O.File.Source (option_map string_bytes path.now)) result }
 {
     match path {
         Some(path) => Ok(OptionalFile::Named(open(files, path.as_str())?)),

@@ -1,7 +1,6 @@
 //! Files that are opened by their paths, and outputs that have a path.
 ghost use Rattle.std.specs.Prelude.{Option, None, IfErr, IfOk};
-ghost use Rattle.inrc2pb_job.specs.Opening.{AsksFor};
-ghost use Rattle.inrc2pb_job.specs.Paths.{PathLog, IsNew, MayRefuse, Path, FileAt};
+ghost use Rattle.inrc2pb_job.specs.Paths.{AsksFor, PathLog, IsNew, MayRefuse, Path, FileAt};
 
 use byte_ports::{PortFault, Source, ToWrite};
 

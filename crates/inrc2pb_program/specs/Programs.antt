@@ -5,7 +5,7 @@ use Rattle.rota_pb.specs.RunPorts.{IsUntouched, Reader, Writer, writer_of}
 use Rattle.rota_pb.specs.declared.fault.Fault.{Fault}
 use Rattle.rota_pb.specs.declared.period_fault.PeriodFault.TheVariants.{Run}
 use Rattle.inrc2pb_job.specs.Jobs.{output_path_of}
-use Rattle.inrc2pb_job.specs.OpenCalls.{Opener}
+use Rattle.inrc2pb_job.specs.Openers.{Opener}
 use Rattle.inrc2pb_job.specs.JobOutcomes.{JobOutcome}
 use Rattle.inrc2pb_program.specs.CommandLine.{inrc2pb_app}
 use Rattle.inrc2pb_frame.specs.Placing.{IsPlaced, JobFile}
