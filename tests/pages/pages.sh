@@ -46,6 +46,15 @@ for name in man apt-get; do
 done
 stand_in_for_clasp
 stand_in_for_cbc
+# A search of the planner that a page shows without --time has five seconds here.
+stand_in inrc2pb-plan << END
+#!/usr/bin/env bash
+case " \$* " in
+    *' --time '*) ;;
+    *' plan '* | *' ill '*) set -- "\$@" --time 5 ;;
+esac
+exec '$room/work/python/inrc2pb-plan' "\$@"
+END
 
 # script_of PAGE: its shell blocks, each with a line that names it before, and its blocks of text to files of the room.
 script_of() {
