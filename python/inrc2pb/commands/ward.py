@@ -13,7 +13,18 @@ from ..judging.leave import Counted, counted, credit_line, credited
 from ..judging.limits import with_given
 from ..judging.odd_values import Reach, Warned, history_warnings, reach_of, scenario_warnings, week_warnings
 from ..plans.store import has_spreadsheet
-from ..sheets.plan_sheets import AWAY, Days, WeekSheet, check_held, plan_warnings, read_days, read_needs, read_weeks, week_of_row_warnings
+from ..sheets.plan_sheets import (
+    AWAY,
+    Days,
+    WeekSheet,
+    check_held,
+    held_warnings,
+    plan_warnings,
+    read_days,
+    read_needs,
+    read_weeks,
+    week_of_row_warnings,
+)
 from ..sheets.sheet_facts import absence_reasons, claims_of, look_warnings, with_part_contracts
 from ..sheets.sheet_files import Book, read_book
 from ..sheets.sheet_rows import tidy
@@ -108,6 +119,7 @@ def ward_files(
     warnings += [f"sheet nurses: {line}" for line in skill_warnings(ward, asked)]
     warnings += [*book_warnings(book), *look_warnings(book, days), *ward_warnings(ward)]
     warnings += [f"sheet plan: {line}" for line in plan_warnings(days, ward.scenario)]
+    warnings += [f"sheet plan: {line}" for line in held_warnings(ward, sheets, days)]
     warnings += [f"sheet needs, {line}" for line in week_of_row_warnings(table_of(book, "needs"), days)]
     datas = [_week(ward.scenario, sheet, claims, number) for number, sheet in enumerate(sheets)]
     odd: Dict[Warned, List[int]] = {}

@@ -200,6 +200,8 @@ def _contract(row: SheetRow, name: str, faults: Gathering) -> Contract:
 def _maximum(row: SheetRow, head: str) -> int:
     """The maximum in this column; an empty cell sets no limit."""
     cell = row.of(head)
+    if head in _KEPT and re.fullmatch(f"{KEPT} ?[0-9]{{1,4}}", cell.text):
+        cell.fault(f"'{cell.text}' has the sign {KEPT} before the number: write {cell.text[1:].strip()}{KEPT}")
     if head not in _KEPT or not cell.text.endswith(KEPT):
         return cell.number(MAX_NUMBER)
     number = cell._replace(text=cell.text.rstrip(f"{KEPT} "))
@@ -303,6 +305,8 @@ def ward_warnings(ward: Ward) -> Iterator[str]:
         if NIGHT.search(name) and later and not shift.forbidden_next:
             turned = "is 'not followed by' the other way round?"
             yield f"sheet shifts: {name} may not follow {later[0]}, and each shift type may follow {name}: {turned}"
+        elif NIGHT.search(name) and not shift.forbidden_next and any(other.forbidden_next for other in types.values()):
+            yield f"sheet shifts: each shift type may follow {name} on the next day: write those that may not into 'not followed by'"
 
 
 def _past(row: SheetRow, nurse: str, shift_types: Dict[str, ShiftType], faults: Gathering, unknown: Gathering) -> NurseHistory:

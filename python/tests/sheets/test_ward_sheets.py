@@ -560,6 +560,38 @@ class Contents(unittest.TestCase):
                 texts(changed(sheet, row, column, text))
             self.assertTrue(caught.exception.message.startswith(f"sheet {sheet}, row {row}, column A: "))
 
+    def test_words_that_mean_another_one(self):
+        for text, cure in (
+            ("sick", "'sick' is no word of the plan: write ill"),
+            ("Vacation", "'Vacation' is no word of the plan: write leave"),
+            ("day off", "'day off' is no word of the plan: write wish, or off if it is promised"),
+            ("wish Night", "'wish Night': a wish is a day off: write wish, or no Night if she would rather not have Night"),
+        ):
+            with self.subTest(text), self.assertRaises(FileFault) as caught:
+                texts(changed("plan", 2, 3, text))
+            self.assertEqual(caught.exception.message, f"sheet plan, row 2, column D: {cure}")
+        with self.assertRaises(FileFault) as caught:
+            texts(changed("contracts", 2, 2, "!11"))
+        cure = "'!11' has the sign ! before the number: write 11!"
+        self.assertEqual(caught.exception.message, f"sheet contracts, row 2, column C: {cure}")
+
+    def test_fixed_shifts_in_a_row_above_a_maximum(self):
+        sheets = changed("contracts", 2, 4, "5!")
+        sheets["plan"][7][2:8] = ["Day"] * 6
+        # She has Day on the second Monday already.
+        span = "Tue of week 1 to Mon of week 2"
+        line = f"sheet plan: Grace has 7 fixed shifts in a row, {span}, and never works more than 5: take some of them out, or the sign ! from work max"
+        self.assertEqual([one for one in made(sheets).warnings if "fixed" in one], [line])
+        sheets["contracts"][1][4] = "5"
+        self.assertEqual([one for one in made(sheets).warnings if "fixed" in one], [])
+
+    def test_a_night_after_which_everything_may_follow(self):
+        sheets = copy.deepcopy(SHEETS)
+        sheets["shifts"][3][3] = ""
+        line = "sheet shifts: each shift type may follow Night on the next day: write those that may not into 'not followed by'"
+        self.assertIn(line, made(sheets).warnings)
+        self.assertNotIn(line, made(SHEETS).warnings)
+
     def test_names_that_are_numbers(self):
         sheets = copy.deepcopy(SHEETS)
         for sheet in ("nurses", "plan"):
