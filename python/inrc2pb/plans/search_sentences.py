@@ -94,6 +94,9 @@ def planned_lines(planned: Planned, write: str) -> List[str]:
     """What a new plan does not keep, changes and costs, its bound, and whether it is written."""
     new, missing = planned.plan, unkept(planned.plan)
     said = counts_lines(planned.absence) if planned.absence else []
+    if planned.is_look and planned.absence and planned.absence.word == BACK:
+        # A question repeats what ends and what stays, which was said before the search.
+        said = [*absence_lines(planned.absence), *said]
     said += unkept_lines(new, missing)
     if len(missing) > len(unkept(for_leavers(new, planned.asked.first))):
         said.append(f"shifts before {new.days.text(planned.asked.first)} stay: plan from an earlier day can take some of them away")

@@ -338,8 +338,10 @@ class Asked(ServedPage):
         self.rows["plan"][3][1:] = ["", "", "ill", "ill", "leave", *[""] * 9]
         self.write()
         self.write_plan()
-        page = self.asks("POST", form="verb=back&nurse=Chen&first=2026-12-03")[1]
-        self.assertIn("<pre>Chen: back, Thu 3 Dec (ill)\nChen stays away: leave, Fri 4 Dec</pre>", page)
+        self.assertEqual(self.asks("POST", form="verb=back&nurse=Chen&first=2026-12-03")[0], 303)
+        page = self.ended()
+        self.assertIn("Yes, write it", page)
+        self.assertIn("Chen: back, Thu 3 Dec (ill)\nChen stays away: leave, Fri 4 Dec\n", page)
 
     def test_a_week_ends_with_an_absence(self):
         self.write_plan()

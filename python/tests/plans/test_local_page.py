@@ -271,10 +271,10 @@ class Page(ServedPage):
     def test_the_question_of_an_illness_says_who_moves_where(self):
         # Chen has Night on Friday, and somebody has to take it.
         self.write_plan()
-        before, form = self.cells(), "verb=away&nurse=Chen&first=2026-12-04&last=&reason=ill&seconds=5"
+        before, form = self.cells(), "verb=away&nurse=Chen&first=2026-12-04&last=&reason=ill&seconds=120"
         self.assertEqual(self.asks("POST", form=form)[0], 303)
         page = html.unescape(self.ended())
-        self.assertIn("<h2>A nurse is away: nurse Chen, day Fri 4 Dec, reason ill, seconds 5?</h2>", page)
+        self.assertIn("<h2>A nurse is away: nurse Chen, day Fri 4 Dec, reason ill, seconds 120?</h2>", page)
         self.assertIn("Chen, Fri 4 Dec: ill instead of Night Nurse\n", page)
         moved = re.search("([A-Z][a-z]+), Fri 4 Dec: Night Nurse instead of off\n", page)
         self.assertIn(f"to call: {moved[1]}", page)
@@ -290,13 +290,13 @@ class Page(ServedPage):
     def test_no_writes_nothing_and_is_asked_no_more(self):
         self.write_plan()
         before = self.stamp
-        self.asks("POST", form="verb=away&nurse=Chen&first=2026-12-04&reason=ill&seconds=5")
+        self.asks("POST", form="verb=away&nurse=Chen&first=2026-12-04&reason=ill&seconds=120")
         self.assertIn("Yes, write it", self.ended())
         for path in (f"{self.site.path}?no", self.site.path):
             self.assertNotIn("Yes, write it", self.asks(path=path)[1])
         self.assertEqual(self.stamp, before)
         # A question for a plan that holds no more is not asked.
-        self.asks("POST", form="verb=away&nurse=Chen&first=2026-12-04&reason=ill&seconds=5")
+        self.asks("POST", form="verb=away&nurse=Chen&first=2026-12-04&reason=ill&seconds=120")
         page = self.ended()
         self.does("page")
         self.assertNotIn("Yes, write it", self.asks(path=self.site.path)[1])
