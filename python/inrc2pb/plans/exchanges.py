@@ -8,7 +8,7 @@ bits of numbers here: a few steps tell how many nights and weekends an exchange 
 import itertools
 import random
 import time
-from typing import Callable, Dict, Iterable, Iterator, List, Mapping, NamedTuple, Optional, Tuple
+from typing import Callable, Dict, Iterable, Iterator, List, Mapping, NamedTuple, Optional, Set, Tuple
 
 from ..judging.absences import is_broken_by
 from ..judging.rules import SATURDAY
@@ -110,13 +110,15 @@ class _Exchanges:
         self._choices: Dict[str, bytes] = {}
         self._known: Dict[Tuple[str, Tuple[Cell, ...]], Tuple[int, int, int]] = {}
         self._is_even: Optional[bool] = None
-        self._is_searched = False
+        # The pairs of nurses whose exchanges were tried since their rows are as they are.
+        self._searched: Set[Tuple[str, str]] = set()
         self._take(self.rows)
 
     def _take(self, new: Mapping[str, _Row]) -> None:
         """These nurses have these rows now."""
         self.rows.update(new)
-        self._is_even, self._is_searched = None, False
+        self._is_even = None
+        self._searched = {pair for pair in self._searched if not new.keys() & set(pair)}
         nights, numbers = self._plan.days_away.nights, self._costs.numbers
         days = range(self._plan.first, self._plan.days.total)
         for nurse, row in new.items():
@@ -135,17 +137,16 @@ class _Exchanges:
 
     def improved(self, goes_on: Callable[[], bool]) -> bool:
         """Makes the first exchange of two nurses of a contract, of days in a row, that is more even and costs nothing. Returns whether
-        there is one; if there was none, there is none before the rows are other ones."""
-        if self._is_searched:
-            return False
+        there is one; a pair is tried again only after one of their rows has changed."""
         spans = [_bits(range(begin, end)) for begin in self._days for end in range(begin + 1, self._days.stop + 1)]
-        for pair in (pair for group in self._groups for pair in itertools.combinations(group, 2)):
+        pairs = (pair for group in self._groups for pair in itertools.combinations(group, 2))
+        for pair in (pair for pair in pairs if pair not in self._searched):
             for exchange in (_Exchange(pair, days) for days in spans):
                 if not goes_on():
                     return False
                 if self._is_more_even(exchange) and self._fits(exchange) and self._takes(exchange):
                     return True
-        self._is_searched = True
+            self._searched.add(pair)
         return False
 
     def _takes(self, exchange: _Exchange) -> bool:
@@ -170,7 +171,7 @@ class _Exchanges:
                 above += added
                 best = best if above else dict(self.rows)
         if above:
-            self._take(best)
+            self._take({nurse: row for nurse, row in best.items() if row is not self.rows[nurse]})
 
     def _any(self) -> _Exchange:
         """An exchange of two nurses of a contract, or of them and one more, on one row of days, or on two."""
