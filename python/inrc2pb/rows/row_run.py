@@ -71,7 +71,8 @@ class WholeSearch(WeekDives):
 
 class RowRun:
     """A search over the rows of a plan. `start` has the rows to begin with, if any; `heard` is called if the bound rises, and when it is
-    final. The `seed` begins its random choices. Without `splits` no cases raise the bound of the prices."""
+    final. The `seed` begins its random choices. Without `splits` no cases raise the bound of the prices. If it `is_quick`, it ends with the
+    first roster by the prices."""
 
     def __init__(
         self,
@@ -83,10 +84,11 @@ class RowRun:
         start: Optional[List[NurseWeek]] = None,
         seed: int = 1,
         splits: bool = True,
+        is_quick: bool = False,
     ) -> None:
         self.plan = plan
         self._solver, self._clock, self._offer, self._heard, self._start = solver, clock, offer, heard, start
-        self._seed, self._splits = seed, splits
+        self._seed, self._splits, self._is_quick = seed, splits, is_quick
         self.crews = Crews(plan)
         self.search: Optional[RowSearch] = None
         self._tree: Optional[CaseTree] = None
@@ -138,7 +140,8 @@ class RowRun:
             rows = self._try(search.dive, LAST_DIVE_SHARE if search.complete else DIVE_SHARE)
             if rows:
                 search.keep(rows, "fixing rows")
-        self._close_gap(search, self._solver)
+        if search.penalty is None or not self._is_quick:
+            self._close_gap(search, self._solver)
 
     def _try(self, step: Callable[[Clock], Found], share: float) -> Optional[Found]:
         """What the step finds in this share of the time that is left; None if it takes longer."""

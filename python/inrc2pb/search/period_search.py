@@ -173,7 +173,7 @@ class PeriodSearch:
 
             keeping = ABSENCES_KEPT if plan.keeping == STRICT else plan.keeping
             week = Plan.of(_part(plan.scenario, history.week + 1), history, [data], held=held, keeping=keeping)
-            run = RowRun(week, solver, self._clock.part(seconds), offer, lambda: None, splits=False)
+            run = RowRun(week, solver, self._clock.part(seconds), offer, lambda: None, is_quick=True)
             run.run()
             if not found:
                 return None
