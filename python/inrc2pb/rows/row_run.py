@@ -135,7 +135,6 @@ class RowRun:
             if search.complete and search.misses_minimums and (self._keeps_limits or self._no_roster()):
                 return
             if search.complete and self._dives_beside and search.penalty is not None:
-                search.take_greatest()
                 break
             rows = self._try(search.dive, LAST_DIVE_SHARE if search.complete else DIVE_SHARE)
             if rows:

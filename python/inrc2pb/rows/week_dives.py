@@ -56,7 +56,8 @@ class WeekDives(RowSearch):
         except TimeIsOver:
             self.pricing = pricing
             self.clock.check()
-            self._take(self._last, "fixing rows in a short time")
+            if len(self._last) == len(self.plan.nurses):
+                self.descend([self._last[nurse] for nurse in range(len(self._last))], "fixing rows in a short time")
             return None
         finally:
             self._leave(program)
@@ -67,14 +68,6 @@ class WeekDives(RowSearch):
         """The row of each nurse that has the greatest share in a solution."""
         shares, columns = solved.shares if solved else {}, self.program.columns
         return {columns[number].nurse: columns[number].row for number in sorted(shares, key=shares.__getitem__)}
-
-    def take_greatest(self) -> None:
-        """Takes the rows of the greatest shares in the solution without fixed weeks, made better one after another."""
-        self._take(self._greatest(self.solved), "the greatest shares")
-
-    def _take(self, rows: Dict[int, NurseWeek], finder: str) -> None:
-        if len(rows) == len(self.plan.nurses):
-            self.descend([rows[nurse] for nurse in range(len(rows))], finder)
 
     def _dive(self, clock: Clock, fixed_share: float, chance: Optional[random.Random]) -> Optional[List[NurseWeek]]:
         whole = self.program

@@ -117,14 +117,6 @@ class Dives(DiveTest):
         self.assertTrue(done.ended and done.work)
         self.assertLess(search.value_of(offered[-1]), search.lower_bound + 100)
 
-    def test_the_rows_of_the_greatest_shares_are_a_roster(self):
-        search = self.generated()
-        search.begin(matched_rows(search.plan, search.pricing.crews, lambda: None), None)
-        before = search.penalty
-        search.take_greatest()
-        self.assertLess(search.penalty, before)
-        self.assertEqual(search.penalty, search.value_of(search.rows))
-
     def test_a_dive_that_cannot_be_better_has_no_rows(self):
         search = self.generated()
         search.penalty = search.lower_bound
