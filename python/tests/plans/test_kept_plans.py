@@ -15,7 +15,8 @@ from inrc2pb.judging.rules import Charge
 from inrc2pb.plans import pages, store
 from inrc2pb.plans.changes import days_off_beside_absences, shift_changes, with_few_changes, without_needless_changes
 from inrc2pb.plans.facts import unkept
-from inrc2pb.plans.search_sentences import bound_text, part_lines
+from inrc2pb.plans.outcome import Asked, Planned
+from inrc2pb.plans.search_sentences import bound_text, part_lines, planned_lines
 from inrc2pb.plans.searching import known_bound
 from inrc2pb.plans.sentences import beside_lines, call_lines, change_lines, due_lines, unkept_lines, wish_lines
 from inrc2pb.plans.state import DayWord, Record, read_record, read_state, record_text
@@ -64,6 +65,12 @@ class Words(KeptTest):
         changes, away = shift_changes(old, new), {("Amara", 0): "ill"}
         says = ["Amara, Mon of week 1: ill instead of Day Nurse", "Bruno, Mon of week 1: Day Nurse instead of off"]
         self.assertEqual((change_lines(changes, BARE, away), call_lines(changes, away)), (says, ["1 nurse to call: Bruno"]))
+
+    def test_how_many_shifts_differ_from_a_plan_that_nobody_has_seen(self):
+        for number, says in ((1, "1 shift differs from the last plan"), (2, "2 shifts differ from the last plan")):
+            new = self.plan.with_cells(self.plan.cells[number:])
+            planned = Planned(self.plan, self.plan, Asked(0, False, 1.0), new, penalties={}, bound=None, is_stopped=False)
+            self.assertIn(says, planned_lines(planned, ""))
 
     def test_who_works_though_she_is_away_is_told(self):
         # Grace works Day on Wednesday and Friday of both weeks, and Amara Day in charge on Monday.

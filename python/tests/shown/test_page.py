@@ -219,6 +219,9 @@ class Page(PageTest):
         # A table of the roster has four weeks, and one of the coverage has two.
         page = self.page("--roster", *[ROSTER] * 5)
         self.assertEqual([len(one.find("thead")[0]) for one in page.iter("table")], [5, 2])
+        page = self.page(*two, "--week", WEEK, "--roster", ROSTER, later, self.changed(ROSTER, "0 ward", "2 ward", "last.txt"))
+        heads = [one.find("thead")[0] for one in page.iter("table") if words(one.find("caption")).startswith("Nurses at each place")]
+        self.assertEqual([len(head) for head in heads], [3, 2])
 
     def test_hostile_names(self):
         page = self.page(*self.hostile_week(), *MONDAY)
