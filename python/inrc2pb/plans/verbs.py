@@ -139,7 +139,8 @@ def _searched_for(store: PlanStore, event: Event, absence: Away, *named: int) ->
         return replace(absence, status=Status.NOT_KEPT)
     _say(store, absence_lines(absence))
     verb = " ".join([absence.word, absence.nurse, *map(absence.old.days.head, named)])
-    return _searched(store, event, verb, absence.new, Asked(absence.days[0], True, event.seconds or CHANGE_SECONDS, do=event.do), absence)
+    asked = Asked(absence.days[0], True, event.seconds or CHANGE_SECONDS, do=event.do)
+    return _searched(store, event, verb, absence.new, asked, absence=absence)
 
 
 def _say(store: PlanStore, said: Sequence[str]) -> None:

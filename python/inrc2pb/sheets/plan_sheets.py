@@ -111,7 +111,7 @@ def read_weeks(book: Book, ward: Ward, days: Days, faults: Gathering) -> List[We
     for nurse, row in _plan_rows(days, ward, faults).items():
         for index, head in enumerate(days.columns):
             with ward.unknown.shifts.step():
-                _read_day(row.at(head.column), nurse, index, ward.scenario, weeks, is_known)
+                _read_day(row.at(head.column), nurse, index, ward.scenario, weeks, is_known=is_known)
     for nurse, (shifts, weekdays) in ward.never.items():
         for week in weeks:
             week.absences += [Absence(nurse, day, shift) for shift in shifts for day in range(len(DAYS))]
@@ -268,7 +268,7 @@ def _read_day(cell: SheetCell, nurse: str, index: int, scenario: Scenario, weeks
         parts = cell._replace(text=_no_shift(cell.text, scenario)).parts()
         week.wishes += [Request(nurse, part.known("shift type", scenario.shift_types), day) for part in parts]
     else:
-        week.held.append(_held(cell, nurse, day, week, scenario, is_known))
+        week.held.append(_held(cell, nurse, day, week, scenario, is_known=is_known))
 
 
 def _no_shift(text: str, scenario: Scenario) -> str:

@@ -92,7 +92,8 @@ def read_ward(book: Book, name: str, weeks: int, faults: Gathering) -> Ward:
         with faults.step():
             _check_number(table_of(book, "nurses"), kind, number, most)
     scenario = Scenario(name, weeks, tuple(skills.cells), shift_types=shift_types, contracts=contracts, nurses=nurses)
-    return Ward(scenario, History(0, name, past), never, kept, skills.cells, Unknown(of_shifts, of_nurses))
+    history = History(0, name, past)
+    return Ward(scenario, history, never=never, kept=kept, skills=skills.cells, unknown=Unknown(of_shifts, of_nurses))
 
 
 def _rows(table: Optional[Table]) -> Sequence[SheetRow]:
