@@ -10,7 +10,7 @@ from ..programs.clock import Clock, TimeIsOver
 from ..solvers.answers import SolverFault
 from ..solvers.linear_solvers import LinearSolver
 from ..week.records import WEEK_DAYS
-from .part_search import Dive, Done, Part, PartSearch
+from .part_search import MOST_WORK, Dive, Done, Part, PartSearch
 from .plan import POINT, STEP
 from .pricing import NurseWeek
 from .row_search import RowSearch
@@ -33,9 +33,34 @@ WIDE_GAP = 6 * STEP * POINT
 DIVE_SHARE, FIXED_SHARES, MOST_SEED, DIVES = 0.5, (0.08, 0.06, 0.1), 1 << 30, 0.2
 # With more weeks than this a dive takes long. So the first one fixes this share, to end soon.
 FEW_WEEKS, FIRST_FIXED = 4, 0.3
+# A roster that was not made better by so much work is left for that of a new dive, in a period.
+STUCK_WORK = 20 * MOST_WORK
 # Up to this part of the bound a gap is small. The share of the time that is left for an integer program over the known rows of all
 # nurses then.
 SMALL_GAP, WHOLE_SHARE = 0.03, 0.3
+
+
+class Restart:
+    """A roster of a new dive, which is made better beside the best one. When it is better, it is the best one."""
+
+    def __init__(self, search: RowSearch, rows: List[NurseWeek]) -> None:
+        self._search, self.rows, self.penalty = search, rows, search.value_of(rows)
+
+    def keep(self, rows: List[NurseWeek], finder: str) -> bool:
+        """Takes better rows, and offers them to the search. Returns whether they are better."""
+        value = self._search.value_of(rows)
+        if value is None or (self.penalty is not None and value >= self.penalty):
+            return False
+        self.rows, self.penalty = rows, value
+        self._search.keep(rows, finder)
+        return True
+
+    def swap(self, rows: List[NurseWeek]) -> bool:
+        """Takes other rows that cost as much. Returns whether they do."""
+        if rows == self.rows or self._search.value_of(rows) != self.penalty:
+            return False
+        self.rows = rows
+        return True
 
 
 class RowParts:
@@ -99,18 +124,42 @@ class RowParts:
         search = self._search
         if number == 0 and not self._dives and search.bound is not None and search.gap() < SMALL_GAP * search.bound:
             everything = Part(tuple(range(len(search.plan.nurses))), range(search.plan.days), limited=False)
-            self.improve(everything, solver, clock.part(clock.left() * WHOLE_SHARE))
+            self.improve(everything, solver, clock.part(clock.left() * WHOLE_SHARE), search)
+        roster: Union[RowSearch, Restart] = search
+        vain = 0
         while not search.is_proved:
             clock.check()
             dive = self._next_dive()
             if dive:
                 self._dive(solver, clock, dive)
                 continue
-            penalty, part = search.penalty, self._next()
-            done = self.improve(part, solver, clock.part(MOST_SECONDS))
-            self._learn(part, done, search.penalty != penalty)
+            if vain > STUCK_WORK and self._restarts(number):
+                roster, vain = (self._restarted(solver, clock) if roster is search or number else None) or search, 0
+            penalty, best = roster.penalty, search.penalty
+            part = self._next(roster)
+            done = self.improve(part, solver, clock.part(MOST_SECONDS), roster)
+            vain = 0 if roster.penalty != penalty else vain + done.work
+            self._learn(part, done, search.penalty != best, roster is search)
         clock.stop()
         solver.end_all()
+
+    def _restarts(self, number: int) -> bool:
+        """Whether the thread of this number leaves a roster that is stuck. If there are several, the first one stays with the best one."""
+        return len(self._search.plan.weeks) > 1 and (number > 0 or len(self._solvers) == 1)
+
+    def _restarted(self, solver: LinearSolver, clock: Clock) -> Optional[Restart]:
+        """The roster of a new dive, which may be worse than the best one."""
+        found: List[List[NurseWeek]] = []
+
+        def take(rows: List[NurseWeek], finder: str) -> bool:
+            self._search.keep(rows, finder)
+            found.append(rows)
+            return True
+
+        with self._lock:
+            task = Dive(self._chance.choice(FIXED_SHARES), self._chance.randrange(MOST_SEED), None)
+        self._searches[solver].dive(clock.part(clock.left() * DIVE_SHARE), take, task)
+        return Restart(self._search, found[-1]) if found else None
 
     @property
     def _dives(self) -> bool:
@@ -146,26 +195,25 @@ class RowParts:
                 # Some end before the first step.
                 self._dived += max(1, done.work) if done.ended else math.inf
 
-    def improve(self, part: Part, solver: LinearSolver, clock: Clock) -> Done:
-        """Looks for better rows of a neighborhood."""
-        search = self._search
+    def improve(self, part: Part, solver: LinearSolver, clock: Clock, roster: Union[RowSearch, Restart]) -> Done:
+        """Looks for better rows of a neighborhood of a roster."""
         with self._lock:
-            assert search.rows is not None
-            rows = list(search.rows)
+            assert roster.rows is not None
+            rows = list(roster.rows)
 
         def take(found: List[NurseWeek], finder: str) -> bool:
             # Meanwhile another thread may have found better rows of other nurses, or on other days.
             with self._lock:
-                assert search.rows is not None
-                if part.changed and search.rows == rows and search.swap(part.put(rows, found)):
+                assert roster.rows is not None
+                if part.changed and roster.rows == rows and roster.swap(part.put(rows, found)):
                     return True
-                return search.keep(part.put(search.rows, found), finder) or search.keep(part.put(rows, found), finder)
+                return roster.keep(part.put(roster.rows, found), finder) or roster.keep(part.put(rows, found), finder)
 
         return self._searches[solver].improve(clock, take, part, rows)
 
-    def _learn(self, part: Part, done: Done, is_better: bool) -> None:
+    def _learn(self, part: Part, done: Done, is_better: bool, is_of_best: bool = True) -> None:
         """Counts the work of a neighborhood, and changes the number of nurses of later ones of this length. `is_better` says whether the
-        best roster is another one now."""
+        best roster is another one now, and `is_of_best` whether it is one of the best roster."""
         with self._lock:
             length = len(part.days)
             self._spent[length] += 0 if done.is_better else done.work
@@ -173,11 +221,12 @@ class RowParts:
             self._sizes[length] = min(len(self._search.plan.nurses), max(LEAST_SIZE, self._sizes[length] * factor))
             if is_better:
                 self._closed.clear()
-            elif done.ended and len(part.nurses) == len(self._search.plan.nurses) and not part.changed:
+            elif is_of_best and done.ended and len(part.nurses) == len(self._search.plan.nurses) and not part.changed:
                 self._closed.add(part.days)
 
-    def _next(self) -> Part:
-        """The next neighborhood. The lengths share the work that is in vain, and days that are closed for all nurses come last."""
+    def _next(self, roster: Union[RowSearch, Restart]) -> Part:
+        """The next neighborhood of a roster. The lengths share the work that is in vain, and days that are closed for all nurses come
+        last."""
         with self._lock:
             nurses, days = len(self._search.plan.nurses), self._search.plan.days
             for length in sorted(self._spent, key=self._spent.__getitem__):
@@ -186,16 +235,15 @@ class RowParts:
                 left = [stretch for stretch in stretches if size < nurses or stretch not in self._closed]
                 if left:
                     break
-            part = Part(self._nurses(size), self._chance.choice(left or stretches))
+            part = Part(self._nurses(size, roster.rows), self._chance.choice(left or stretches))
             if self._chance.random() >= CHANGED_SHARE:
                 return part
             numbers = self._chance.sample(range(len(part.nurses)), min(len(part.nurses), self._chance.randint(1, MOST_CHANGED)))
             return part._replace(changed=tuple((number, self._chance.choice(part.days)) for number in numbers))
 
-    def _nurses(self, size: int) -> Tuple[int, ...]:
+    def _nurses(self, size: int, rows: Optional[Sequence[NurseWeek]]) -> Tuple[int, ...]:
         """Nurses for a neighborhood: half of them have rows that cost more at the best prices than their cheapest ones. In every second
         neighborhood the others are those who share the most skills with one of them."""
-        rows = self._search.rows
         assert rows is not None
         costly = self._search.costly(rows, self._minimums)
         first = self._chance.sample(costly, min(len(costly), size // 2))

@@ -14,7 +14,7 @@ from inrc2pb.rows.first_rows import matched_rows
 from inrc2pb.rows.plan import POINT, Plan
 from inrc2pb.rows.pricing import Crews, Pricing
 from inrc2pb.rows.part_search import Dive, Done, Part, PartSearch
-from inrc2pb.rows.row_parts import RowParts
+from inrc2pb.rows.row_parts import STUCK_WORK, Restart, RowParts
 from inrc2pb.rows.row_search import RowSearch
 from inrc2pb.rows.week_dives import WeekDives
 from inrc2pb.solvers.linear_solvers import LinearSolver
@@ -107,7 +107,7 @@ class NextParts(unittest.TestCase):
         seen = []
         # There are 13, 11, 8, 4 and 1 of these lengths.
         for _ in range(37):
-            part = parts._next()
+            part = parts._next(parts._search)
             self.assertEqual(part.nurses, tuple(range(30)))
             seen.append(part.days)
             parts._learn(part._replace(changed=()), Done(True, 1000), False)
@@ -115,15 +115,15 @@ class NextParts(unittest.TestCase):
         self.assertEqual({len(days) for days in seen[:5]}, {2, 4, 7, 11, 14})
         # The only one of 14 days has had less work than the others, and is open again.
         parts._learn(part, Done(True, 1000, True), True)
-        self.assertEqual(len(parts._next().days), 14)
+        self.assertEqual(len(parts._next(parts._search).days), 14)
 
     def test_lengths_share_the_work(self):
         parts = RowParts(search_of(1), [])
         for days, work in ((3, 2000), (4, 5000), (6, 1000), (7, 3000)):
             parts._learn(Part((0, 1), range(days)), Done(True, work), False)
-        self.assertEqual(len(parts._next().days), 6)
+        self.assertEqual(len(parts._next(parts._search).days), 6)
         parts._learn(Part((0, 1), range(6)), Done(False, 1500), False)
-        self.assertEqual(len(parts._next().days), 3)
+        self.assertEqual(len(parts._next(parts._search).days), 3)
 
     def test_sizes_follow_the_work(self):
         parts = RowParts(search_of(1), [])
@@ -145,6 +145,47 @@ class NextDives(unittest.TestCase):
         self.assertIsNotNone(second.seed)
         # Two solvers have two first dives.
         self.assertIsNone(parts._next_dive())
+
+
+class Restarts(unittest.TestCase):
+    def test_a_roster_beside_the_best_one(self):
+        search = search_of(1)
+        best, roster = search.penalty, Restart(search, [OFF] * 30)
+        # All nurses are off: this is no roster, and a better one is.
+        self.assertIsNone(roster.penalty)
+        self.assertTrue(roster.keep(search.rows, "a dive"))
+        self.assertEqual((roster.penalty, search.penalty), (best, best))
+        self.assertFalse(roster.keep(search.rows, "a dive"))
+        search.penalty = best + 100
+        roster = Restart(search, search.rows)
+        roster.penalty = best + 50
+        # What is better than this roster is offered to the search.
+        self.assertTrue(roster.keep(list(search.rows), "a dive"))
+        self.assertEqual((roster.penalty, search.penalty), (best, best))
+        self.assertFalse(roster.swap(search.rows))
+
+    def test_the_first_of_several_threads_stays_with_the_best_roster(self):
+        of_period, of_week = (RowParts(search_of(weeks), [None, None]) for weeks in (2, 1))
+        self.assertEqual([of_period._restarts(number) for number in (0, 1)], [False, True])
+        self.assertEqual([of_week._restarts(number) for number in (0, 1)], [False, False])
+        self.assertTrue(RowParts(search_of(2), [None])._restarts(0))
+
+    def test_a_stuck_roster_is_left_for_a_new_one(self):
+        """Each neighborhood is in vain, and its work is a quarter of what a stuck roster has had."""
+        search, seen = search_of(2), []
+        parts, clock = RowParts(search, [None]), Clock(LONG)
+        parts._begun, parts._dived = 1, 1e9
+
+        def improve(part, solver, _clock, roster):
+            seen.append(roster)
+            if len(seen) == 15:
+                clock.stop()
+            return Done(True, STUCK_WORK // 4 + 1)
+
+        with mock.patch.object(parts, "improve", improve):
+            with mock.patch.object(parts, "_restarted", lambda *_: Restart(search, search.rows)), self.assertRaises(TimeIsOver):
+                parts._work(None, clock, 0)
+        self.assertEqual([roster is search for roster in seen], [True] * 4 + [False] * 4 + [True] * 4 + [False] * 3)
 
 
 class DiveTest(HelperTest):
