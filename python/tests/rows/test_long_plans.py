@@ -132,7 +132,7 @@ class Parts(HelperTest):
         search.begin(matched_rows(plan, search.pricing.crews, lambda: None), None)
         parts = RowParts(search, [solver, solver.beside(1)])
 
-        def improve(part, solver, clock):
+        def improve(part, solver, clock, roster):
             if solver is parts._solvers[1]:
                 words = ["sh", "-c", "echo ready; exec sleep 60"]
                 ended.append(solver._processes.run(words, 60, self.folder, hear=lambda data: ready.set()).status)
@@ -154,7 +154,7 @@ class Parts(HelperTest):
         search.begin(matched_rows(plan, search.pricing.crews, lambda: None), None)
         parts, failed = RowParts(search, [solver, solver.beside(1)]), threading.Event()
 
-        def improve(part, used, clock):
+        def improve(part, used, clock, roster):
             if used is solver:
                 failed.set()
                 raise SolverFault("cbc wrote an empty answer")
@@ -168,7 +168,7 @@ class Parts(HelperTest):
             parts.run(search.clock)
         self.assertEqual(warnings, ["cbc wrote an empty answer: the search goes on with 1 of 2 threads"])
 
-        def fails(part, used, clock):
+        def fails(part, used, clock, roster):
             raise SolverFault("cbc wrote an empty answer")
 
         search.bound, search.penalty = None, 10_000
