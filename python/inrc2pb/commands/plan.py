@@ -25,10 +25,10 @@ from ..programs.interrupts import interrupts
 from ..programs.program import find_program
 from ..programs.progress import WardProgress
 from ..programs.secrets_file import kept_secret
-from ..sheets.plan_sheets import AWAY, COUNTED, read_days
+from ..sheets.plan_days import read_days
+from ..sheets.plan_sheets import AWAY, COUNTED
 from ..sheets.sheet_files import Book, read_book
 from ..sheets.ward_sheets import shift_times
-from ..week.dates import PlanDays
 from ..week.faults import Misuse
 from ..week.records import WEEK_DAYS, NurseDay, WeekData, in_plan
 from . import ward
@@ -132,7 +132,7 @@ def _ward_of(sheets: Book, name: str, absences: Sequence[DayWord]) -> Ward:
         texts=files.texts,
         warnings=files.warnings,
         reach=files.reach,
-        days=PlanDays(days.monday, days.weeks),
+        days=days.in_plan,
         scenario=scenario,
         past=history,
         claims=tuple(claims),

@@ -13,18 +13,8 @@ from ..judging.leave import Counted, counted, credit_line, credited
 from ..judging.limits import with_given
 from ..judging.odd_values import Reach, Warned, history_warnings, reach_of, scenario_warnings, week_warnings
 from ..plans.store import has_spreadsheet
-from ..sheets.plan_sheets import (
-    AWAY,
-    Days,
-    WeekSheet,
-    check_held,
-    held_warnings,
-    plan_warnings,
-    read_days,
-    read_needs,
-    read_weeks,
-    week_of_row_warnings,
-)
+from ..sheets.plan_days import Days, plan_warnings, read_days, week_of_row_warnings
+from ..sheets.plan_sheets import AWAY, WeekSheet, check_held, held_warnings, read_needs, read_weeks
 from ..sheets.sheet_facts import absence_reasons, claims_of, look_warnings, with_part_contracts
 from ..sheets.sheet_files import Book, read_book
 from ..sheets.sheet_rows import tidy

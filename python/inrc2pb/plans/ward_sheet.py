@@ -5,7 +5,8 @@ In the next period the weeks of such rows, as those of bank holidays, count anew
 
 from typing import Iterable, List, Mapping, NamedTuple, Sequence
 
-from ..sheets.plan_sheets import AWAY, Days, needed, week_of_row
+from ..sheets.plan_days import Days, week_of_row
+from ..sheets.plan_sheets import AWAY, needed
 from ..sheets.sheet_files import Book
 from ..sheets.sheet_rows import SheetCell, SheetRow, tidy
 from ..sheets.ward_sheets import table_of

@@ -11,7 +11,8 @@ from ..judging.leave import PartContract
 from ..week.facts import SHIFTS, WEEKENDS, Charged, Choice, Claim, DayAway, Reasons
 from ..week.records import WEEK_DAYS, Contract, History, Limits
 from ..week.slots import MAX_CONTRACTS, MAX_NUMBER
-from .plan_sheets import NOT_EMPLOYED, Days, WeekSheet
+from .plan_days import Days
+from .plan_sheets import NOT_EMPLOYED, WeekSheet
 from .sheet_files import Book
 from .sheet_rows import letters_of, tidy
 from .ward_sheets import Ward

@@ -6,7 +6,7 @@ from pathlib import Path
 from ward import ROOT
 
 from inrc2pb.commands import ward
-from inrc2pb.sheets.plan_sheets import read_days
+from inrc2pb.sheets.plan_days import read_days
 from inrc2pb.week.records import DAYS
 from inrc2pb.sheets.sheet_files import Book
 from inrc2pb.sheets.ward_template import EXAMPLE

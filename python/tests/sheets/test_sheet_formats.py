@@ -14,7 +14,7 @@ from xml.etree import ElementTree
 from xml.sax.saxutils import escape
 
 from inrc2pb.commands import ward
-from inrc2pb.sheets.plan_sheets import read_days
+from inrc2pb.sheets.plan_days import read_days
 from inrc2pb.sheets.sheet_facts import look_warnings
 from inrc2pb.sheets.sheet_files import Book, read_book
 from inrc2pb.sheets.sheet_parts import Grid

@@ -16,7 +16,8 @@ from inrc2pb.commands.ward import days_of
 from inrc2pb.judging.absences import absences_of
 from inrc2pb.judging.limits import with_given
 from inrc2pb.judging.rules import charges
-from inrc2pb.sheets.plan_sheets import AWAY, read_days
+from inrc2pb.sheets.plan_days import read_days
+from inrc2pb.sheets.plan_sheets import AWAY
 from inrc2pb.sheets.sheet_files import Book, read_book
 from inrc2pb.week.facts import Charged, Claim, read_facts
 from inrc2pb.week.faults import FileFault, FileFaults
@@ -208,8 +209,6 @@ class Contents(unittest.TestCase):
             ("needs", 2, 3, "3..2", "row 2, column D: at least 3 are needed, and 2 are best: write the smaller number first"),
             ("needs", 2, 2, "Char", "row 2, column C: 'Char' is no skill of the sheet nurses: did you mean Charge?"),
             ("needs", 4, 1, "Day", "row 4, column B: Day Nurse has a row already: delete one, or write its week"),
-            ("needs", 2, 0, "3", "row 2, column A: there is no week 3: weeks are counted from 1, so write 2 for the last one"),
-            ("needs", 2, 0, "0", "row 2, column A: there is no week 0: weeks are counted from 1, so write 2 for the last one"),
             ("plan", 2, 0, "Amara", "row 2, column A: 'Amara' is no nurse of the sheet nurses: did you mean Amara Koch?"),
             (
                 "plan",
@@ -240,43 +239,7 @@ class Contents(unittest.TestCase):
                 "Night/Nurse",
                 "row 6, column D: Ewa never works this shift or is always off on this day, by the sheet nurses: change one of the two",
             ),
-            ("plan", 1, 14, "", "it has 13 days: plan whole weeks, from Monday to Sunday"),
-            ("plan", 1, 13, "", "row 1, column O: the column before this one is no day: delete it, or move it after the last day"),
-            ("plan", 1, 13, "# Sat", "row 1, column O: the column before this one is no day: delete it, or move it after the last day"),
-            ("plan", 1, 1, "Sun 1", "row 1, column B: 'Sun 1' should be a Mon: the plan begins on a Monday, and has each day once"),
-            ("plan", 1, 3, "Tue 1", "row 1, column D: 'Tue 1' should be a Wed: the plan begins on a Monday, and has each day once"),
-            (
-                "plan",
-                1,
-                1,
-                "2026-12-01",
-                "row 1, column B: '2026-12-01' should be a Mon: the plan begins on a Monday, and has each day once",
-            ),
-            ("plan", 1, 1, "46357", "row 1, column B: '2026-12-01' should be a Mon: the plan begins on a Monday, and has each day once"),
-            ("plan", 1, 1, "2026-02-30", "row 1, column B: there is no day 2026-02-30: write a date such as 2026-11-30"),
-            (
-                "plan",
-                1,
-                1,
-                "30.11.",
-                "row 1, column B: '30.11.' is no day of the week: write one of Mon,Tue,Wed,Thu,Fri,Sat,Sun, or whole dates such as 2026-11-30, or begin the head with #",
-            ),
-            *(
-                ("plan", 1, 1, text, f"row 1, column B: '{text}' may have the day or the month first: write {dates}")
-                for text, dates in (("30/11/2026", "2026-11-30"), ("11-30-2026", "2026-11-30"), ("1/12/2026", "2026-12-01 or 2026-01-12"))
-            ),
-            (
-                "plan",
-                1,
-                1,
-                "1900-01-29",
-                "row 1, column B: a spreadsheet makes 1900-01-29 of the number of a day: write whole dates, such as 2026-11-30",
-            ),
             ("contracts", 2, 2, "1,000", "row 2, column C: '1,000' is no whole number: write 1 or 1000"),
-            *(
-                ("needs", 2, 0, text, f"row 2, column A: '{shown}' is a date, and the sheet plan has none: write the week's number, from 1")
-                for text, shown in (("46381", "2026-12-25"), ("25.12.2026", "25.12.2026"))
-            ),
             *(
                 (
                     "contracts",
@@ -295,20 +258,6 @@ class Contents(unittest.TestCase):
                 "row 2, column B: the minimum 8 is above the maximum 0: correct one of the two; for no limit leave the cell empty",
             ),
             ("nurses", 2, 1, "", "row 2, column B: the cell is empty: write a contract, or delete the row"),
-            (
-                "plan",
-                1,
-                15,
-                "Total",
-                "row 1, column P: 'Total' is no day of the week: write one of Mon,Tue,Wed,Thu,Fri,Sat,Sun, or begin the head with #",
-            ),
-            (
-                "plan",
-                1,
-                2,
-                "2026-12-01",
-                "row 1, column C: '2026-12-01' has a date, unlike the first day: write dates for all days or for none",
-            ),
         ):
             with self.subTest(sheet=sheet, row=row, text=text), self.assertRaises(FileFault) as caught:
                 texts(changed(sheet, row, column, text))
@@ -470,54 +419,6 @@ class Contents(unittest.TestCase):
         for column in (5, 6):
             self.assertEqual(texts(changed("nurses", 2, column, ""))["history-0.txt"], texts(SHEETS)["history-0.txt"])
 
-    def dated(self, *weeks):
-        """The example with dates from 30 November on, and these texts in the column week of the row of its second week, and of others."""
-        sheets = copy.deepcopy(SHEETS)
-        sheets["plan"][0] = ["nurse", *(f"2026-{'11-30' if not day else f'12-{day:02}'}" for day in range(14))]
-        for row, week in enumerate(weeks, 5):
-            sheets["needs"][row : row + 1] = [[week, *SHEETS["needs"][5][1:]]]
-        return sheets
-
-    def test_the_week_of_a_bank_holiday(self):
-        # Calendar week 50 begins on 7 December.
-        for text in ("2", "2026-12-07", "2026-12-13", "9.12.2026", "50", "CW 50", "cw50", "KW 50", "Calendar week 50", str(46365)):
-            with self.subTest(text):
-                self.assertEqual(texts(self.dated(text)), texts(self.dated("2")))
-                self.assertEqual(made(self.dated(text)).warnings, made(self.dated("2")).warnings)
-        for text, said in (
-            ("3", "there is no week 3: weeks are counted from 1, so write 2 for the last one, a calendar week such as CW 50, or a date"),
-            (
-                "CW 2",
-                "there is no week CW 2: weeks are counted from 1, so write 2 for the last one, a calendar week such as CW 50, or a date",
-            ),
-            ("soon", "'soon' is no whole number: write a number such as 2"),
-        ):
-            with self.subTest(text), self.assertRaises(FileFault) as caught:
-                texts(self.dated(text))
-            self.assertEqual(caught.exception.message, f"sheet needs, row 6, column A: {said}")
-        with self.assertRaises(FileFault) as caught:
-            texts(changed("needs", 6, 0, "2026-12-08"))
-        cure = "'2026-12-08' is a date, and the sheet plan has none: write the week's number, from 1"
-        self.assertEqual(caught.exception.message, f"sheet needs, row 6, column A: {cure}")
-
-    def test_a_date_of_another_period_counts_for_no_week(self):
-        without = self.dated()
-        del without["needs"][5:]
-        for text in ("2026-11-29", "2026-12-14", "2025-12-25"):
-            found = made(self.dated(text))
-            line = f"sheet needs, row 6: {text} is not in this plan, so the row counts for no week: correct the date, or delete the row"
-            self.assertEqual(([one for one in found.warnings if "row 6" in one], found.texts), ([line], texts(without)))
-
-    def test_a_number_that_is_also_another_week_of_the_calendar(self):
-        # The plan begins in calendar week 2.
-        sheets = self.dated("2")
-        sheets["plan"][0] = ["nurse", *(f"2027-01-{day}" for day in range(11, 25))]
-        line = "sheet needs, row 6: 2 is the week of the plan, Mon 18 Jan to Sun 24 Jan: write CW 2 for the calendar week"
-        self.assertIn(line, made(sheets).warnings)
-        sheets["needs"][5][0] = "CW 2"
-        self.assertEqual([one for one in made(sheets).warnings if "row 6" in one], [])
-        self.assertNotEqual(texts(sheets)["week-0.txt"], texts(self.dated("2"))["week-0.txt"])
-
     def test_all_mistakes_of_all_sheets_are_reported_at_once(self):
         sheets = copy.deepcopy(SHEETS)
         for sheet, row, column, text in (
@@ -542,15 +443,6 @@ class Contents(unittest.TestCase):
             "sheet needs, row 3, column E: '1 or 2 or 3' is no whole number: write a number such as 2, or 2+1 for 2 at least and better 3",
             "sheet plan, row 4, column A: 'Brno' is no nurse of the sheet nurses: did you mean Bruno?",
             "sheet plan, row 2, column D: 'trainin' is no shift type: did you mean training?",
-        ])  # fmt: skip
-
-    def test_mistakes_of_heads_are_reported_with_the_rows_of_other_sheets(self):
-        sheets = copy.deepcopy(SHEETS)
-        sheets["plan"][0][3], sheets["contracts"][1][1], sheets["nurses"][0][1] = "Midweek", "many", "kontrakt"
-        with self.assertRaises(FileFaults) as caught:
-            days_of(Book(Path("ward.ods"), sheets))
-        self.assertEqual([one.message.split(": ")[0] for one in caught.exception.faults], [
-            "sheet plan, row 1, column D", "sheet nurses, row 1, column B", "sheet contracts, row 2, column B",
         ])  # fmt: skip
 
     def test_a_name_with_a_mistake_is_no_mistake_wherever_it_stands(self):

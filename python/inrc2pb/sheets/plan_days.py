@@ -1,0 +1,155 @@
+"""The days and weeks that the sheets name: the heads of the sheet plan, one for each day, and the weeks of rows of the sheet needs."""
+
+import datetime
+import re
+from typing import Iterator, List, NamedTuple, Optional
+
+from ..week.dates import DAY, PlanDays, written_dates
+from ..week.records import DAYS, Scenario
+from ..week.words import plural
+from .sheet_files import Book
+from .sheet_rows import SheetCell, Table
+
+_OTHER_DATE = re.compile(r"\b([0-9]{1,2})[/-]([0-9]{1,2})[/-]([0-9]{4})\b")
+# A date as a spreadsheet counts it, from 1954 on.
+_SERIAL = re.compile(r"\b[2-9][0-9]{4}\b")
+_FIRST_YEAR = 1954
+_CALENDAR_WEEK = re.compile("cw|kw|calendar", re.IGNORECASE)
+# The week of a row that is for no week of the plan.
+NO_WEEK = -1
+
+
+class Days(NamedTuple):
+    """The columns of the plan, one for each day, and the date of the first, if the heads have dates."""
+
+    plan: Table
+    columns: List[SheetCell]
+    monday: Optional[datetime.date]
+
+    @property
+    def weeks(self) -> int:
+        """The number of weeks."""
+        return len(self.columns) // len(DAYS)
+
+    @property
+    def in_plan(self) -> PlanDays:
+        """The same days, as verbs count and name them."""
+        return PlanDays(self.monday, self.weeks)
+
+
+def read_days(book: Book) -> Days:
+    """The days of the sheet plan: whole weeks from Monday to Sunday."""
+    plan = Table(book, "plan", ("nurse",), open_end=True)
+    columns = plan.others
+    dates = [date_of(cell) for cell in columns]
+    monday = dates[0] if dates else None
+    for index, (cell, date) in enumerate(zip(columns, dates)):
+        if cell.column != columns[0].column + index:
+            cell.fault("the column before this one is no day: delete it, or move it after the last day")
+        if date and monday and (date - monday).days != index:
+            cell.fault(f"{date} does not follow the day before: write one column for each day")
+        if bool(date) != bool(monday):
+            has = "a date" if date else "no date"
+            cell.fault(f"'{date_shown(cell, date)}' has {has}, unlike the first day: write dates for all days or for none")
+        wanted = DAYS[index % len(DAYS)]
+        if (date.weekday() if date else day_of_head(cell)) != index % len(DAYS):
+            cell.fault(f"'{date_shown(cell, date)}' should be a {wanted}: the plan begins on a Monday, and has each day once")
+    if not columns or len(columns) % len(DAYS):
+        plan.fault(f"it has {plural(len(columns), 'day')}: plan whole weeks, from Monday to Sunday")
+    return Days(plan, columns, monday)
+
+
+def plan_warnings(days: Days, scenario: Scenario) -> Iterator[str]:
+    """Warnings of heads that count weeks from 0, and of nurses for whom the plan has no row."""
+    if not days.monday and days.columns and week_of_head(days.columns[0]) == 0:
+        yield f"its heads count weeks from 0, and verbs count from 1: write Mon 1 for {days.columns[0].text}, and so on"
+    there = {row.of("nurse").text.replace(" ", "_").casefold() for row in days.plan.rows}
+    no_row = "has no row: she has no wishes and no absences; if she has some, add a row"
+    yield from (f"{nurse} {no_row}" for nurse in scenario.nurses if nurse.casefold() not in there)
+
+
+# ---- heads of days
+
+
+def day_of_head(cell: SheetCell) -> int:
+    """The day of the week with which a head begins, as Wed or Wednesday 1."""
+    short = cell.text[:3].casefold()
+    for day, name in enumerate(DAYS):
+        if short == name.casefold():
+            return day
+    whole = ", or whole dates such as 2026-11-30" if re.search("[0-9]", cell.text) else ""
+    cell.fault(f"'{cell.text}' is no day of the week: write one of {','.join(DAYS)}{whole}, or begin the head with #")
+
+
+def week_of_head(cell: SheetCell) -> Optional[int]:
+    """The number with which a head such as `Wed 1` ends, if it has one."""
+    number = re.search("[0-9]{1,2}$", cell.text)
+    return int(number.group()) if number else None
+
+
+def date_of(cell: SheetCell) -> Optional[datetime.date]:
+    """The date in a head: written out, or as a number of a spreadsheet."""
+    written = next((date for date in written_dates(cell.text) if date.year is not None), None)
+    serial, other = _SERIAL.search(cell.text), _OTHER_DATE.search(cell.text)
+    if other and not written:
+        cell.fault(f"'{cell.text}' may have the day or the month first: write {_year_first(*map(int, other.groups()))}")
+    if not written:
+        return cell.book.day_zero + int(serial.group()) * DAY if serial else None
+    try:
+        date = written.date()
+    except ValueError:
+        cell.fault(f"there is no day {written.text}: write a date such as 2026-11-30")
+    if date.year < _FIRST_YEAR:
+        cell.fault(f"a spreadsheet makes {date} of the number of a day: write whole dates, such as 2026-11-30")
+    return date
+
+
+def date_shown(cell: SheetCell, date: Optional[datetime.date]) -> str:
+    """What a spreadsheet shows in a cell with this date, if it has one."""
+    return str(date) if date and cell.text.isdecimal() else cell.text
+
+
+def _year_first(first: int, second: int, year: int) -> str:
+    """The date that has its day or its month first."""
+    for month, day in ((second, first), (first, second)):
+        if month <= 12 < day:
+            return f"{year}-{month:02}-{day:02}"
+    return f"{year}-{second:02}-{first:02} or {year}-{first:02}-{second:02}"
+
+
+# ---- weeks of rows of the needs
+
+
+def week_of_row(cell: SheetCell, days: Days) -> Optional[int]:
+    """The week of a row of the needs, from 0, by its number, a calendar week or a date in it; None: all weeks; NO_WEEK: a date that is not
+    in the plan, so that the row counts for none of its weeks."""
+    if not cell.text:
+        return None
+    plan, date = days.in_plan, date_of(cell)
+    if date and days.monday is None:
+        cell.fault(f"'{date_shown(cell, date)}' is a date, and the sheet plan has none: write the week's number, from 1")
+    if date and days.monday:
+        week = (date - days.monday).days // len(DAYS)
+        return week if 0 <= week < days.weeks else NO_WEEK
+    number = plan.week_number(cell.text)
+    if number is None:
+        if not _CALENDAR_WEEK.match(cell.text):
+            cell.number()
+        others = "" if days.monday is None else f", a calendar week such as CW {plan.calendar_week(days.weeks - 1)}, or a date"
+        cell.fault(f"there is no week {cell.text}: weeks are counted from 1, so write {days.weeks} for the last one{others}")
+    return number
+
+
+def week_of_row_warnings(table: Table, days: Days) -> Iterator[str]:
+    """Warnings of rows of the needs whose week the plan does not have, and of numbers that may mean another week of the calendar."""
+    plan = days.in_plan
+    for row in table.rows:
+        cell = row.of("week")
+        week = week_of_row(cell, days)
+        if week == NO_WEEK:
+            yield f"row {row.number}: {cell.text} is not in this plan, so the row counts for no week: correct the date, or delete the row"
+        elif week is not None and days.monday and cell.text.isdecimal():
+            other = plan.week_number(f"CW {cell.text}")
+            if other is not None and other != week:
+                span = plan.span([len(DAYS) * week, len(DAYS) * week + len(DAYS) - 1])
+                yield f"row {row.number}: {cell.text} is the week of the plan, {span}: write CW {cell.text} for the calendar week"
