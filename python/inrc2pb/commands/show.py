@@ -11,7 +11,7 @@ from typing import Iterable, Optional, Sequence
 from ..shown.calendars import issue_now, shift_dates, write_calendars
 from ..shown.changes import changed_lines
 from ..shown.page import page_text
-from ..shown.page_tables import Content
+from ..shown.page_content import Content
 from ..shown.roster_files import RosterFiles, read_old, read_view
 from ..shown.roster_text import TextTable, spreadsheet
 from ..shown.roster_view import AWAY, HELD, REFUSED, RosterView

@@ -8,7 +8,7 @@ from urllib.parse import quote
 from ..shown.calendars import file_names
 from ..shown.markup import Markup, element, joined
 from ..shown.page import page_style
-from ..shown.page_tables import RosterTable
+from ..shown.roster_table import RosterTable
 from ..week.records import WEEK_DAYS, NurseDay
 from ..week.words import readable
 from .local_cell import Actions, cell_address

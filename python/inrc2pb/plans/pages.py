@@ -8,7 +8,7 @@ from typing import Collection, Dict, Iterable, List, Mapping, Optional, Sequence
 
 from ..shown.calendars import file_names, issue_now, write_calendars
 from ..shown.page import page_text
-from ..shown.page_tables import Content
+from ..shown.page_content import Content
 from ..shown.totals import Sums
 from ..week.dates import DAY, PlanDays, date_text
 from ..week.words import readable

@@ -5,11 +5,12 @@ from typing import Dict, Iterator, List, Optional
 from ..judging.rules import Charge, cost_by_rule
 from ..week.dates import date_text
 from ..week.soft_rules import RULES
-from ..week.words import plural, readable, wish_text
+from ..week.words import plural, readable
 from .markup import Markup, element, joined
-from .page_tables import Content, RosterTable, column, coverage_tables, first, sums_table, table, totals_table
+from .page_content import Content
+from .page_tables import changes_table, coverage_tables, sums_table, totals_table, wishes_table
+from .roster_table import RosterTable
 from .roster_text import COLORS, ink_on
-from .totals import Wish, totals
 from .why import breach_lines, costs_text, in_words, plain_breach_lines
 
 STYLE = """
@@ -189,27 +190,3 @@ def page_text(page: Content) -> str:
     head = element("head", *meta, element("title", title(page)), element("style", page_style()))
     body = element("body", element("main", *(joined(part, Markup("\n")) for part in parts)))
     return f"<!DOCTYPE html>\n{element('html', head, Markup(chr(10)), body, lang='en')}\n"
-
-
-def _wish(page: Content, wish: Wish) -> str:
-    return f"{page.days(wish.week)[wish.request.day]} {wish_text(wish.request.shift)}"
-
-
-def wishes_table(page: Content) -> Optional[Markup]:
-    """The wishes of each nurse who has some."""
-    rows = []
-    for nurse, total in (totals(page.view) or {}).items():
-        if total.wishes:
-            texts = [", ".join(_wish(page, wish) for wish in total.wishes if wish.granted == granted) for granted in (True, False)]
-            rows.append([first(readable(nurse)), *(element("td", text) for text in texts)])
-    return table("Wishes", [joined(*map(column, ("nurse", "granted", "missed")))], rows, "words") if rows else None
-
-
-def changes_table(page: Content) -> Optional[Markup]:
-    """The changes since the older roster."""
-    rows = []
-    for change in page.changes:
-        texts = page.days(change.week)[change.day], readable(change.before_text), readable(change.now_text)
-        rows.append([first(readable(change.nurse)), *(element("td", text) for text in texts)])
-    heads = joined(*map(column, ("nurse", "day", "before", "now")))
-    return table(f"{len(rows)} changes since {page.since}", [heads], rows, "words") if rows else None

@@ -1,7 +1,5 @@
-"""Tests of `inrc2pb-roster show --html` and `--ics`, of the totals, and of the mark of a nurse who works while she is away."""
+"""Tests of `inrc2pb-roster show --html` and `--ics`: the page as a whole, its charges and its faults, and calendars."""
 
-import csv
-import io
 import re
 import unittest
 import xml.etree.ElementTree as ElementTree
@@ -11,11 +9,7 @@ from ward import HISTORY, ROSTER, SCENARIO, WARD, WEEK, WEEK_OPTIONS, HelperTest
 
 from inrc2pb.shown.calendars import file_names
 from inrc2pb.shown.markup import element, hidden
-from inrc2pb.shown.page import page_text
-from inrc2pb.shown.page_tables import Content
-from inrc2pb.shown.roster_files import RosterFiles, read_view
 from inrc2pb.shown.roster_text import COLORS
-from inrc2pb.week.records import DAYS
 
 MONDAY = ("--monday", "2026-11-30")
 # Names that would be markup, a path, or a second line, and one whose accent is a letter of its own.
@@ -84,106 +78,12 @@ class Page(PageTest):
         self.assertGreater(len(marks), 3)
         self.assertTrue(all(any(inner.get("class") == "hidden" for inner in part) for part in marks))
 
-    def test_the_roster_and_its_dates(self):
-        page = self.page(
-            *WEEK_OPTIONS,
-            *MONDAY,
-            "--times",
-            "Late=13:00-21:15",
-            "--times",
-            "Day=6:00-14:15",
-            "--times",
-            "Night=22:00-06:15",
-            "--roster",
-            ROSTER,
-        )
-        self.assertEqual(words(page.find(".//h1")), "ward, 30 Nov to 6 Dec 2026 (calendar week 49)")
-        rows = self.caption(page, "Shifts")
-        self.assertEqual(rows[0], ["nurse", "Mon 30 Nov", "Tue 1 Dec", "Wed 2 Dec", "Thu 3 Dec", "Fri 4 Dec", "Sat 5 Dec", "Sun 6 Dec"])
-        chen = next(row for row in rows if row[0] == "Chen")
-        refused = "Night Nurse!, a request to be off was not granted"
-        self.assertEqual(chen[1:], ["", "", "Late Nurse", "Late Nurse", "Night Nurse", refused, "Night Nurse"])
-        self.assertIn("Day, 06:00 to 14:15", [words(item) for item in page.iter("li")])
-
-    def test_totals_coverage_wishes_and_charges(self):
-        page = self.page(*WEEK_OPTIONS, "--roster", ROSTER)
-        rows = self.caption(page, "Totals")
-        self.assertEqual(rows[0], "nurse,shifts,contract,difference,Day,Late,Night,weekends,at most,wishes,granted,missed,cost".split(","))
-        self.assertIn("Chen,5,17 to 21,12 to 16 left,0,2,3,1,2,1,0,1,10".split(","), rows)
-        self.assertIn(["Grace", "Tue no Night", ""], self.caption(page, "Wishes"))
-        self.assertIn(["Dilek", "", "Fri off"], self.caption(page, "Wishes"))
-        covered = self.caption(page, "Nurses at each place")
-        self.assertEqual(covered[2][:3], ["Day Nurse", "2 1\u20132minimum 1, best 2", "2 1\u20132minimum 1, best 2"])
-        folds = [words(part) for part in page.iter("details")]
-        self.assertEqual(
-            folds,
-            ["Chen: 10 (S4 10)10 (S4) Sat: on Night, and asked to be off", "Dilek: 10 (S4 10)10 (S4) Fri: on Day, and asked to be off"],
-        )
-
     def test_places_with_fewer_nurses_than_best_have_a_fold_after_the_nurses(self):
         roster = self.folder / "few.txt"
         roster.write_text(ROSTER.read_text().replace("Bruno Mon Day Nurse\n", "").replace("ASSIGNMENTS = 33", "ASSIGNMENTS = 32"))
         *others, places = [words(part) for part in self.page(*WEEK_OPTIONS, "--roster", roster).iter("details")]
         self.assertEqual(places, "Places with fewer nurses than best: 30 (S1 30)30 (S1) Day Nurse, Mon: 1 of 2 nurses")
         self.assertFalse([text for text in others if "S1" in text])
-
-    def test_places_with_too_few_and_too_many(self):
-        roster = self.changed(ROSTER, "Amara Mon Day Charge", "Amara Mon Day Nurse")
-        page = self.page(*WEEK_OPTIONS, "--roster", roster)
-        rows = self.caption(page, "Nurses at each place")
-        self.assertEqual((rows[1][1], rows[2][1]), (
-            "0 \u22121!1 too few, below the minimum 1\u20131minimum 1, best 1", "3 +11 too many 1\u20132minimum 1, best 2"))  # fmt: skip
-        # The two have colors of their own, and no other cell has one.
-        colored = [(name, words(cell)[:3]) for cell in page.iter("td") for name in cell.get("class", "").split() if name in ("few", "more")]
-        self.assertEqual(colored, [("few", "0 \u2212"), ("more", "3 +")])
-        self.assertIn("the roster breaks H2: Mon Day Charge has 0 nurses and needs at least 1", [words(part) for part in page.iter("p")])
-        self.assertEqual(list(page.iter("details")), [])
-        # A page without costs does not explain the names of rules.
-        wall = self.page(*WEEK_OPTIONS, "--only-table", "--roster", roster)
-        self.assertIn(
-            "below the minimum number: Mon Day Charge has 0 nurses and needs at least 1", [words(part) for part in wall.iter("p")]
-        )
-
-    def test_changes(self):
-        other = self.changed(ROSTER, "Grace Mon Day Nurse", "Chen Mon Late Nurse")
-        page = self.page(*MONDAY, "--old", ROSTER, "--roster", other)
-        self.assertEqual(
-            self.caption(page, "2 changes")[1:], [["Chen", "Mon 30 Nov", "off", "Late Nurse"], ["Grace", "Mon 30 Nov", "Day Nurse", "off"]]
-        )
-        grace = next(row for row in self.caption(page, "Shifts") if row[0] == "Grace")
-        self.assertEqual(grace[1], "off\u0394 changed since the older roster, instead of Day Nurse")
-        self.assertIn(
-            "Nothing is changed since the older roster.", [words(part) for part in self.page("--old", ROSTER, "--roster", ROSTER).iter("p")]
-        )
-
-    def test_the_dot_of_a_bank_holiday_in_the_second_week(self):
-        files_of = RosterFiles([ROSTER, ROSTER], SCENARIO, [HISTORY], [WEEK, WARD / "week-1.txt"])
-        page = ElementTree.fromstring(page_text(Content(read_view(files_of), holidays={11})))
-        heads = [words(head) for head in page.find(".//table").iter("th")]
-        days = [head for head in heads if head[:3] in DAYS]
-        self.assertEqual([number for number, head in enumerate(days) if "as on a bank holiday" in head], [11])
-
-    def test_only_the_table(self):
-        page = self.page(
-            *WEEK_OPTIONS, "--fix", ROSTER, "--only-table", "--old", self.changed(ROSTER, "Grace Mon", "Chen Mon"), "--roster", ROSTER
-        )
-        self.assertEqual([words(one) for one in page.iter("caption")], ["Shifts of each nurse"])
-        self.assertEqual([words(one) for one in page.iter("p")], ["7 nurses, 33 shifts"])
-        self.assertEqual([words(one) for one in page.iter("li")], ["\u0394 = changed since the older roster", "WE = weekends with work"])
-        # Beside the roster each nurse's shifts of each type, and her weekends, by the rows of the file.
-        rows = {row[0]: row[8:] for row in self.caption(page, "Shifts")}
-        self.assertEqual((rows["nurse"], rows["Finn"], rows["Grace"]), (["Day", "Late", "Night", "WE"], [*"0501"], [*"5000"]))
-
-    def test_absences_show_without_the_days_that_are_kept(self):
-        old = self.folder / "old.txt"
-        ill, kept = self.away("Amara=Thu", "Chen=Tue", name="ill.txt"), self.away("Amara=Thu", "Chen=Mon,Tue", name="kept.txt")
-        old.write_text(ROSTER.read_text().replace("Bruno Thu", "Amara Thu"))
-        for week, monday in ((ill, ""), (kept, "away")):
-            page = self.page("--sce", SCENARIO, "--his", HISTORY, "--week", week, "--old", old, "--roster", ROSTER)
-            rows = {row[0]: row for row in self.caption(page, "Shifts")}
-            self.assertEqual((rows["Chen"][1:3], rows["Amara"][4][:4], rows["Amara"][5]), ([monday, "away"], "away", ""))
-            # The older roster breaks the absence, so its penalty is left out.
-            self.assertEqual(words(next(page.iter("p"))), "7 nurses, 33 shifts, penalty 20")
 
     def test_absences_in_tables_of_text(self):
         ill = self.away("Amara=Thu")
@@ -201,27 +101,6 @@ class Page(PageTest):
         self.assertIn("print-color-adjust: exact", printed)
         self.assertNotIn("background", printed[: printed.index("\n}\n")])
         self.assertIn(f".s0 {{ background: {COLORS[0]}; color: #000000 }}", style)
-
-    def test_several_weeks(self):
-        later = self.changed(ROSTER, "0 ward", "1 ward", "later.txt")
-        two = ("--sce", SCENARIO, "--his", HISTORY, "--week", WEEK, "--week", WARD / "week-1.txt")
-        page = self.page(*two, *MONDAY, "--roster", ROSTER, later)
-        rows = self.caption(page, "Shifts")
-        self.assertEqual(
-            (rows[0], rows[1][8], len(rows[2])), (["", "week 1, calendar week 49", "week 2, calendar week 50"], "Mon 7 Dec", 15)
-        )
-        self.assertEqual(rows[2][1], "DcDay Charge")
-        self.assertIn("c = Charge", [words(item) for item in page.iter("li")])
-        self.assertIn("Amara,10,17 to 21,7 to 11 left,10,0,0,2,2,1,0,1,10".split(","), self.caption(page, "Totals"))
-        # On a wall the heads of the sums name their weeks.
-        wall = self.page("--only-table", "--roster", later, self.changed(ROSTER, "0 ward", "2 ward", "last.txt"))
-        self.assertEqual(self.caption(wall, "Shifts")[0], ["", "week 2", "week 3", "weeks 2 to 3"])
-        # A table of the roster has four weeks, and one of the coverage has two.
-        page = self.page("--roster", *[ROSTER] * 5)
-        self.assertEqual([len(one.find("thead")[0]) for one in page.iter("table")], [5, 2])
-        page = self.page(*two, "--week", WEEK, "--roster", ROSTER, later, self.changed(ROSTER, "0 ward", "2 ward", "last.txt"))
-        heads = [one.find("thead")[0] for one in page.iter("table") if words(one.find("caption")).startswith("Nurses at each place")]
-        self.assertEqual([len(head) for head in heads], [3, 2])
 
     def test_hostile_names(self):
         page = self.page(*self.hostile_week(), *MONDAY)
@@ -274,42 +153,6 @@ class Page(PageTest):
         self.assertEqual(page.read_text(), "older")
         self.assertEqual(run("roster", "show", *WEEK_OPTIONS, "--html", "--out", page, "--roster", ROSTER), (0, "", ""))
         ElementTree.fromstring(page.read_text())
-
-
-class Totals(PageTest):
-    def test_the_table_and_the_spreadsheet(self):
-        printed = run("roster", "show", *WEEK_OPTIONS, "--roster", ROSTER)[1]
-        self.assertRegex(printed, r"(?m)^Chen .*  0 2 3  5/17-21  1/2       0/1       10  S4 10$")
-        self.assertNotIn("weekends", run("roster", "show", "--sce", SCENARIO, "--roster", ROSTER)[1])
-        chen = next(
-            row for row in csv.reader(io.StringIO(run("roster", "show", *WEEK_OPTIONS, "--csv", "--roster", ROSTER)[1])) if row[0] == "Chen"
-        )
-        self.assertEqual(chen[8:], ["10", "S4 10", "5", "17", "21", "1", "2", "1", "0", "0", "2", "3"])
-
-    def test_the_last_week_says_what_is_missed(self):
-        ward = self.changed(SCENARIO, "WEEKS = 4", "WEEKS = 1", "ward.txt")
-        ward.write_text(ward.read_text().replace("Half (8,11)", "Half (2,4)"))
-        rows = self.caption(self.page("--sce", ward, "--his", HISTORY, "--week", WEEK, "--roster", ROSTER), "Totals")
-        self.assertEqual({row[0]: row[3] for row in rows}, {
-            "nurse": "difference", "Amara": "12 too few", "Bruno": "12 too few", "Chen": "12 too few", "Dilek": "12 too few", "Ewa": "within",
-            "Finn": "1 too many", "Grace": "12 too few"})  # fmt: skip
-
-    def test_on_duty_while_away(self):
-        asked = "Chen Any Sat\n" * 30 + "Amara Any Thu\n" * 30 + "Grace Day Mon\n" * 30
-        week = self.changed(WEEK, "SHIFT_OFF_REQUESTS = 5\n", f"SHIFT_OFF_REQUESTS = 95\n{asked}", "week.txt")
-        given = ("--sce", SCENARIO, "--his", HISTORY, "--week", week, "--roster", ROSTER)
-        printed = run("roster", "show", *given)[1]
-        self.assertIn("Night Nu#", printed)
-        self.assertIn("\n# = on duty while away, or on a shift type that she never works\n", printed)
-        self.assertRegex(printed, r"(?m)^Grace  Day Nu#  ")
-        # An absence is no wish.
-        self.assertRegex(printed, r"(?m)^Chen .* 0 2 3  5/17-21  1/2       - ")
-        self.assertIn("Night Nurse #", run("roster", "show", *given, "--csv")[1])
-        self.assertIn("310  S4  Chen, Sat: on Night, while away (31 requests)\n", run("roster", "why", *given)[1])
-        rows = {row[0]: row for row in self.caption(self.page(*given), "Shifts")}
-        self.assertEqual(
-            (rows["Chen"][6], rows["Amara"][4]), ("Night Nurse#, on duty while away, or on a shift type that she never works", "away")
-        )
 
 
 class Calendars(PageTest):

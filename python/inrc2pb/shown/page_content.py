@@ -1,0 +1,124 @@
+"""What a page of a roster shows, and the parts of which its tables are made: captions, heads of rows and columns, and days."""
+
+import datetime
+from dataclasses import dataclass, field
+from typing import Callable, Collection, List, Mapping, Optional, Sequence, Tuple
+
+from ..week.dates import DAY, Times, day_names
+from ..week.records import DAYS
+from .changes import Change, changes
+from .markup import Markup, element, hidden, joined, shown
+from .roster_view import AWAY, HELD, RosterView
+from .totals import Sums
+
+HOLIDAY, HOLIDAY_MEANING = "\u2022", "other numbers of nurses are needed, as on a bank holiday"
+
+
+@dataclass(frozen=True)
+class Content:
+    """What a page shows: the roster, an older one, the date of the first Monday, and the times of shift types, as far as they are known.
+
+    `only_table` is for a wall: nothing on what the roster costs, nor on wishes and held shifts. `link` has the address of a nurse's day
+    in a week of the table, if its cells are links. `name` is that of the ward for people, if the roster's own one is not, and `since`
+    says which the older roster is. `holidays` are days from the first Monday on with numbers of their own, as bank holidays have, `as_of`
+    says when the page was made, `notes` are lines on what to look at, `swapped` has the weeks of the table, nurses and days of swaps that
+    were written, `promised` those of days that were promised, and `plan` is the name of the plan of a ward's folder that the page shows.
+    `sums` has what each nurse has in the whole period, and `all_sums` in that and all earlier ones of the folder, if there are some.
+    """
+
+    view: RosterView
+    old: Optional[RosterView] = None
+    monday: Optional[datetime.date] = None
+    times: Mapping[str, Times] = field(default_factory=dict)
+    only_table: bool = False
+    link: Optional[Callable[[int, str, int], str]] = None
+    name: str = ""
+    since: str = "the older roster"
+    holidays: Collection[int] = ()
+    as_of: Optional[datetime.datetime] = None
+    notes: Sequence[str] = ()
+    swapped: Collection[Tuple[int, str, int]] = ()
+    promised: Collection[Tuple[int, str, int]] = ()
+    plan: str = ""
+    sums: Mapping[str, Sums] = field(default_factory=dict)
+    all_sums: Mapping[str, Sums] = field(default_factory=dict)
+
+    def week_name(self, week: int) -> str:
+        """The name of a week: its number, and that of the calendar if its dates are known."""
+        name = self.view.weeks[week].name
+        if self.monday is None:
+            return name
+        return f"{name}, calendar week {(self.monday + 7 * week * DAY).isocalendar()[1]}"
+
+    def is_holiday(self, week: int, day: int) -> bool:
+        """Whether a day has numbers of its own."""
+        return len(DAYS) * week + day in self.holidays
+
+    def days(self, week: int) -> Sequence[str]:
+        """The names of a week's days."""
+        return day_names(self.monday, week)
+
+    def is_swapped(self, week: int, nurse: str, day: int) -> bool:
+        """Whether the page shows that a nurse's day is of a swap that was written."""
+        return (week, nurse, day) in self.swapped and not self.only_table
+
+    def is_promised(self, week: int, nurse: str, day: int) -> bool:
+        """Whether a nurse's day is promised to her."""
+        return (week, nurse, day) in self.promised
+
+    def marks(self, week: int, nurse: str, day: int, marks: str) -> str:
+        """Those marks of a nurse's shift that the page shows. One that is promised has a sign for that."""
+        shown_marks = (mark for mark in marks if mark == AWAY or not self.only_table)
+        return "".join(mark for mark in shown_marks if mark != HELD or not self.is_promised(week, nurse, day))
+
+    @property
+    def changed(self) -> str:
+        """The meaning of the sign of a changed day."""
+        return f"changed since {self.since}"
+
+    @property
+    def changes(self) -> List[Change]:
+        """What differs from the older roster."""
+        return changes(self.old, self.view) if self.old else []
+
+
+def table(caption: str, heads: Sequence[Markup], rows: Sequence[Sequence[Markup]], class_: Optional[str] = None) -> Markup:
+    """A table with its caption, the rows of its head and its rows."""
+    head = joined(*(element("tr", row) for row in heads))
+    body = joined(*(Markup(f"{element('tr', *row)}\n") for row in rows))
+    return element("table", element("caption", caption), element("thead", head), element("tbody", body), class_=class_)
+
+
+def column(text: str, class_: Optional[str] = None) -> Markup:
+    """The head of a column."""
+    return element("th", text, scope="col", class_=class_)
+
+
+def first(text: str) -> Markup:
+    """The head of a row."""
+    return element("th", text, scope="row")
+
+
+def weekend_class(day: int) -> Optional[str]:
+    """The class of the cells of Saturday and of Sunday."""
+    return {5: "sat", 6: "sun"}.get(day)
+
+
+def groups_of_weeks(shown_weeks: int, size: int) -> List[range]:
+    """The weeks that stand next to one another, at most so many."""
+    return [range(first, min(first + size, shown_weeks)) for first in range(0, shown_weeks, size)]
+
+
+def day_heads(page: Content, weeks: Sequence[int], corner: str) -> List[Markup]:
+    """The heads of the columns of some weeks: the weeks, if there are several, and their days."""
+    days = []
+    for week in weeks:
+        for day, name in enumerate(page.days(week)):
+            word, _, date = name.partition(" ")
+            sign = [joined(shown(HOLIDAY, class_="mark"), hidden(f", {HOLIDAY_MEANING}"))] if page.is_holiday(week, day) else []
+            days.append(column(joined(word, *sign, *([element("span", f" {date}", class_="date")] if date else [])), weekend_class(day)))
+    row = joined(column(corner), *days)
+    if len(page.view.weeks) == 1:
+        return [row]
+    named = [element("th", page.week_name(week), scope="colgroup", colspan="7") for week in weeks]
+    return [joined(element("td"), *named), row]

@@ -1,0 +1,157 @@
+"""The table of the roster on a page, and the legend of its signs. It means the same without colors and without sight."""
+
+from typing import Dict, Iterator, List, Mapping, Sequence
+
+from ..week.words import OFF, readable
+from .changes import shifts_text
+from .markup import Markup, element, hidden, joined, shown
+from .page_content import HOLIDAY, HOLIDAY_MEANING, Content, column, day_heads, first, groups_of_weeks, table, weekend_class
+from .roster_text import COLORS, cuts
+from .roster_view import MEANINGS, ShownCell
+from .totals import sum_heads, worked
+
+# Weeks next to one another in a table, so that it fits a page.
+WEEKS_OF_ROSTER = 4
+# The most nurses whose rows are high in print, so that a table fits one page.
+MOST_ROOMY = 25
+CHANGED = "\u0394"
+# The reasons for days off that are none to be away: those on which a nurse never works, and promised ones.
+_DAYS_OFF = (OFF, "promised")
+WEEKENDS = "WE"
+# The short heads of sums on a wall, and what they mean.
+SUM_HEADS = {"shifts": "\u03a3", "hours": "h", "nights": "N", "weekends": WEEKENDS, "wishes granted": "W"}
+MEANINGS_OF_SUMS = {
+    "shifts": "shifts in the period",
+    "hours": "hours",
+    "nights": "nights",
+    "weekends": "weekends with work",
+    "wishes granted": "wishes granted, of all",
+}
+SWAPPED, SWAPPED_MEANING = "\u21c4", "a swap that was written"
+PROMISED, PROMISED_MEANING = "\u2713", "promised: swaps and later plans keep it"
+
+
+def _small(names: Dict[str, str]) -> Dict[str, str]:
+    """Short names of skills in small letters, so that none looks like a shift type, if they still differ."""
+    small = {name: short.lower() for name, short in names.items()}
+    return small if len(set(small.values())) == len(names) else names
+
+
+class RosterTable:
+    """The table of the roster."""
+
+    def __init__(self, page: Content) -> None:
+        self.page, self.view = page, page.view
+        self.single = len(self.view.weeks) == 1
+        self.short, self.skills = cuts(self.view.shifts, 1), _small(cuts(self.view.skills, 1))
+        self.changed = {(change.week, change.nurse, change.day): change for change in page.changes}
+
+    def tables(self) -> Iterator[Markup]:
+        """A table for each four weeks. On a wall the last one has the sums of each nurse in the period beside it, or, if they are not
+        known, her shifts of each type and her weekends in these weeks."""
+        groups = groups_of_weeks(len(self.view.weeks), WEEKS_OF_ROSTER)
+        counts = self._counts() if self.page.only_table else {}
+        for weeks in groups:
+            beside = counts if weeks == groups[-1] else {}
+            rows = [
+                [
+                    self._name(nurse, weeks[0]),
+                    *(self._cell(week, nurse, day) for week in weeks for day in range(7)),
+                    *(element("td", number, class_="sum") for number in beside.get(nurse, ())),
+                ]
+                for nurse in self.view.nurses
+            ]
+            *above, days = day_heads(self.page, weeks, "nurse")
+            if beside:
+                text = "period" if self.page.sums else self.view.weeks_text
+                summed = element("th", text, scope="colgroup", colspan=str(len(self._sums())))
+                above = [joined(head, summed) for head in above]
+                days = joined(days, *(column(name, "sum") for name in self._sums()))
+            room = " roomy" if self.page.only_table and len(groups) == 1 and len(rows) <= MOST_ROOMY else ""
+            yield table("Shifts of each nurse", [*above, days], rows, ("roster" if self.single else "roster many") + room)
+
+    def _sums(self) -> List[str]:
+        """The heads of the columns with sums: short ones of those of the period, or names of shift types, as in the cells, and that of
+        weekends."""
+        if self.page.sums:
+            return [SUM_HEADS[head] for head in sum_heads(bool(self.page.times))]
+        return [*(readable(shift) if self.single else self.short[shift] for shift in self.view.shifts), WEEKENDS]
+
+    def _counts(self) -> Mapping[str, Sequence[str]]:
+        """The sums of each nurse."""
+        if self.page.sums:
+            return {nurse: sums.texts(bool(self.page.times)) for nurse, sums in self.page.sums.items()}
+        return {nurse: list(map(str, numbers)) for nurse, numbers in worked(self.view).items()}
+
+    def _name(self, nurse: str, week: int) -> Markup:
+        """The head of a nurse's row. By keyboard one goes from name to name, and not from cell to cell."""
+        if not self.page.link:
+            return first(readable(nurse))
+        return element("th", element("a", readable(nurse), href=self.page.link(week, nurse, 0)), scope="row")
+
+    def _cell(self, week: int, nurse: str, day: int) -> Markup:
+        cells = self.view.cells(week, nurse, day)
+        change = self.changed.get((week, nurse, day))
+        parts = [self._shift(cell, self.page.marks(week, nurse, day, cell.marks)) for cell in cells]
+        if not cells and self.view.is_away(week, nurse, day):
+            parts.append(element("span", self._why(week, nurse, day), class_="away"))
+        elif not cells and change:
+            parts.append(element("span", OFF, class_="away"))
+        if change:
+            before = shifts_text(change.before) if self.page.only_table else change.before_text
+            older = f" {self.page.changed}, instead of {readable(before)}"
+            parts.append(joined(shown(CHANGED, class_="mark"), hidden(older)))
+        for sign, meaning, is_so in (
+            (SWAPPED, SWAPPED_MEANING, self.page.is_swapped(week, nurse, day)),
+            (PROMISED, PROMISED_MEANING, self.page.is_promised(week, nurse, day)),
+        ):
+            if is_so:
+                parts.append(joined(shown(sign, class_="mark"), hidden(f", {meaning}")))
+        number = self.view.shifts.index(cells[0].shift) % len(COLORS) if cells else None
+        kinds = [weekend_class(day), f"s{number}" if cells else None, "changed" if change else None]
+        if self.page.link:
+            named = hidden(f"{readable(nurse)}, {self.page.days(week)[day]}: ")
+            parts = [element("a", named, *(parts or [shown("\u00b7")]), href=self.page.link(week, nurse, day), tabindex="-1")]
+        return element("td", *parts, class_=" ".join(kind for kind in kinds if kind) or None)
+
+    def _why(self, week: int, nurse: str, day: int) -> str:
+        """Why a nurse is away on a day. On a wall nobody reads why, and a day off is one for whatever reason."""
+        why = self.view.reason(week, nurse, day)
+        if self.page.only_table:
+            return "" if why in _DAYS_OFF else "away"
+        return "off" if why in _DAYS_OFF else why
+
+    def _shift(self, cell: ShownCell, marks: str) -> Markup:
+        """A shift, and its skill, with these marks."""
+        shift, skill = readable(cell.shift), readable(cell.skill)
+        signs = [joined(shown(mark, class_="mark"), hidden(f", {MEANINGS[mark]}")) for mark in marks]
+        if self.single:
+            return joined(element("b", shift), " ", element("small", skill), *signs)
+        short = element("b", self.short[cell.shift])
+        if len(self.skills) > 1:
+            short = joined(short, element("small", self.skills[cell.skill]))
+        return joined(shown(short), hidden(f"{shift} {skill}"), *signs)
+
+    def legend(self) -> List[str]:
+        """The meaning of short names, the times of shift types, and the marks."""
+        lines = []
+        for shift in self.view.shifts:
+            short = "" if self.single or self.short[shift] == shift else f"{self.short[shift]} = "
+            times = f", {self.page.times[shift]}" if shift in self.page.times else ""
+            if short or times:
+                lines.append(f"{short}{readable(shift)}{times}")
+        if not self.single and len(self.skills) > 1:
+            lines += [f"{short} = {readable(skill)}" for skill, short in self.skills.items() if short != skill]
+        rows = [(number, row, week.marks(row)) for number, week in enumerate(self.view.weeks) for row in week.cells]
+        marks = {mark for week, row, some in rows for mark in self.page.marks(week, row.nurse, row.day, some)}
+        meanings = {**MEANINGS, CHANGED: self.page.changed}
+        lines += [f"{mark} = {meaning}" for mark, meaning in meanings.items() if mark in marks or mark == CHANGED and self.changed]
+        if any(self.page.is_swapped(*place) for place in self.page.swapped):
+            lines.append(f"{SWAPPED} = {SWAPPED_MEANING}")
+        if self.page.promised:
+            lines.append(f"{PROMISED} = {PROMISED_MEANING}")
+        if self.page.holidays:
+            lines.append(f"{HOLIDAY} = {HOLIDAY_MEANING}")
+        if self.page.only_table and self.page.sums:
+            return lines + [f"{SUM_HEADS[head]} = {MEANINGS_OF_SUMS[head]}" for head in sum_heads(bool(self.page.times))]
+        return lines + ([f"{WEEKENDS} = weekends with work"] if self.page.only_table else [])
