@@ -17,9 +17,10 @@ from ..plans.local_server import LOCAL, LocalServer
 from ..plans.outcome import Event, Outcome
 from ..plans.render import lines
 from ..plans.state import DayWord, lost_shifts
-from ..plans.store import Means, WardFolder
+from ..plans.store import Means
 from ..plans.verbs import Verbs
 from ..plans.ward import Ward
+from ..plans.ward_folder import WardFolder
 from ..plans.ward_sheet import week_rows, with_written
 from ..programs.interrupts import interrupts
 from ..programs.program import find_program

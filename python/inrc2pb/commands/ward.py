@@ -12,7 +12,7 @@ from ..judging.demand import demand_warnings, supply_warnings
 from ..judging.leave import Counted, counted, credit_line, credited
 from ..judging.limits import with_given
 from ..judging.odd_values import Reach, Warned, history_warnings, reach_of, scenario_warnings, week_warnings
-from ..plans.store import has_spreadsheet
+from ..plans.ward_folder import has_spreadsheet
 from ..sheets.plan_days import Days, plan_warnings, read_days, week_of_row_warnings
 from ..sheets.plan_sheets import AWAY, WeekSheet, check_held, held_warnings, read_needs, read_weeks
 from ..sheets.sheet_facts import absence_reasons, claims_of, look_warnings, with_part_contracts

@@ -6,7 +6,8 @@ from pathlib import Path
 from typing import Callable, Generic, Hashable, Iterable, Optional, Sequence, Tuple, TypeVar
 
 from .state import DayWord
-from .store import Reader, tables_of
+from .store import Reader
+from .ward_folder import tables_of
 from .ward import Ward
 
 _Value = TypeVar("_Value")

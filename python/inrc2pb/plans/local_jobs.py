@@ -10,8 +10,9 @@ from ..week.faults import FileFault, FileFaults, Misuse, ProgramFault, fault_lin
 from . import render
 from .kept import KeptSheet
 from .outcome import Event, Outcome, Planned, Undone, WeekOver
-from .store import Means, Reader, WardFolder
+from .store import Means, Reader
 from .verbs import Verbs
+from .ward_folder import WardFolder
 from .words import PeriodOver
 
 Fields = Mapping[str, str]

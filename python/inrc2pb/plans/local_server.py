@@ -22,8 +22,8 @@ from .local_jobs import Busy, Changed, Fields, Jobs, Said, fault_lines
 from .local_page import Roster, Shown, calendars_markup, page_markup, roster_of
 from .outcome import DaySet, Swapped
 from .pages import CALENDARS, own_calendars, roster_content, ward_name
-from .store import tables_of
 from .ward import WardPlan
+from .ward_folder import tables_of
 from .words import PeriodOver
 
 # The most bytes of a form and of its address, its most fields, and the seconds that a browser has for a request.

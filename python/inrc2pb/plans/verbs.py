@@ -27,9 +27,10 @@ from .render import warning_lines
 from .search_sentences import FOR_REASON, WITHOUT_AGREED, absence_lines, search_lines
 from .searching import Found, search_plan, why_no_plan
 from .state import BACK, State, read_state
-from .store import PAGE, Means, PlanStore, WardFolder, fitted, known_record, penalties
+from .store import PAGE, Means, PlanStore, fitted, known_record, penalties
 from .swaps import Swap, Swaps
 from .ward import WardPlan, first_plan, for_leavers, limits_of
+from .ward_folder import WardFolder
 
 # The seconds of a search, for each week if it is a whole plan.
 WEEK_SECONDS, CHANGE_SECONDS = 20.0, 30.0

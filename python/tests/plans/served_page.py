@@ -12,7 +12,7 @@ from ward import ENOUGH
 from inrc2pb.commands.plan import read_sheet
 from inrc2pb.plans.local_jobs import Jobs
 from inrc2pb.plans.local_server import LocalServer
-from inrc2pb.plans.store import WardFolder
+from inrc2pb.plans.ward_folder import WardFolder
 from inrc2pb.programs.interrupts import interrupts
 
 

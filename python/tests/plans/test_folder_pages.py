@@ -19,8 +19,9 @@ from inrc2pb.commands.plan import read_sheet
 from inrc2pb.plans import pages
 from inrc2pb.plans.outcome import Event, Status
 from inrc2pb.plans.render import lines
-from inrc2pb.plans.store import Means, PlanStore, WardFolder
+from inrc2pb.plans.store import Means, PlanStore
 from inrc2pb.plans.verbs import Verbs
+from inrc2pb.plans.ward_folder import WardFolder
 from inrc2pb.programs.progress import Progress
 from inrc2pb.shown.calendars import Issue, calendar
 

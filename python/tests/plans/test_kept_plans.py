@@ -1,7 +1,6 @@
 """Tests of what verbs keep and say: agreed swaps, lost wishes, nurses to call, and a week that was not worked as planned."""
 
 import datetime
-import errno
 import unittest
 from dataclasses import replace
 from test_plans import MONDAY, FolderTest
@@ -12,7 +11,7 @@ from xml.etree import ElementTree
 from inrc2pb.commands.plan import read_sheet
 from inrc2pb.judging.limits import limits_way_out
 from inrc2pb.judging.rules import Charge
-from inrc2pb.plans import pages, store
+from inrc2pb.plans import pages
 from inrc2pb.plans.changes import days_off_beside_absences, shift_changes, with_few_changes, without_needless_changes
 from inrc2pb.plans.facts import unkept
 from inrc2pb.plans.outcome import Asked, Planned
@@ -394,37 +393,6 @@ class Weeks(KeptTest):
         self.does("undo")
         status, _, said = run("plan", self.ward, "over", "Grace", "Thu", "Day/Charge")
         self.assertEqual((status, said), (1, "inrc2pb-plan: 'Charge' is no skill of hers: write one of Nurse\n"))
-
-
-class Disks(KeptTest):
-    """A folder that cannot be written, and a disk that becomes full."""
-
-    def assert_unchanged(self, before):
-        self.assertEqual(self.texts(), before)
-        self.assertEqual([path.name for path in (self.ward / "plans").iterdir() if path.name[0] == "."], [])
-
-    def test_a_full_disk(self):
-        before = self.texts()
-        with mock.patch.object(store, "write_text", side_effect=OSError(errno.ENOSPC, "No space left on device")):
-            status, printed, said = run("plan", self.ward, "over")
-        self.assertEqual((status, printed, said.count("\n")), (3, "", 1), said)
-        self.assertRegex(said, "plans/0002-.*-over: No space left on device: the disk is full: free some space")
-        self.assert_unchanged(before)
-
-    def test_a_disk_that_is_full_after_the_plan(self):
-        with mock.patch.object(pages, "write_own_text", side_effect=OSError(errno.ENOSPC, "No space left on device")):
-            status, printed, _ = run("plan", self.ward, "over")
-        self.assertEqual(status, 3)
-        self.assertIn("the plan holds, but its pages are not written: ", printed)
-        self.assertTrue((self.last() / "plan.json").exists())
-
-    def test_a_folder_that_may_not_be_written(self):
-        before = self.texts()
-        with mock.patch.object(store.tempfile, "mkdtemp", side_effect=OSError(errno.EACCES, "Permission denied", str(self.ward))):
-            status, printed, said = run("plan", self.ward, "over")
-        self.assertEqual((status, printed, said.count("\n")), (3, "", 1), said)
-        self.assertIn("Permission denied: you may not read or write it", said)
-        self.assert_unchanged(before)
 
 
 @unittest.skipUnless(HAS_CBC, "cbc is not installed")

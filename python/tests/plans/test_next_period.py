@@ -12,9 +12,10 @@ from ward import run
 from inrc2pb.commands.plan import read_sheet
 from inrc2pb.plans.pages import worked_pages
 from inrc2pb.plans.state import read_state
-from inrc2pb.plans.store import Means, WardFolder, plan_texts
+from inrc2pb.plans.store import Means, plan_texts
 from inrc2pb.plans.verbs import Verbs
 from inrc2pb.plans.ward import continued
+from inrc2pb.plans.ward_folder import WardFolder
 from inrc2pb.programs.progress import Progress
 
 

@@ -12,9 +12,10 @@ from inrc2pb.judging.limits import read_given
 from inrc2pb.plans import pages, render, search_sentences, sentences, swap_sentences, verbs
 from inrc2pb.plans.outcome import Away, Checked, Event, Offers, Published, Status, Swapped, Undone, WeekOver
 from inrc2pb.plans.state import BACK, DayWord
-from inrc2pb.plans.store import Means, WardFolder
+from inrc2pb.plans.store import Means
 from inrc2pb.plans.swaps import Kind, Swap
 from inrc2pb.plans.verbs import Verbs
+from inrc2pb.plans.ward_folder import WardFolder
 from inrc2pb.programs.progress import Progress
 from inrc2pb.week.facts import read_reasons
 from inrc2pb.week.faults import Misuse

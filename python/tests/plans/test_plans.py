@@ -1,15 +1,11 @@
 """Tests of `inrc2pb-plan` and of the plans of a ward's folder, on the example of `new` with two weeks."""
 
-import contextlib
 import csv
 import datetime
-import fcntl
-import os
 import re
 import signal
 import subprocess
 import sys
-import tempfile
 import time
 import unittest
 from dataclasses import replace
@@ -20,9 +16,10 @@ from inrc2pb.commands.plan import read_sheet
 from inrc2pb.plans import verbs
 from inrc2pb.plans.changes import with_few_changes, with_old_skills
 from inrc2pb.plans.local_server import LocalServer
-from inrc2pb.plans.store import WardFolder, plan_texts
+from inrc2pb.plans.store import plan_texts
 from inrc2pb.plans.swaps import Swap, Swaps
 from inrc2pb.plans.ward import first_plan
+from inrc2pb.plans.ward_folder import WardFolder
 from inrc2pb.plans.words import Wording
 from inrc2pb.sheets.ward_template import EXAMPLE
 from inrc2pb.week.dates import OtherPlan, PlanDays
@@ -225,6 +222,12 @@ class FolderTest(HelperTest):
     def texts(self):
         """All files of all plans."""
         return {path: path.read_bytes() for path in (self.ward / "plans").glob("0*/*")}
+
+    def assert_refused(self, says, *words, status=1):
+        """The command says this in one line, and does nothing."""
+        ran = run("plan", *words)
+        self.assertEqual((ran[0], ran[1], ran[2].count("\n")), (status, "", 1), ran)
+        self.assertIn(says, ran[2])
 
 
 @unittest.skipUnless(HAS_CBC, "cbc is not installed")
@@ -439,11 +442,6 @@ class Verbs(FolderTest):
 
 
 class Refused(FolderTest):
-    def assert_refused(self, says, *words, status=1):
-        ran = run("plan", *words)
-        self.assertEqual((ran[0], ran[1], ran[2].count("\n")), (status, "", 1), ran)
-        self.assertIn(says, ran[2])
-
     def test_the_ward_in_sentences(self):
         printed = self.does("check")
         self.assertIn("After Late, the next day no Day.\n", printed)
@@ -605,16 +603,6 @@ class Refused(FolderTest):
         path.unlink()
         self.assert_refused("this folder is no plan: move it away, or type undo to go back to the plan before it", self.ward, "page")
 
-    def test_the_plan_after_number_9999(self):
-        self.write_plan()
-        self.last().rename(self.ward / "plans" / "9999-2026-11-28-1200-plan")
-        for name in ("10000", "10001"):
-            self.write_plan()
-            self.assertEqual([path.name.split("-")[0] for path in WardFolder(self.ward).all_plans()][-1], name)
-            self.assertEqual(WardFolder(self.ward).last(), WardFolder(self.ward).plans / f"{name}-2026-11-28-1200-plan")
-        WardFolder(self.ward).undo()
-        self.assertEqual(WardFolder(self.ward).stamp, "10000-2026-11-28-1200-plan")
-
     def test_times_of_some_shifts_only(self):
         for row, times in zip(self.rows["shifts"], ("times", "7:00-15:30", "", "22:30-25:00")):
             row[4] = times
@@ -628,75 +616,10 @@ class Refused(FolderTest):
         says = f"inrc2pb-plan: write the folder in quotes: inrc2pb-plan '{self.ward}' plan\n"
         self.assertEqual(run("plan", first, last, "plan"), (1, "", says))
 
-    def test_folders_that_are_no_ward(self):
-        empty, missing = self.folder / "empty", self.folder / "missing"
-        empty.mkdir()
-        self.assert_refused(f"{empty} has no spreadsheet: put the ward's .ods or .xlsx file into it", empty, "plan")
-        self.assert_refused(f"{missing} is no folder: give the folder that has the ward's spreadsheet", missing, "plan")
-        for name in ("one.ods", "two.xlsx"):
-            (self.ward / name).touch()
-        self.assert_refused("has several spreadsheets, one.ods, two.xlsx: leave one of them in it", self.ward, "plan")
-        self.assertEqual(list(empty.iterdir()), [])
-
     def test_no_program(self):
         ran = run("plan", self.ward, "plan", environment={"INRC2PB": "/none"})
         self.assertEqual((ran[0], ran[2].count("\n")), (127, 1))
         self.assertFalse((self.ward / "plans").exists())
-
-    def test_a_folder_that_cannot_be_written(self):
-        (self.ward / "plans").write_text("")
-        self.assert_refused("plans", self.ward, "plan", status=3)
-
-    def test_a_second_run_waits(self):
-        (self.ward / "plans").mkdir()
-        with open(self.ward / "plans" / "lock", "w") as lock, tempfile.TemporaryFile("w+") as said:
-            fcntl.flock(lock, fcntl.LOCK_EX)
-            second = self.begun("undo", said)
-            self.assertIsNone(second.poll())
-            fcntl.flock(lock, fcntl.LOCK_UN)
-            self.assertEqual(second.wait(timeout=ENOUGH), 1)
-            said.seek(0)
-            self.assertEqual(
-                said.read().splitlines()[1:], ["the other run has ended", f"inrc2pb-plan: {self.ward}: there is nothing to undo"]
-            )
-
-    def begun(self, verb, said):
-        """A run of this verb, as soon as it waits for another one."""
-        begun = subprocess.Popen([sys.executable, str(HELPERS / "inrc2pb-plan"), str(self.ward), verb], stderr=said, env=dict(os.environ))
-        self.addCleanup(begun.kill)
-        line = f"another run works in {self.ward}: this one waits for its end, and its time begins then; Ctrl-C ends it\n"
-        limit = time.monotonic() + ENOUGH
-        while time.monotonic() < limit and os.fstat(said.fileno()).st_size < len(line.encode()):
-            time.sleep(0.05)
-        said.seek(0)
-        self.assertEqual(said.read(), line)
-        return begun
-
-    def test_a_run_that_waits_can_be_ended(self):
-        (self.ward / "plans").mkdir()
-        with open(self.ward / "plans" / "lock", "w") as lock, tempfile.TemporaryFile("w+") as said:
-            fcntl.flock(lock, fcntl.LOCK_EX)
-            second = self.begun("plan", said)
-            second.send_signal(signal.SIGINT)
-            self.assertEqual(second.wait(timeout=ENOUGH), 130)
-            said.seek(0)
-            self.assertEqual(said.read().splitlines()[1], "nothing was written")
-
-    @unittest.skipUnless(HAS_CBC, "cbc is not installed")
-    def test_the_time_of_a_search_begins_after_the_wait(self):
-        real, locked, waited = time.monotonic, WardFolder.locked, [0.0]
-
-        @contextlib.contextmanager
-        def locked_after_a_day(folder, *words):
-            with locked(folder, *words):
-                waited[0] = 86_400.0
-                yield
-
-        with mock.patch.object(time, "monotonic", lambda: real() + waited[0]), mock.patch.object(WardFolder, "locked", locked_after_a_day):
-            status, printed, said = self.runs("plan")
-        self.assertEqual(status, 0, printed + said)
-        # The first line of the search has the seconds since its begin.
-        self.assertLess(float(re.search(r"([0-9.]+) s  [0-9]+ points", said)[1]), 86_400)
 
 
 if __name__ == "__main__":

@@ -19,10 +19,11 @@ from inrc2pb.plans.outcome import Asked, Event, Keep, Pages, Status
 from inrc2pb.plans.render import lines
 from inrc2pb.plans.searching import Found, kept_agreed
 from inrc2pb.plans.state import SetDay, read_record, read_state
-from inrc2pb.plans.store import Means, PlanStore, WardFolder
+from inrc2pb.plans.store import Means, PlanStore
 from inrc2pb.plans.swaps import Kind, Swap, Swaps
 from inrc2pb.plans.verbs import Verbs
 from inrc2pb.plans.ward import continued
+from inrc2pb.plans.ward_folder import WardFolder
 from inrc2pb.programs.progress import Progress
 from inrc2pb.shown.page import page_text
 from inrc2pb.week.faults import Misuse

@@ -12,7 +12,8 @@ from inrc2pb.commands.plan import read_sheet
 from inrc2pb.plans import verbs
 from inrc2pb.plans.outcome import Event, Keep
 from inrc2pb.plans.searching import Found
-from inrc2pb.plans.store import Means, WardFolder, plan_texts
+from inrc2pb.plans.store import Means, plan_texts
+from inrc2pb.plans.ward_folder import WardFolder
 from inrc2pb.programs.program import BROKEN_RULE, NO_ROSTER
 from inrc2pb.programs.progress import Progress
 from inrc2pb.search.why_none import Owner, ShortPlace, Shortage

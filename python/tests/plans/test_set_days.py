@@ -10,9 +10,10 @@ from inrc2pb.commands.plan import read_sheet
 from inrc2pb.plans.outcome import DaySet, Event, Status
 from inrc2pb.plans.render import lines
 from inrc2pb.plans.state import SetDay, read_record, read_state
-from inrc2pb.plans.store import Means, WardFolder
+from inrc2pb.plans.store import Means
 from inrc2pb.plans.swaps import Kind, Swap, Swaps
 from inrc2pb.plans.verbs import Verbs
+from inrc2pb.plans.ward_folder import WardFolder
 from inrc2pb.programs.progress import Progress
 from inrc2pb.week.faults import FileFault, Misuse
 from inrc2pb.week.records import Cell, NurseDay

@@ -1,0 +1,168 @@
+"""The folder of a ward: its spreadsheet, and a folder for each plan, which is written as a whole and never changed by a verb. One run
+writes to it at a time."""
+
+import contextlib
+import datetime
+import fcntl
+import os
+import re
+import shutil
+import tempfile
+import threading
+from pathlib import Path
+from typing import Callable, Dict, Iterator, List, Optional, TextIO, Tuple
+
+from ..programs.interrupts import interrupts
+from ..week.faults import Misuse
+from ..week.own_files import check_inside, check_no_link
+from ..week.words import quoted
+from ..week.writing import write_text
+
+PLANS, UNDONE, LOCK = "plans", "undone", "lock"
+_SPREADSHEETS, _CSV = (".ods", ".xlsx"), (".csv", ".tsv")
+_NAME = re.compile("([0-9]{4,})-.+")
+# Seconds between two looks whether the run that works in the folder has ended.
+_PAUSE = 0.2
+
+
+def has_spreadsheet(top: Path) -> bool:
+    """Whether the folder has a spreadsheet, or sheets as .csv files."""
+    return any(path.suffix.lower() in (*_SPREADSHEETS, *_CSV) for path in top.iterdir() if path.is_file())
+
+
+def tables_of(spreadsheet: Path) -> List[Path]:
+    """The files of a spreadsheet: itself, or the .csv files of a folder."""
+    if not spreadsheet.is_dir():
+        return [spreadsheet]
+    return [path for path in sorted(spreadsheet.iterdir()) if path.suffix.lower() in _CSV and path.is_file()]
+
+
+class WardFolder:
+    """A folder with a spreadsheet. The plans are the folders `plans/NNNN-TIME-VERB`; the last of them holds."""
+
+    def __init__(self, top: Path) -> None:
+        if not top.is_dir():
+            raise Misuse(f"{top} is no folder: give the folder that has the ward's spreadsheet")
+        self.top, self.plans = top, top / PLANS
+
+    def spreadsheet(self) -> Path:
+        """The only spreadsheet of the folder; the folder itself if its sheets are .csv files."""
+        files = [path for path in sorted(self.top.iterdir()) if path.is_file() and not path.name.startswith((".", "~"))]
+        spreadsheets = [path for path in files if path.suffix.lower() in _SPREADSHEETS]
+        if len(spreadsheets) > 1:
+            raise Misuse(f"{self.top} has several spreadsheets, {quoted(path.name for path in spreadsheets)}: leave one of them in it")
+        tables = spreadsheets or [path for path in files if path.suffix.lower() in _CSV]
+        for path in tables:
+            check_inside(path, self.top)
+        if tables:
+            return spreadsheets[0] if spreadsheets else self.top
+        raise Misuse(f"{self.top} has no spreadsheet: put the ward's .ods or .xlsx file into it, or give a new folder and `new`")
+
+    def all_plans(self) -> List[Path]:
+        """The folders of all plans, in the order in which they were made."""
+        return sorted(_own_folders(self.plans), key=_place)
+
+    def last(self) -> Optional[Path]:
+        """The folder of the plan that holds, if there is one."""
+        return next(reversed(self.all_plans()), None)
+
+    @property
+    def stamp(self) -> str:
+        """The name of the plan that holds, or `none`: another one since a page was shown has another stamp."""
+        last = self.last()
+        return last.name if last else "none"
+
+    def add(self, verb: str, texts: Dict[str, str], now: datetime.datetime) -> Path:
+        """Writes a plan with these files: its folder is there as a whole or not at all."""
+        number = 1 + max((_place(path)[0] for path in [*self.all_plans(), *self.undone()]), default=0)
+        target = self.plans / f"{number:04}-{now:%Y-%m-%d-%H%M}-{verb}"
+        new = Path(tempfile.mkdtemp(prefix=".new-", dir=self.plans))
+        try:
+            for name, text in texts.items():
+                write_text(new / name, text)
+            os.chmod(new, 0o777 & ~_umask_of(self.plans))
+            os.rename(new, target)
+        except BaseException as fault:
+            shutil.rmtree(new, ignore_errors=True)
+            if isinstance(fault, OSError):
+                fault.filename = str(target)
+            raise
+        return target
+
+    def undone(self) -> List[Path]:
+        """The folders of the plans that were undone."""
+        return _own_folders(self.plans / UNDONE)
+
+    def check_undo(self) -> Path:
+        """The folder of the plan that undo takes away. Raises Misuse if there is none."""
+        last = self.last()
+        if last is None:
+            raise Misuse(f"{self.top}: there is nothing to undo")
+        return last
+
+    def undo(self) -> Path:
+        """Takes the last plan away, to the folder `undone`. Returns its new path."""
+        last = self.check_undo()
+        check_no_link(self.plans / UNDONE)
+        (self.plans / UNDONE).mkdir(exist_ok=True)
+        return last.rename(self.plans / UNDONE / last.name)
+
+    @contextlib.contextmanager
+    def locked(self, say: Callable[[str], None], end: str = "") -> Iterator[None]:
+        """Within the block no other run writes to the folder. If one does now, `say` is called with that, and with how a user ends the
+        wait; who does so gets a KeyboardInterrupt."""
+        with self._lock_file() as file:
+            self._take(file, say, end)
+            yield
+
+    def _lock_file(self) -> TextIO:
+        """The file that is locked, open. A fault names the folder. Raises Misuse if it is a link, or if this is no ward's folder."""
+        check_no_link(self.plans)
+        check_no_link(self.plans / LOCK)
+        if not self.plans.is_dir():
+            # The folder of a network share that is gone is empty.
+            self.spreadsheet()
+        try:
+            self.plans.mkdir(exist_ok=True)
+            return open(os.open(self.plans / LOCK, os.O_RDWR | os.O_CREAT | os.O_NOFOLLOW, 0o666), "r+", encoding="utf-8")
+        except OSError as fault:
+            fault.filename = str(self.top if isinstance(fault, PermissionError) else self.plans)
+            raise
+
+    def _take(self, file: TextIO, say: Callable[[str], None], end: str) -> None:
+        if _is_taken(file):
+            return
+        say(f"another run works in {self.top}: this one waits for its end, and its time begins then{end}")
+        stopped = threading.Event()
+        with interrupts() as signals, signals.calling(stopped.set):
+            while not stopped.wait(_PAUSE):
+                if _is_taken(file) and not signals.caught:
+                    say("the other run has ended")
+                    return
+        raise KeyboardInterrupt
+
+
+def _own_folders(top: Path) -> List[Path]:
+    """The folders of plans in a folder, which are no links, if it is none either."""
+    if top.is_symlink() or not top.is_dir():
+        return []
+    return [path for path in top.iterdir() if _NAME.fullmatch(path.name) and path.is_dir() and not path.is_symlink()]
+
+
+def _place(plan: Path) -> Tuple[int, str]:
+    """The number and the name of a plan's folder: the plan after number 9999 has five digits."""
+    return int(plan.name.partition("-")[0]), plan.name
+
+
+def _is_taken(file: TextIO) -> bool:
+    """Locks the file, if no other run has locked it. Returns whether it is locked."""
+    try:
+        fcntl.flock(file, fcntl.LOCK_EX | fcntl.LOCK_NB)
+        return True
+    except BlockingIOError:
+        return False
+
+
+def _umask_of(folder: Path) -> int:
+    """The permissions that the folder does not give."""
+    return 0o777 & ~folder.stat().st_mode
