@@ -174,9 +174,8 @@ class Table:
 
     def _sheet(self) -> Rows:
         if self.name not in self.book.sheets:
-            raise FileFault(
-                self.book.path, 0, f"there is no sheet '{self.name}': it has {quoted(self.book.sheets)}; --template writes an example"
-            )
+            cure = "add it; the verb new writes an example of all sheets into a new folder"
+            raise FileFault(self.book.path, 0, f"there is no sheet '{self.name}' beside {quoted(self.book.sheets)}: {cure}")
         return self.book.sheets[self.name]
 
     def _find_head(self, rows: Rows) -> int:

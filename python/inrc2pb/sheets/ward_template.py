@@ -107,9 +107,9 @@ def write_template(path: Path, monday: datetime.date) -> None:
     """Writes the example, whose plan begins on this Monday. Raises Misuse if there is a file of this name, since a ward may have changed
     it."""
     if path.suffix.lower() != ".ods":
-        raise Misuse(f"--template {path}: the example is an .ods file, which Excel opens too: end its name with .ods")
+        raise Misuse(f"{path}: the example is an .ods file, which Excel opens too: end its name with .ods")
     if path.exists() or path.is_symlink():
-        raise Misuse(f"--template {path}: there is such a file, perhaps with your ward: give another name")
+        raise Misuse(f"{path}: there is such a file, perhaps with your ward: give another name")
     check_target(path)
     manifest = f'<manifest:file-entry manifest:full-path="/" manifest:media-type="{_TYPE}"/>'
     manifest += '<manifest:file-entry manifest:full-path="content.xml" manifest:media-type="text/xml"/>'

@@ -268,9 +268,8 @@ class Contents(unittest.TestCase):
         sheets = {name: rows for name, rows in SHEETS.items() if name != "needs"}
         with self.assertRaises(FileFault) as caught:
             texts(sheets)
-        self.assertEqual(
-            caught.exception.message, "there is no sheet 'needs': it has shifts, contracts, nurses, plan; --template writes an example"
-        )
+        cure = "add it; the verb new writes an example of all sheets into a new folder"
+        self.assertEqual(caught.exception.message, f"there is no sheet 'needs' beside shifts, contracts, nurses, plan: {cure}")
         for sheet, column, name in (("nurses", 2, "skills"), ("needs", 9, "sun")):
             with self.assertRaises(FileFault) as caught:
                 texts(changed(sheet, 1, column, ""))
