@@ -3,12 +3,13 @@
 Two or three nurses exchange days in a circle: on these days each has the shifts of the next one, so each place keeps its number of nurses.
 What they are charged together stays the same, and nothing that holds is broken. Most exchanges that are tried are no good, so days are the
 bits of numbers here: a few steps tell how many nights and weekends an exchange leaves to each.
+
+A search for exchanges ends after so much work, and looks at no clock, so a busy machine makes the same plan as a quiet one.
 """
 
 import itertools
 import random
-import time
-from typing import Callable, Dict, Iterable, Iterator, List, Mapping, NamedTuple, Optional, Set, Tuple
+from typing import Dict, Iterable, Iterator, List, Mapping, NamedTuple, Optional, Set, Tuple
 
 from ..judging.absences import is_broken_by
 from ..judging.rules import SATURDAY
@@ -19,8 +20,12 @@ from .fairness import Share, contracts_of, evenness, shares_before
 from .swaps import NurseWeeks, by_nurse
 from .ward import WardPlan
 
-# How many ways are gone at most, how many exchanges are tried on one, and the points that a plan may cost more on the way.
-_MOST_WAYS, _TRIES, _SLACK = 20_000, 400, (0, 0, 30, 60, 90)
+# Work is counted in steps of about the same time: one for an exchange that is tried, and more to see whether nurses may have its shifts, to
+# make its rows, and for a new row to see what it costs and what it breaks. A quiet machine makes about so many steps in a second.
+STEPS_A_SECOND = 100_000
+_TRIED, _FITTED, _MADE, _CHARGED, _JUDGED = 1, 4, 5, 4, 20
+# How many exchanges are tried on a way to more even ones, and the points that a plan may cost more on it.
+_TRIES, _SLACK = 400, (0, 0, 30, 60, 90)
 # How many days in a row are exchanged, and how many nurses and rows of days take part: each is as likely as it is often here.
 _LENGTHS = (1, 1, 2, 2, 2, 3, 3, 4, 4, 5, 6, 7, 10, 14)
 _NURSES, _ROWS = (2, 2, 3), (1, 1, 2)
@@ -41,25 +46,40 @@ class _Exchange(NamedTuple):
         return zip(self.nurses, (*self.nurses[1:], self.nurses[0]))
 
 
-def more_even(plan: WardPlan, first: int, seconds: float, clock: Callable[[], float] = time.monotonic) -> WardPlan:
-    """The plan after exchanges of days from the first one on, for so many seconds at most, which make nights or weekends more even, and
+def more_even(plan: WardPlan, first: int, steps: int) -> WardPlan:
+    """The plan after exchanges of days from the first one on, with so many steps of work, which make nights or weekends more even, and
     neither less. Exchanges that leave both as they are come between, since they make room for others, and some that cost points which later
     ones save again."""
-    end, exchanges = clock() + seconds, _Exchanges(plan, first)
-    for _ in range(_MOST_WAYS):
-        if clock() >= end or exchanges.is_even:
-            break
-        if not exchanges.improved(lambda: clock() < end):
+    work = _Work(steps)
+    exchanges = _Exchanges(plan, first, work)
+    while not (work.is_done or exchanges.is_even):
+        if not exchanges.improved():
             exchanges.wander()
     return plan.with_cells(cell for row in exchanges.rows.values() for cell in row.values())
+
+
+class _Work:
+    """The steps of work that are left."""
+
+    def __init__(self, steps: int) -> None:
+        self._left = steps
+
+    def takes(self, steps: int) -> None:
+        """So many steps are done."""
+        self._left -= steps
+
+    @property
+    def is_done(self) -> bool:
+        """Whether no steps are left."""
+        return self._left <= 0
 
 
 class _RowCosts:
     """What a nurse is charged for a row of choices: 0 for a day off, and one more than the index of its shift type otherwise. Limits that
     hold and days away do not count here."""
 
-    def __init__(self, plan: WardPlan) -> None:
-        types, self._past = list(plan.scenario.shift_types.values()), plan.past.nurses
+    def __init__(self, plan: WardPlan, work: _Work) -> None:
+        types, self._past, self._work = list(plan.scenario.shift_types.values()), plan.past.nurses, work
         self._contracts = {name: plan.scenario.contract_of(name) for name in plan.scenario.nurses}
         number = plan.days.total - plan.first
         self._runs = {name: Runs(types, contract, number) for name, contract in self._contracts.items()}
@@ -75,6 +95,7 @@ class _RowCosts:
         """The charges; NEVER if a shift type may not follow another one."""
         known = self._known.get((nurse, row))
         if known is None:
+            self._work.takes(_CHARGED)
             known = self._known[nurse, row] = self._cost(nurse, row)
         return known
 
@@ -96,12 +117,14 @@ class _RowCosts:
 class _Exchanges:
     """The rows of nurses, and exchanges in them, in a random order that is always the same."""
 
-    def __init__(self, plan: WardPlan, first: int) -> None:
-        self._plan, self._alone, self._costs, self._random = plan, NurseWeeks(plan), _RowCosts(plan), random.Random(1)
+    def __init__(self, plan: WardPlan, first: int, work: _Work) -> None:
+        self._plan, self._alone, self._work, self._random = plan, NurseWeeks(plan), work, random.Random(1)
+        self._costs = _RowCosts(plan, work)
         self.rows: Dict[str, _Row] = dict(by_nurse(plan, plan.works))
         self._before = shares_before(plan, plan.first)
         self._firm = {*plan.held, *plan.state.kept}
         self._days = range(max(first, plan.first), plan.days.total)
+        self._spans = [_span(begin, end) for begin in self._days for end in range(begin + 1, self._days.stop + 1)]
         self._groups = [group for group in contracts_of(plan).values() if len(group) > 1]
         self._group = {nurse: number for number, group in enumerate(contracts_of(plan).values()) for nurse in group}
         self._saturdays = _bits(range(SATURDAY, plan.days.total, WEEK_DAYS))
@@ -135,14 +158,14 @@ class _Exchanges:
             self._is_even = not self._groups or not self._days or all(spread.most <= spread.fewest + 1 for spread in spreads)
         return self._is_even
 
-    def improved(self, goes_on: Callable[[], bool]) -> bool:
+    def improved(self) -> bool:
         """Makes the first exchange of two nurses of a contract, of days in a row, that is more even and costs nothing. Returns whether
         there is one; a pair is tried again only after one of their rows has changed."""
-        spans = [_bits(range(begin, end)) for begin in self._days for end in range(begin + 1, self._days.stop + 1)]
         pairs = (pair for group in self._groups for pair in itertools.combinations(group, 2))
         for pair in (pair for pair in pairs if pair not in self._searched):
-            for exchange in (_Exchange(pair, days) for days in spans):
-                if not goes_on():
+            for exchange in (_Exchange(pair, days) for days in self._spans):
+                self._work.takes(_TRIED)
+                if self._work.is_done:
                     return False
                 if self._is_more_even(exchange) and self._fits(exchange) and self._takes(exchange):
                     return True
@@ -161,8 +184,7 @@ class _Exchanges:
         """Tries some exchanges, and makes those that leave nights and weekends no less even. At its end the plan costs what it cost
         before: exchanges that cost points hold if later ones have saved these again."""
         most, above, best = self._random.choice(_SLACK), 0, dict(self.rows)
-        for _ in range(_TRIES):
-            exchange = self._any()
+        for exchange in itertools.islice(self._tried(), _TRIES):
             if not (exchange.days and self._is_as_even(exchange) and self._fits(exchange)):
                 continue
             added, new = self._exchanged(exchange)
@@ -173,6 +195,12 @@ class _Exchanges:
         if above:
             self._take({nurse: row for nurse, row in best.items() if row is not self.rows[nurse]})
 
+    def _tried(self) -> Iterator[_Exchange]:
+        """Exchanges in a random order, until the work is done."""
+        while not self._work.is_done:
+            self._work.takes(_TRIED)
+            yield self._any()
+
     def _any(self) -> _Exchange:
         """An exchange of two nurses of a contract, or of them and one more, on one row of days, or on two."""
         pick, nurses = self._random.choice, self._random.sample(self._random.choice(self._groups), 2)
@@ -181,11 +209,12 @@ class _Exchanges:
         days = 0
         for _ in range(pick(_ROWS)):
             begin = pick(self._days)
-            days |= _bits(range(begin, min(begin + pick(_LENGTHS), self._days.stop)))
+            days |= _span(begin, min(begin + pick(_LENGTHS), self._days.stop))
         return _Exchange(tuple(nurses), days)
 
     def _fits(self, exchange: _Exchange) -> bool:
         """Whether each nurse may have what is given to her, and something changes."""
+        self._work.takes(_FITTED)
         days = [day for day in self._days if exchange.days >> day & 1]
         cells = [(nurse, day, self.rows[giver].get(day)) for nurse, giver in exchange.givers for day in days]
         changes = any(_kind(self.rows[nurse].get(day)) != _kind(cell) for nurse, day, cell in cells)
@@ -232,6 +261,7 @@ class _Exchanges:
 
     def _exchanged(self, exchange: _Exchange) -> Tuple[int, Dict[str, _Row]]:
         """What an exchange costs, and the rows after it."""
+        self._work.takes(_MADE)
         mixed = {nurse: self._mixed(self._choices[nurse], self._choices[giver], exchange.days) for nurse, giver in exchange.givers}
         added = sum(self._costs.of(nurse, row) - self._costs.of(nurse, self._choices[nurse]) for nurse, row in mixed.items())
         return added, {nurse: self._row(nurse, giver, exchange.days) for nurse, giver in exchange.givers}
@@ -254,6 +284,7 @@ class _Exchanges:
         """How many faults a row has, and what it has above limits and beside days away."""
         key = nurse, tuple(row[day] for day in sorted(row))
         if key not in self._known:
+            self._work.takes(_JUDGED)
             alone = self._alone
             self._known[key] = len(alone.faults(nurse, row)), alone.excess(nurse, row), alone.excess_beside(nurse, row)
         return self._known[key]
@@ -262,6 +293,11 @@ class _Exchanges:
 def _bits(days: Iterable[int]) -> _Bits:
     """These days as bits."""
     return sum(1 << day for day in days)
+
+
+def _span(begin: int, end: int) -> _Bits:
+    """The days from the first one to that before the end as bits."""
+    return (1 << end) - (1 << begin)
 
 
 def _kind(cell: Optional[Cell]) -> Optional[Tuple[str, str]]:

@@ -20,7 +20,7 @@ from ..week.words import OFF
 from . import events
 from .changes import without_needless_changes
 from .facts import newly_exceeded, unkept
-from .exchanges import more_even
+from .exchanges import STEPS_A_SECOND, more_even
 from .outcome import Asked, Away, Checked, DaySet, Event, Keep, Made, NoPlan, Offers, Outcome, Pages, Planned, Published, Status, Swapped
 from .outcome import Undone, WeekOver
 from .render import warning_lines
@@ -34,8 +34,8 @@ from .ward_folder import WardFolder
 
 # The seconds of a search, for each week if it is a whole plan.
 WEEK_SECONDS, CHANGE_SECONDS = 20.0, 30.0
-# How much longer than its seconds a search of a whole plan may take to make nights and weekends more even, and how many seconds at most, or
-# if its user has stopped it.
+# The part of the seconds of a search of a whole plan that a quiet machine needs in addition to make nights and weekends more even, and how
+# many seconds at most, or if the user has stopped the search.
 EVENING_SHARE, MOST_EVENING, STOPPED_EVENING = 0.1, 8.0, 1.0
 
 
@@ -192,7 +192,7 @@ def _searched(store: PlanStore, event: Event, verb: str, old: WardPlan, asked: A
 def _evened(found: Found, asked: Asked) -> WardPlan:
     """The plan with nights and weekends that are shared more evenly, if the program charges as much for it."""
     seconds = STOPPED_EVENING if found.stopped else min(EVENING_SHARE * asked.seconds, MOST_EVENING)
-    even = more_even(found.plan, asked.first, seconds)
+    even = more_even(found.plan, asked.first, round(STEPS_A_SECOND * seconds))
     return even if sum(penalties(even).values()) == sum(penalties(found.plan).values()) else found.plan
 
 

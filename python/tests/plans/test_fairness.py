@@ -1,18 +1,26 @@
 """Tests of nights and weekends that are shared evenly: who has how many, and exchanges that cost nothing."""
 
+import time
 import unittest
 from dataclasses import replace
+from unittest import mock
 
 from test_kept_plans import KeptTest
-from ward import ENOUGH, HAS_CBC
+from ward import HAS_CBC
 
+from inrc2pb.plans import exchanges, verbs
 from inrc2pb.plans.exchanges import more_even
 from inrc2pb.plans.facts import beside_days_away, unkept
 from inrc2pb.plans.fairness import Evenness, Share, Spread, evenness, may_work_nights, may_work_weekends, shares
+from inrc2pb.plans.outcome import Asked
+from inrc2pb.plans.searching import Found
 from inrc2pb.plans.sentences import evenness_lines
 from inrc2pb.plans.state import SetDay
 from inrc2pb.plans.store import penalties
 from inrc2pb.week.records import Cell
+
+# The steps with which the exchanges of these tests end.
+STEPS = 100_000
 
 
 class Shares(KeptTest):
@@ -60,7 +68,7 @@ class Exchanges(KeptTest):
 
     def evened(self, first=0):
         plan = self.read()
-        return plan, more_even(plan, first, ENOUGH)
+        return plan, more_even(plan, first, STEPS)
 
     def test_an_exchange_costs_nothing_and_is_more_even(self):
         plan, even = self.evened()
@@ -89,7 +97,7 @@ class Exchanges(KeptTest):
         self.write()
         plan = self.read()
         plan = plan.with_state(replace(plan.state, set_days=(SetDay("Chen", 5),)))
-        even = more_even(plan, 3, 3.0)
+        even = more_even(plan, 3, STEPS)
         self.assertEqual(
             {one: cell for one, cell in even.works.items() if one.day < 3}, {one: cell for one, cell in plan.works.items() if one.day < 3}
         )
@@ -116,17 +124,39 @@ class Exchanges(KeptTest):
         self.write()
         given = {"Chen": ("Night", "Nurse"), "Dilek": ("Day", "Charge"), "Grace": ("Day", "Tutor")}
         plan = self.read([Cell(nurse, day, *shift) for nurse, shift in given.items() for day in range(4)])
-        even = more_even(plan, 0, 3.0)
+        even = more_even(plan, 0, STEPS)
         self.assertEqual({nurse: shares(even)[nurse].nights for nurse in skills}, {"Chen": 2, "Dilek": 0, "Grace": 2})
         self.assertEqual(sorted(cell[1:] for cell in even.cells), sorted(cell[1:] for cell in plan.cells))
         self.assertEqual(even.view().penalty, plan.view().penalty)
         self.assertTrue(all(cell.skill in plan.scenario.nurses[cell.nurse].skills for cell in even.cells))
 
-    def test_its_time_is_kept(self):
-        ticks = iter(range(10_000))
+    def test_its_work_is_limited(self):
         plan = self.read()
-        self.assertIsNotNone(more_even(plan, 0, 20.0, lambda: float(next(ticks))))
-        self.assertLess(next(ticks), 40)
+        for steps in (1, 20, 1000):
+            with mock.patch.object(exchanges._Exchanges, "_squares", autospec=True, side_effect=exchanges._Exchanges._squares) as tried:
+                self.assertEqual(len(more_even(plan, 0, steps).cells), len(plan.cells))
+            self.assertLessEqual(tried.call_count, steps)
+        self.assertEqual(more_even(plan, 0, 0).works, plan.works)
+
+    def test_more_work_is_never_less_even(self):
+        plan = self.read()
+        before = plan
+        for steps in (100, 1000, 10_000):
+            even = more_even(plan, 0, steps)
+            older, now = (sum(share.nights**2 + share.weekends**2 for share in shares(one).values()) for one in (before, even))
+            self.assertLessEqual(now, older)
+            before = even
+        self.assertNotEqual(before.works, plan.works)
+
+    def test_a_busy_machine_makes_the_same_plan(self):
+        # Each look at a clock says that an hour has passed.
+        plan, asked, hours = self.read(), Asked(0, False, 1.0), iter(range(0, 10**9, 3600))
+        quiet = verbs._evened(Found(plan), asked)
+        clocks = {name: lambda: float(next(hours)) for name in ("monotonic", "perf_counter", "process_time", "thread_time", "time")}
+        with mock.patch.multiple(time, **clocks):
+            busy = more_even(plan, 0, round(exchanges.STEPS_A_SECOND * verbs.EVENING_SHARE))
+        self.assertEqual(busy.cells, quiet.cells)
+        self.assertNotEqual(busy.works, plan.works)
 
     @unittest.skipUnless(HAS_CBC, "cbc is not installed")
     def test_the_verb_says_how_even_it_is(self):

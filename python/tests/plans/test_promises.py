@@ -153,7 +153,7 @@ class LaterPlans(PromiseTest):
 
     def test_exchanges_that_cost_nothing_leave_promises(self):
         plan = self.promising(*(SetDay(cell.nurse, cell.day, "", cell.shift, cell.skill) for cell in self.plan.cells))
-        self.assertEqual(more_even(plan, 0, 2.0).works, plan.works)
+        self.assertEqual(more_even(plan, 0, 20_000).works, plan.works)
 
     def test_a_broken_promise_is_told_once_while_she_is_away_and_else_each_time(self):
         without = [cell for cell in self.plan.cells if (cell.nurse, cell.day) != ("Grace", 4)]
