@@ -24,7 +24,7 @@ from ..week.facts import Claim, facts_text, reasons_text
 from ..week.faults import FileFault, FileFaults, Gathering, Misuse
 from ..week.files import history_text, scenario_text, solution_text, week_text
 from ..week.own_files import is_own_file, own_bytes
-from ..week.records import History, NurseDay, Scenario, Solution, WeekData, week_name
+from ..week.records import History, NurseDay, Scenario, Solution, WeekData
 from ..week.slots import MAX_NUMBER
 from ..week.words import joined, quoted, readable
 from ..week.writing import check_target, replacing_link
@@ -114,12 +114,13 @@ def ward_files(
     datas = [_week(ward.scenario, sheet, claims, number) for number, sheet in enumerate(sheets)]
     odd: Dict[Warned, List[int]] = {}
     for number, (sheet, data) in enumerate(zip(sheets, datas)):
-        texts[f"week-{number}.txt"] = week_text(_with_requests(book, ward.scenario, data, number) if requests else data)
+        week = days.in_plan.week_text(number)
+        texts[f"week-{number}.txt"] = week_text(_with_requests(book, ward.scenario, data, week) if requests else data)
         texts[f"fix-{number}.txt"] = solution_text(Solution(number, name, tuple(held.row for held in sheet.held)))
         past, paid = None if number else history, [as_shifts.of_week(later) for later in range(number, len(sheets))]
         for line in (*week_warnings(ward.scenario, data), *demand_warnings(ward.scenario, past, data, paid)):
             odd.setdefault(line, []).append(number)
-    warnings += [f"sheet needs, week {', '.join(str(number + 1) for number in numbers)}: {line}" for line, numbers in odd.items()]
+    warnings += [f"sheet needs, {days.in_plan.weeks_text(numbers)}: {line}" for line, numbers in odd.items()]
     supply = list(supply_warnings(ward.scenario, history, datas))
     warnings += [f"sheet needs: {line}" for line in supply]
     holidays = frozenset(7 * number + day for number, sheet in enumerate(sheets) if len(sheet.holidays) < 7 for day in sheet.holidays)
@@ -138,12 +139,12 @@ def _week(scenario: Scenario, sheet: WeekSheet, claims: Sequence[Claim], number:
     return with_given(scenario, WeekData(scenario.name, sheet.requirements, tuple(sheet.wishes)), claims, number)
 
 
-def _with_requests(book: Book, scenario: Scenario, data: WeekData, number: int) -> WeekData:
-    """The data of a week with its absences as requests."""
+def _with_requests(book: Book, scenario: Scenario, data: WeekData, week: str) -> WeekData:
+    """The data of the week with this name, with its absences as requests."""
     try:
         return with_requests(scenario, data, ()).data
     except TooMany as fault:
-        raise FileFault(book.path, 0, f"sheet plan, {week_name(number)}: {fault}: {NO_SKILL}") from fault
+        raise FileFault(book.path, 0, f"sheet plan, {week}: {fault}: {NO_SKILL}") from fault
 
 
 def _old_histories(folder: Path, first: str, weeks: int) -> Iterator[str]:

@@ -260,7 +260,8 @@ class WardPlan:
         weeks = []
         for number in self.weeks if shown is None else shown:
             week, reasons, held = self.week(number), self.reasons(number), in_week(self.ward.held, number)
-            weeks.append(WeekView(number, self.state.roster(number), week.data, week, held, reasons=reasons))
+            name = self.days.week_text(number)
+            weeks.append(WeekView(number, self.state.roster(number), week.data, week, held, reasons=reasons, named=name))
         names = (list(self.scenario.nurses), list(self.scenario.shift_types), list(self.scenario.skills))
         return RosterView(self.scenario.name, *names, weeks, credit=dict(self.ward.credit))
 

@@ -5,7 +5,7 @@ from dataclasses import dataclass, field
 from typing import Callable, Collection, List, Mapping, Optional, Sequence, Tuple
 
 from ..week.dates import DAY, Times, day_names
-from ..week.records import DAYS
+from ..week.records import DAYS, week_name
 from .changes import Change, changes
 from .markup import Markup, element, hidden, joined, shown
 from .roster_view import AWAY, HELD, RosterView
@@ -45,7 +45,7 @@ class Content:
 
     def week_name(self, week: int) -> str:
         """The name of a week: its number, and that of the calendar if its dates are known."""
-        name = self.view.weeks[week].name
+        name = week_name(self.view.weeks[week].number)
         if self.monday is None:
             return name
         return f"{name}, calendar week {(self.monday + 7 * week * DAY).isocalendar()[1]}"

@@ -32,7 +32,7 @@ class ShownCell(NamedTuple):
 @dataclass
 class WeekView:
     """One week of a table: its roster, the requests and held rows if they are known, and all files of the week if they are. Its number is
-    that of the history."""
+    that of the history, and `named` its name if that says more, as its calendar week."""
 
     number: int
     cells: Sequence[Cell]
@@ -42,11 +42,12 @@ class WeekView:
     early: bool = False
     # Why nurses are away, as far as it is known.
     reasons: Mapping[Tuple[str, int], str] = field(default_factory=dict)
+    named: str = ""
 
     @property
     def name(self) -> str:
         """The week of the period, from 1, such as `week 1`: the history counts from 0."""
-        return week_name(self.number)
+        return self.named or week_name(self.number)
 
     def marks(self, cell: Cell) -> str:
         """The marks of an assignment."""

@@ -173,6 +173,13 @@ class PlanDays(NamedTuple):
         name = week_name(week)
         return name if self.monday is None else f"{name} (calendar week {self.calendar_week(week)})"
 
+    def weeks_text(self, weeks: Sequence[int]) -> str:
+        """Weeks in a sentence, as `weeks 1 and 3 (calendar weeks 49 and 51)`, or `weeks 1 and 3`."""
+        if len(weeks) == 1:
+            return self.week_text(weeks[0])
+        numbers = f"weeks {joined(str(week + 1) for week in weeks)}"
+        return numbers if self.monday is None else f"{numbers} (calendar weeks {joined(str(self.calendar_week(week)) for week in weeks)})"
+
     def week_number(self, text: str) -> Optional[int]:
         """The week that a text names: `2` is the second one of the plan, and `CW 49`, or `49` in a plan of fewer weeks, a calendar week.
         None if the plan does not have it, or it is none."""

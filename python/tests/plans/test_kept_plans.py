@@ -313,6 +313,14 @@ class Weeks(KeptTest):
         cells = files.read_solution(self.last() / "roster-0.txt").cells
         self.assertIn(Cell("Bruno", 6, "Night", "Nurse"), cells)
 
+    def test_rules_that_the_plan_breaks_are_told_with_their_weeks(self):
+        late = next(row for row in self.rows["needs"] if row[1:3] == ["Late", "Nurse"])
+        late[7] = "2"
+        self.write()
+        printed = run("plan", self.ward, "check")[1]
+        for week in ("week 1 (calendar week 49)", "week 2 (calendar week 50)"):
+            self.assertIn(f"{week}: below the minimum number: Fri Late Nurse has 1 nurse and needs at least 2\n", printed)
+
     def test_a_week_after_which_a_limit_is_exceeded(self):
         # Grace works from Monday to Friday, and so she does in the week before.
         self.rows["contracts"][1][4] = "5!"
@@ -380,12 +388,12 @@ class Weeks(KeptTest):
 
         # Late Nurse has nobody on Friday, so the week has no cost.
         text = "".join(page.getroot().itertext())
-        self.assertIn("Week 1 has no cost, since it breaks rule H2.", text)
+        self.assertIn("Week 1 (calendar week 49) has no cost, since it breaks rule H2.", text)
         self.assertNotIn("Nothing is charged", text)
         self.does("over")
         text = (self.ward / "worked-2026-11-30.html").read_text()
-        self.assertIn("<p>Week 1 has no cost, since it breaks rule H2: the sums on this page are without it.</p>", text)
-        self.assertNotIn("Week 2 has no cost", text)
+        self.assertIn("<p>Week 1 (calendar week 49) has no cost, since it breaks rule H2: the sums on this page are without it.</p>", text)
+        self.assertNotIn("Week 2 (calendar week 50) has no cost", text)
 
     def test_a_correction_with_its_skill(self):
         self.does("over", "Amara", "Thu", "Day/Nurse")

@@ -55,6 +55,10 @@ class Days(unittest.TestCase):
                 self.assertEqual(days.text(number), name)
         self.assertEqual((DATED.head(4), BARE.head(11)), ("2026-12-04", "Fri 2"))
 
+    def test_weeks_and_their_numbers_in_the_calendar(self):
+        self.assertEqual((DATED.weeks_text([1]), BARE.weeks_text([1])), ("week 2 (calendar week 50)", "week 2"))
+        self.assertEqual((DATED.weeks_text([0, 1]), BARE.weeks_text([0, 1])), ("weeks 1 and 2 (calendar weeks 49 and 50)", "weeks 1 and 2"))
+
     def test_a_date_without_its_year_after_new_year(self):
         days = PlanDays(datetime.date(2026, 12, 28), 1)
         self.assertEqual((days.number("31.12.", 0), days.number("2.1.", 0)), (3, 5))

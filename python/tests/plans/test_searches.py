@@ -46,6 +46,17 @@ class WithoutPlan(KeptTest):
             self.assertTrue(said.endswith("inrc2pb-plan: stopped before the first plan\n"), said)
             self.assertFalse(REASON in said or AGAIN in said, said)
 
+    def test_weeks_with_odd_numbers_are_named_before_a_search_as_everywhere(self):
+        # Amara, Bruno and Ewa have the skill Charge.
+        of_week = ["2", "Day", "Charge", "", "", "4", "", "", "", ""]
+        of_all = next(row for row in self.rows["needs"] if row[1:3] == ["Day", "Charge"])
+        self.rows["needs"].append(of_week)
+        for weeks in ("week 2 (calendar week 50)", "weeks 1 and 2 (calendar weeks 49 and 50)"):
+            self.write()
+            said = self.ended(Stopped(NO_ROSTER, "stopped before the first plan"))[2]
+            self.assertIn(f"warning: sheet needs, {weeks}: Day Charge on Wed: at least 4 are needed, and 3 nurses have the skill: ", said)
+            of_all[5] = "4"
+
     def test_the_words_of_a_fault_stop_nothing(self):
         # Only the user stops a search: a solver that was stopped has found no plan.
         for message in (LATE, "clasp was stopped by the signal 9"):
