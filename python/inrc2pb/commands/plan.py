@@ -133,7 +133,7 @@ def _ward_of(sheets: Book, name: str, absences: Sequence[DayWord]) -> Ward:
         texts=files.texts,
         warnings=files.warnings,
         reach=files.reach,
-        days=days.in_plan,
+        days=days.plan_days,
         scenario=scenario,
         past=history,
         claims=tuple(claims),

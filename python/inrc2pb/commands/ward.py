@@ -114,13 +114,13 @@ def ward_files(
     datas = [_week(ward.scenario, sheet, claims, number) for number, sheet in enumerate(sheets)]
     odd: Dict[Warned, List[int]] = {}
     for number, (sheet, data) in enumerate(zip(sheets, datas)):
-        week = days.in_plan.week_text(number)
+        week = days.plan_days.week_text(number)
         texts[f"week-{number}.txt"] = week_text(_with_requests(book, ward.scenario, data, week) if requests else data)
         texts[f"fix-{number}.txt"] = solution_text(Solution(number, name, tuple(held.row for held in sheet.held)))
         past, paid = None if number else history, [as_shifts.of_week(later) for later in range(number, len(sheets))]
         for line in (*week_warnings(ward.scenario, data), *demand_warnings(ward.scenario, past, data, paid)):
             odd.setdefault(line, []).append(number)
-    warnings += [f"sheet needs, {days.in_plan.weeks_text(numbers)}: {line}" for line, numbers in odd.items()]
+    warnings += [f"sheet needs, {days.plan_days.weeks_text(numbers)}: {line}" for line, numbers in odd.items()]
     supply = list(supply_warnings(ward.scenario, history, datas))
     warnings += [f"sheet needs: {line}" for line in supply]
     holidays = frozenset(7 * number + day for number, sheet in enumerate(sheets) if len(sheet.holidays) < 7 for day in sheet.holidays)

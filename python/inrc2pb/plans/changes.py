@@ -183,7 +183,7 @@ class _Judge:
         hold and beside days away, what they cost, and how much they change."""
         faults = self._alone.faults(nurse, cells)
         working = sum(fault.kind in (Kind.AWAY, Kind.NEVER) for fault in faults)
-        promised = sum(one.nurse == nurse and cells.get(one.day) != one.cell for one in self._plan.state.set_days)
+        promised = sum(promise.nurse == nurse and cells.get(promise.day) != promise.cell for promise in self._plan.state.set_days)
         not_kept = working + promised + self._alone.excess(nurse, cells) + self._alone.excess_beside(nurse, cells)
         return _Value(len(faults) - working, not_kept, self._points(nurse, cells), self._changes(nurse, cells))
 

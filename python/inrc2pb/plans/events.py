@@ -134,23 +134,23 @@ def swap(old: WardPlan, asked: Swap, before: Optional[State], has_offers: bool) 
     swaps, new = Swaps(old), old.with_cells(swapped(old.cells, asked))
     if new.works == old.works:
         days = joined(map(old.days.text, asked.days))
-        raise Misuse(f"{readable(asked.one)} and {readable(asked.other)} have the same on {days}: nothing would change")
+        raise Misuse(f"{readable(asked.nurse)} and {readable(asked.other)} have the same on {days}: nothing would change")
     faults = tuple(swaps.faults(asked))
     # The first shift that one of the two gives away.
-    first = next((nurse, day) for nurse in (asked.one, asked.other) for day in asked.days if swaps.works(nurse, day))
+    first = next((nurse, day) for nurse in (asked.nurse, asked.other) for day in asked.days if swaps.works(nurse, day))
     offers = offers_of(swaps, *first) if faults or has_offers else None
     if faults:
         return Swapped(old, new, asked, faults, offers=offers, status=Status.NOT_KEPT)
     takes_back = before is not None and _shifts(before.cells, asked) == _shifts(new.cells, asked)
-    kept = new.state.agreeing(lambda one: one not in asked.places)
-    agreed = [one for one in before.agreed if one in asked.places] if before and takes_back else asked.places
+    kept = new.state.agreeing(lambda place: place not in asked.places)
+    agreed = [place for place in before.agreed if place in asked.places] if before and takes_back else asked.places
     new = new.with_state(replace(kept, agreed=(*kept.agreed, *agreed)))
     return Swapped(old, new, asked, takes_back=takes_back, offers=offers)
 
 
 def _shifts(cells: Sequence[Cell], swap: Swap) -> Set[Tuple[str, int, str]]:
     """The shifts of the two nurses on the days of a swap."""
-    return {(cell.nurse, cell.day, cell.shift) for cell in cells if cell.nurse in (swap.one, swap.other) and cell.day in swap.days}
+    return {(cell.nurse, cell.day, cell.shift) for cell in cells if cell.nurse in (swap.nurse, swap.other) and cell.day in swap.days}
 
 
 # ---- a day that is set
@@ -166,25 +166,25 @@ def set_day(old: WardPlan, event: Event) -> DaySet:
         return _set_back(old, place)
     shift, skill = wording.shift([*old.scenario.shift_types, OFF], old.scenario.nurses[place.nurse].skills)
     now = None if shift == OFF else Cell(*place, shift, skill or _skill(old, place, shift))
-    found = SetDay(*place, wording.rest(), now.shift if now else "", now.skill if now else "")
-    if now == old.works.get(place) and found in old.state.set_days:
+    promise = SetDay(*place, wording.rest(), now.shift if now else "", now.skill if now else "")
+    if now == old.works.get(place) and promise in old.state.set_days:
         cure = f"set {readable(place.nurse)} {old.days.head(place.day)} {BACK} takes that back"
         raise Misuse(f"{readable(place.nurse)} has this on {old.days.text(place.day)} already, and later plans keep it: {cure}")
     swaps = Swaps(old)
     faults = tuple(swaps.day_faults(place, now))
-    new = _with_set_day(old, found)
+    new = _with_set_day(old, promise)
     instead, replaces = tuple(swaps.instead(place, now)), old.state.promised.get(place)
     status = Status.NOT_KEPT if faults else Status.DONE
-    return DaySet(old, new, found, faults=faults, instead=instead, replaces=replaces, status=status)
+    return DaySet(old, new, promise, faults=faults, instead=instead, replaces=replaces, status=status)
 
 
-def _with_set_day(old: WardPlan, found: SetDay) -> WardPlan:
+def _with_set_day(old: WardPlan, promise: SetDay) -> WardPlan:
     """The plan in which this is so. A swap of the day holds on below it, if the nurse has the same shift."""
-    place, others = found.place, {one: cell for one, cell in old.works.items() if one != found.place}
-    is_same = old.works.get(place) == found.cell
-    state = old.state.agreeing(lambda one: is_same or one != place)
-    set_days = (*(one for one in state.set_days if one.place != place), found)
-    return old.with_state(replace(state, set_days=set_days)).with_cells([*others.values(), *([found.cell] if found.cell else [])])
+    place, others = promise.place, {other: cell for other, cell in old.works.items() if other != promise.place}
+    is_same = old.works.get(place) == promise.cell
+    state = old.state.agreeing(lambda other: is_same or other != place)
+    set_days = (*(other for other in state.set_days if other.place != place), promise)
+    return old.with_state(replace(state, set_days=set_days)).with_cells([*others.values(), *([promise.cell] if promise.cell else [])])
 
 
 def _set_back(old: WardPlan, place: NurseDay) -> DaySet:
@@ -192,7 +192,7 @@ def _set_back(old: WardPlan, place: NurseDay) -> DaySet:
     promise = old.state.promised.get(place)
     if promise is None:
         raise Misuse(f"nothing is set for {readable(place.nurse)} on {old.days.text(place.day)}: {_no_promise(old, place)}")
-    new = old.with_state(replace(old.state, set_days=tuple(one for one in old.state.set_days if one.place != place)))
+    new = old.with_state(replace(old.state, set_days=tuple(other for other in old.state.set_days if other.place != place)))
     return DaySet(old, new, promise, takes_back=True)
 
 
@@ -222,36 +222,36 @@ def end_of_week(old: WardPlan, event: Event) -> WeekOver:
         raise Misuse("all weeks are over")
     name = readable(next(iter(old.scenario.nurses)))
     wording = _wording(old, event, f"over, or over {name} Fri off if {name} did not work on Friday, or over {name} Fri ill")
-    found = _Worked(dict(old.works), {})
+    corrected = _Worked(dict(old.works), {})
     while not wording.is_over:
-        _correct(old, wording, found)
+        _correct(old, wording, corrected)
     absences = old.state.absences
-    for (nurse, day), word in found.away.items():
+    for (nurse, day), word in corrected.away.items():
         absences = with_days(absences, nurse, [day], word, lost_by(old, nurse, [day]) if word == ILL else {})
-    new = old.with_absences(absences) if found.away else old
-    worked = plan_of(new.ward, new.state.with_open(found.cells.values()))
+    new = old.with_absences(absences) if corrected.away else old
+    worked = plan_of(new.ward, new.state.with_open(corrected.cells.values()))
     state = replace(worked.state, open_week=old.state.open_week + 1)
-    ended = worked.with_state(state.keeping(lambda one: one.day >= state.first))
-    return WeekOver(old, worked, ended if ended.weeks else None, found.away)
+    ended = worked.with_state(state.keeping(lambda place: place.day >= state.first))
+    return WeekOver(old, worked, ended if ended.weeks else None, corrected.away)
 
 
-def _correct(old: WardPlan, wording: Wording, found: _Worked) -> None:
+def _correct(old: WardPlan, wording: Wording, worked: _Worked) -> None:
     """Takes one correction, such as `Bruno Mon Late` or `Bruno Mon ill`. The last one of a nurse's day counts."""
     nurse, day = wording.nurse(), wording.open_day()
     place = NurseDay(nurse, day)
     if day >= old.first + WEEK_DAYS:
         raise Misuse(f"{old.days.text(day)} is after the week that ends now: the verb swap, or ill, changes later days")
-    found.cells.pop(place, None)
-    found.away.pop(place, None)
+    worked.cells.pop(place, None)
+    worked.away.pop(place, None)
     word = wording.one_of(AWAY)
     if word:
-        found.away[place] = word
+        worked.away[place] = word
         return
     shift, skill = wording.shift([*old.scenario.shift_types, OFF], old.scenario.nurses[nurse].skills)
     if shift != OFF:
-        found.cells[place] = Cell(nurse, day, shift, skill or _skill(old, place, shift))
+        worked.cells[place] = Cell(nurse, day, shift, skill or _skill(old, place, shift))
         if old.away.get(place, ALWAYS_OFF) not in DAYS_OFF:
-            found.away[place] = BACK
+            worked.away[place] = BACK
 
 
 def _skill(old: WardPlan, place: NurseDay, shift: str) -> str:

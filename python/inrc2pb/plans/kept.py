@@ -39,11 +39,11 @@ class Kept(Generic[_Value]):
 
 def _looks(files: Iterable[Path]) -> Tuple[Tuple[str, int, int, int], ...]:
     """What tells whether files were changed: their names, times, sizes and numbers on the disk."""
-    found = []
+    looks = []
     for path in files:
         look = path.stat()
-        found.append((str(path), max(look.st_mtime_ns, look.st_ctime_ns), look.st_size, look.st_ino))
-    return tuple(found)
+        looks.append((str(path), max(look.st_mtime_ns, look.st_ctime_ns), look.st_size, look.st_ino))
+    return tuple(looks)
 
 
 class KeptSheet:

@@ -142,8 +142,8 @@ class Actions:
         if self._promise:
             yield self._button("what was promised for this day: swaps and later plans may change it", verb="set", shift=BACK)
         if self._agreed:
-            one, other, days = self._agreed
-            nurse = other if one == self._place.nurse else one
+            first, other, days = self._agreed
+            nurse = other if first == self._place.nurse else first
             others = {"other_day": self._plan.days.head(day) for day in days if day != self._place.day}
             yield self._button(f"the swap with {readable(nurse)}", verb="swap", other=nurse, write_it="yes", **others)
 

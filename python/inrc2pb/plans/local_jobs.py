@@ -113,14 +113,14 @@ class Jobs:
         form is written. Raises Busy if another one runs."""
         with self._lock:
             self.check_free()
-            found = self._said.look if self._said.fields == fields and not event.look else None
+            planned = self._said.look if self._said.fields == fields and not event.look else None
             self._spoken = io.StringIO()
             failed = Misuse("this failed: the terminal of inrc2pb-plan says why")
             self._said = Said([str(failed)], fields, fault=failed)
-            self._thread = threading.Thread(target=self._run, args=(event, stamp, self._spoken, found))
+            self._thread = threading.Thread(target=self._run, args=(event, stamp, self._spoken, planned))
             self._thread.start()
 
-    def _run(self, event: Event, stamp: Optional[str], spoken: io.StringIO, found: Optional[Planned]) -> None:
+    def _run(self, event: Event, stamp: Optional[str], spoken: io.StringIO, planned: Optional[Planned]) -> None:
         fields = self._said.fields
         try:
             with self.folder.locked(lambda line: print(line, file=spoken)):
@@ -128,7 +128,7 @@ class Jobs:
                 if stamp is not None:
                     self.check_stamp(stamp)
                 verbs = self.verbs(spoken)
-                outcome = verbs.written(found, event) if found else verbs.done(event)
+                outcome = verbs.written(planned, event) if planned else verbs.done(event)
                 self._said = Said(render.lines(outcome, _WRITE), fields, outcome)
         except KeyboardInterrupt:
             self._said = Said(["stopped while it waited: nothing was written"], fields)
@@ -148,7 +148,7 @@ class Jobs:
 def fault_lines(fault: Exception) -> List[str]:
     """A fault as lines; one of the program itself is raised again."""
     if isinstance(fault, FileFaults):
-        return [fault_line(one) for one in fault.faults]
+        return [fault_line(told) for told in fault.faults]
     if isinstance(fault, (FileFault, Misuse, ProgramFault, OSError)):
         return [fault_line(fault)]
     raise fault

@@ -146,11 +146,11 @@ class Site:
         if is_old or (self.jobs.runs and writes(form)):
             return None
         try:
-            found = self.jobs.asked(event_of(form, self.jobs.seconds))
+            answer = self.jobs.asked(event_of(form, self.jobs.seconds))
         except Misuse as fault:
             return Sent(form, fault_lines(fault), True)
-        is_refused = found.fault is not None or (isinstance(found.outcome, (DaySet, Swapped)) and bool(found.outcome.faults))
-        return Sent(form, found.lines, is_refused) if is_refused or writes(form) else None
+        is_refused = answer.fault is not None or (isinstance(answer.outcome, (DaySet, Swapped)) and bool(answer.outcome.faults))
+        return Sent(form, answer.lines, is_refused) if is_refused or writes(form) else None
 
     def page(self, path: str, query: Dict[str, str]) -> Optional[Page]:
         """What an address of the site shows; None if there is no such page."""

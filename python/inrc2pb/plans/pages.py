@@ -147,4 +147,4 @@ def roster_content(top: Path, plan: WardPlan, old: Optional[WardPlan] = None) ->
 
 def _of_table(plan: WardPlan, places: Iterable[NurseDay]) -> Set[Tuple[int, str, int]]:
     """These nurses' days as a table of the weeks that are not over counts them."""
-    return {(one.day // WEEK_DAYS - plan.state.open_week, one.nurse, one.day % WEEK_DAYS) for one in places}
+    return {(place.day // WEEK_DAYS - plan.state.open_week, place.nurse, place.day % WEEK_DAYS) for place in places}

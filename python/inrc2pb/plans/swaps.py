@@ -150,14 +150,14 @@ def by_nurse(plan: WardPlan, works: Mapping[NurseDay, Cell]) -> Dict[str, Dict[i
 class Swap(NamedTuple):
     """Two nurses who change places on these days of the plan."""
 
-    one: str
+    nurse: str
     other: str
     days: Tuple[int, ...]
 
     @property
     def places(self) -> List[NurseDay]:
         """The days of both nurses."""
-        return [NurseDay(nurse, day) for nurse in (self.one, self.other) for day in self.days]
+        return [NurseDay(nurse, day) for nurse in (self.nurse, self.other) for day in self.days]
 
 
 class Offer(NamedTuple):
@@ -178,7 +178,7 @@ class Instead(NamedTuple):
 
 def swapped(cells: Sequence[Cell], swap: Swap) -> List[Cell]:
     """The shifts after the swap."""
-    pairs = ((swap.one, swap.other), (swap.other, swap.one))
+    pairs = ((swap.nurse, swap.other), (swap.other, swap.nurse))
     return exchanged(cells, {NurseDay(nurse, day): NurseDay(other, day) for nurse, other in pairs for day in swap.days})
 
 
@@ -198,7 +198,7 @@ class Swaps:
 
     def _after(self, swap: Swap) -> Iterator[Tuple[str, Dict[int, Cell]]]:
         """The shifts of the two nurses after the swap."""
-        for nurse, other in ((swap.one, swap.other), (swap.other, swap.one)):
+        for nurse, other in ((swap.nurse, swap.other), (swap.other, swap.nurse)):
             kept = {day: cell for day, cell in self._cells[nurse].items() if day not in swap.days}
             gained = {day: cell._replace(nurse=nurse) for day, cell in self._cells[other].items() if day in swap.days}
             yield nurse, {**kept, **gained}
@@ -217,9 +217,9 @@ class Swaps:
     def _broken_promises(self, nurse: str, cells: NurseCells, days: Sequence[int]) -> Iterator[Fault]:
         """The promised days of the nurse, of these days, on which such shifts are other ones than now, and not those that were promised."""
         promised = self.plan.state.promised
-        for one in (promised[place] for place in (NurseDay(nurse, day) for day in days) if place in promised):
-            if cells.get(one.day) not in (one.cell, self.works(nurse, one.day)):
-                yield Fault(Kind.PROMISED, nurse, one.day, promise=one)
+        for promise in (promised[place] for place in (NurseDay(nurse, day) for day in days) if place in promised):
+            if cells.get(promise.day) not in (promise.cell, self.works(nurse, promise.day)):
+                yield Fault(Kind.PROMISED, nurse, promise.day, promise=promise)
 
     def offers(self, nurse: str, day: int) -> List[Offer]:
         """All swaps by which another nurse takes this shift, the cheapest and nearest first: alone, or for one of her shifts."""
@@ -294,7 +294,7 @@ class Swaps:
             yield Fault(Kind.LIMIT, nurse, above=tuple(self._alone.above(nurse, cells)))
         if self._alone.excess_beside(nurse, cells) > self._alone.excess_beside(nurse, before):
             known = self._alone.beside(nurse, before)
-            yield from (Fault(Kind.BESIDE, nurse, beside=one) for one in self._alone.beside(nurse, cells) if one not in known)
+            yield from (Fault(Kind.BESIDE, nurse, beside=beside) for beside in self._alone.beside(nurse, cells) if beside not in known)
         for fault in self._alone.faults(nurse, cells):
             if fault.day in days or (fault.kind is Kind.FOLLOWS and fault.day - 1 in days):
                 yield fault

@@ -166,7 +166,7 @@ def _searched(store: PlanStore, event: Event, verb: str, old: WardPlan, asked: A
         if not asked.few_changes:
             found = found._replace(plan=_evened(found, asked))
         works, before = found.plan.works, old.works
-        new = found.plan.with_state(found.plan.state.agreeing(lambda one: works.get(one) == before.get(one)))
+        new = found.plan.with_state(found.plan.state.agreeing(lambda place: works.get(place) == before.get(place)))
         older = absence.old if absence else old
         seen = older if old.is_planned else None
         status = Status.NOT_KEPT if unkept(new) else Status.DONE
@@ -259,7 +259,7 @@ def _swap(store: PlanStore, event: Event) -> Union[Offers, Swapped]:
 
 def _named(plan: WardPlan, swap: Swap) -> str:
     """The swap as a verb with its words."""
-    return f"swap {swap.one} {swap.other} {' '.join(map(plan.days.head, swap.days))}"
+    return f"swap {swap.nurse} {swap.other} {' '.join(map(plan.days.head, swap.days))}"
 
 
 def _set(store: PlanStore, event: Event) -> DaySet:
@@ -292,12 +292,12 @@ def _before_swap(store: PlanStore, old: WardPlan, asked: Swap) -> Optional[State
     """What the last swap of these two on these days began with, if they have agreed on one."""
     if not set(asked.places) <= set(old.state.agreed):
         return None
-    verbs = [_named(old, swap) for swap in (asked, asked._replace(one=asked.other, other=asked.one))]
+    verbs = [_named(old, swap) for swap in (asked, asked._replace(nurse=asked.other, other=asked.nurse))]
     plans = store.folder.all_plans()
     records = ((before, known_record(path)) for before, path in zip(reversed(plans[:-1]), reversed(plans)))
-    found = next((before for before, record in records if record and record.days == old.days and record.verb in verbs), None)
+    folder = next((before for before, record in records if record and record.days == old.days and record.verb in verbs), None)
     try:
-        return read_state(found) if found else None
+        return read_state(folder) if folder else None
     except (FileFault, OSError):
         return None
 

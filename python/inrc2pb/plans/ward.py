@@ -269,8 +269,8 @@ class WardPlan:
         """Why nurses are away on the days of a week, also of one that is over, with the days of the week."""
         days = [(absence.nurse, absence.day) for absence in absences_of(self.data[number]) if absence.shift is None]
         off = {(nurse, day): self._off_word(NurseDay(nurse, WEEK_DAYS * number + day)) for nurse, day in days}
-        own = {(nurse, day % WEEK_DAYS): word for (nurse, day), word in self.ward.reasons.items() if day // WEEK_DAYS == number}
-        return {**off, **own}
+        words = {(nurse, day % WEEK_DAYS): word for (nurse, day), word in self.ward.reasons.items() if day // WEEK_DAYS == number}
+        return {**off, **words}
 
 
 def plan_of(ward: Ward, state: State, unknown: Tuple[Cell, ...] = ()) -> WardPlan:

@@ -32,7 +32,7 @@ class Days(NamedTuple):
         return len(self.columns) // len(DAYS)
 
     @property
-    def in_plan(self) -> PlanDays:
+    def plan_days(self) -> PlanDays:
         """The same days, as verbs count and name them."""
         return PlanDays(self.monday, self.weeks)
 
@@ -125,7 +125,7 @@ def week_of_row(cell: SheetCell, days: Days) -> Optional[int]:
     in the plan, so that the row counts for none of its weeks."""
     if not cell.text:
         return None
-    plan, date = days.in_plan, date_of(cell)
+    plan, date = days.plan_days, date_of(cell)
     if date and days.monday is None:
         cell.fault(f"'{date_shown(cell, date)}' is a date, and the sheet plan has none: write the week's number, from 1")
     if date and days.monday:
@@ -142,7 +142,7 @@ def week_of_row(cell: SheetCell, days: Days) -> Optional[int]:
 
 def week_of_row_warnings(table: Table, days: Days) -> Iterator[str]:
     """Warnings of rows of the needs whose week the plan does not have, and of numbers that may mean another week of the calendar."""
-    plan = days.in_plan
+    plan = days.plan_days
     for row in table.rows:
         cell = row.of("week")
         week = week_of_row(cell, days)

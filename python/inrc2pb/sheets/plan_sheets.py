@@ -7,7 +7,7 @@ from typing import Dict, Iterator, List, NamedTuple, Optional, Set, Tuple
 from ..judging.absences import is_broken_by
 from ..week.facts import WORK_DAYS
 from ..week.faults import Gathering
-from ..week.records import DAYS, Absence, Cell, Place, Request, Requirement, Scenario
+from ..week.records import DAYS, Absence, Cell, Place, Request, Requirement, Scenario, in_plan
 from ..week.slots import MAX_NUMBER
 from ..week.words import readable
 from .plan_days import NO_WEEK, Days, week_of_row
@@ -117,8 +117,8 @@ def read_needs(table: Table, ward: Ward, days: Optional[Days], weeks: List[WeekS
         of_all = given.get(_Asked(None, shift, skill))
         for number, sheet in enumerate(weeks):
             of_week = given.get(_Asked(number, shift, skill), of_all)
-            for day, (cell, own) in enumerate(of_week or ()):
-                base = of_all[day][1] if of_all and not cell.text else own
+            for day, (cell, requirement) in enumerate(of_week or ()):
+                base = of_all[day][1] if of_all and not cell.text else requirement
                 sheet.requirements[Place(day, shift, skill)] = base
                 if of_all and base != of_all[day][1]:
                     sheet.holidays.add(day)
@@ -155,8 +155,8 @@ def needed(cell: SheetCell) -> Requirement:
 def _pair_for(text: str) -> str:
     """How the needs have a minimum and a best number, such as those of the text `2-3`, of which a spreadsheet may make a date, or one
     more than the only number of the text."""
-    found, least = _RANGE.fullmatch(text), int(about(text) or 2)
-    minimum, best = (int(found[1]), int(found[2])) if found else (least, least + 1)
+    pair, least = _RANGE.fullmatch(text), int(about(text) or 2)
+    minimum, best = (int(pair[1]), int(pair[2])) if pair else (least, least + 1)
     if minimum >= best:
         minimum, best = 2, 3
     return f"{minimum}+{best - minimum} for {minimum} at least and better {best}"
@@ -186,10 +186,10 @@ def _read_day(cell: SheetCell, nurse: str, index: int, scenario: Scenario, weeks
 
 def _no_shift(text: str, scenario: Scenario) -> str:
     """The shift types after `no`, also without a blank between; nothing if the text is something else."""
-    found, names = _NO_SHIFT.fullmatch(text), {readable(shift).casefold() for shift in scenario.shift_types}
-    if not found or readable(text).casefold() in names:
+    words, names = _NO_SHIFT.fullmatch(text), {readable(shift).casefold() for shift in scenario.shift_types}
+    if not words or readable(text).casefold() in names:
         return ""
-    return found[2] if text[len(found[1])] == " " or readable(found[2]).casefold() in names else ""
+    return words[2] if text[len(words[1])] == " " or readable(words[2]).casefold() in names else ""
 
 
 def _held(cell: SheetCell, nurse: str, day: int, week: WeekSheet, scenario: Scenario, is_known: bool) -> Held:
@@ -202,13 +202,14 @@ def _held(cell: SheetCell, nurse: str, day: int, week: WeekSheet, scenario: Scen
         rest = cell.text[len("wish ") :]
         cell.fault(f"'{cell.text}': a wish is a day off: write wish, or no {rest} if she would rather not have {rest}")
     shift = cell._replace(text=named).known("shift type", scenario.shift_types, others)
-    own = scenario.nurses[nurse].skills
+    skills = scenario.nurses[nurse].skills
     if with_skill:
-        return Held(Cell(nurse, day, shift, cell._replace(text=with_skill).known(f"skill of {readable(nurse)}", own)), cell)
-    asked = [skill for skill in own if week.requirements.get(Place(day, shift, skill), Requirement(0, 0)).optimal]
-    if len(asked or own) > 1 and is_known:
-        cell.fault(f"{readable(nurse)} has more than one skill for it: write {readable(shift)}/{readable((asked or own)[0])}, for example")
-    return Held(Cell(nurse, day, shift, (asked or own or ("",))[0]), cell)
+        return Held(Cell(nurse, day, shift, cell._replace(text=with_skill).known(f"skill of {readable(nurse)}", skills)), cell)
+    asked = [skill for skill in skills if week.requirements.get(Place(day, shift, skill), Requirement(0, 0)).optimal]
+    if len(asked or skills) > 1 and is_known:
+        example = f"{readable(shift)}/{readable((asked or skills)[0])}"
+        cell.fault(f"{readable(nurse)} has more than one skill for it: write {example}, for example")
+    return Held(Cell(nurse, day, shift, (asked or skills or ("",))[0]), cell)
 
 
 def check_held(ward: Ward, weeks: List[WeekSheet]) -> None:
@@ -216,7 +217,7 @@ def check_held(ward: Ward, weeks: List[WeekSheet]) -> None:
     last = {past.nurse: (past.last_shift, -1) for past in ward.history.nurses.values()}
     with Gathering() as faults:
         for number, week in enumerate(weeks):
-            for held in sorted(week.held, key=lambda one: one.row.day):
+            for held in sorted(week.held, key=lambda shift: shift.row.day):
                 with faults.step():
                     _check_held(ward.scenario, week, held, 7 * number + held.row.day, last)
 
@@ -236,11 +237,11 @@ def _check_held(scenario: Scenario, week: WeekSheet, held: Held, day: int, last:
 
 def held_warnings(ward: Ward, weeks: List[WeekSheet], days: Days) -> Iterator[str]:
     """Warnings of shifts that are held on more days in a row than a contract never exceeds."""
-    plan, held = days.in_plan, [(one.row.nurse, len(DAYS) * number + one.row.day) for number, week in enumerate(weeks) for one in week.held]
+    plan, held = days.plan_days, in_plan([shift.row for shift in week.held] for week in weeks)
     for nurse, contract in ((name, ward.scenario.contract_of(name)) for name in ward.scenario.nurses):
         most = contract.working_days.maximum
-        own = sorted(day for name, day in held if name == nurse)
-        rows = [[day for _, day in row] for _, row in itertools.groupby(enumerate(own), key=lambda pair: pair[1] - pair[0])]
+        held_days = sorted(cell.day for cell in held if cell.nurse == nurse)
+        rows = [[day for _, day in row] for _, row in itertools.groupby(enumerate(held_days), key=lambda pair: pair[1] - pair[0])]
         if WORK_DAYS in ward.kept[ward.scenario.nurses[nurse].contract]:
             for row in (row for row in rows if len(row) > most):
                 what = f"{nurse} has {len(row)} fixed shifts in a row, {plan.span(row)}, and never works more than {most}"

@@ -5,7 +5,7 @@ A ward's file has one contract for a whole period, so a nurse for whom another o
 """
 
 from dataclasses import replace
-from typing import Collection, Iterator, List, Sequence, Set, Tuple
+from typing import Collection, Iterator, List, Sequence, Tuple
 
 from ..judging.leave import PartContract
 from ..week.facts import SHIFTS, WEEKENDS, Charged, Choice, Claim, DayAway, Reasons
@@ -29,15 +29,15 @@ def absence_reasons(weeks: List[WeekSheet]) -> Reasons:
 def claims_of(ward: Ward, history: History, weeks: List[WeekSheet]) -> List[Claim]:
     """The absences, and the maxima that nurses never exceed, as facts about a plan that follows this history."""
     order = {nurse: number for number, nurse in enumerate(ward.scenario.nurses)}
-    found: List[Claim] = []
+    claims: List[Claim] = []
     for number, week in enumerate(weeks, 1):
-        for absence in sorted(set(week.absences), key=lambda one: (order[one.nurse], one.day, one.shift or "")):
-            found.append(Claim(Choice(number, absence.nurse, absence.day, absence.shift), absence.shift is None))
+        for absence in sorted(set(week.absences), key=lambda away: (order[away.nurse], away.day, away.shift or "")):
+            claims.append(Claim(Choice(number, absence.nurse, absence.day, absence.shift), absence.shift is None))
     for nurse, past in history.nurses.items():
         contract = ward.scenario.contract_of(nurse)
         over = {SHIFTS: past.assignments - contract.assignments.maximum, WEEKENDS: past.weekends - contract.max_weekends}
-        found += [Claim(Charged(kind, nurse, max(0, over.get(kind, 0)))) for kind in sorted(ward.kept[contract.name])]
-    return found
+        claims += [Claim(Charged(kind, nurse, max(0, over.get(kind, 0)))) for kind in sorted(ward.kept[contract.name])]
+    return claims
 
 
 def with_part_contracts(ward: Ward, weeks: Sequence[WeekSheet]) -> Ward:
@@ -45,12 +45,12 @@ def with_part_contracts(ward: Ward, weeks: Sequence[WeekSheet]) -> Ward:
     row than her contract has days off in a row, or comes or leaves. A ward that has the most contracts already keeps these."""
     contracts, nurses, kept = dict(ward.scenario.contracts), dict(ward.scenario.nurses), dict(ward.kept)
     for name, nurse in ward.scenario.nurses.items():
-        own = _own_contract(ward, name, weeks)
-        while contracts.get(own.name, own) != own:
-            own = replace(own, name=f"{own.name}_")
-        if own.name in contracts or len(contracts) < MAX_CONTRACTS:
-            contracts[own.name], kept[own.name] = own, ward.kept[nurse.contract]
-            nurses[name] = replace(nurse, contract=own.name)
+        contract = _own_contract(ward, name, weeks)
+        while contracts.get(contract.name, contract) != contract:
+            contract = replace(contract, name=f"{contract.name}_")
+        if contract.name in contracts or len(contracts) < MAX_CONTRACTS:
+            contracts[contract.name], kept[contract.name] = contract, ward.kept[nurse.contract]
+            nurses[name] = replace(nurse, contract=contract.name)
     return ward._replace(scenario=replace(ward.scenario, contracts=contracts, nurses=nurses), kept=kept)
 
 
@@ -78,8 +78,8 @@ def _comes_or_leaves(nurse: str, weeks: Sequence[WeekSheet]) -> bool:
 
 def _longest_absence(ward: Ward, nurse: str, weeks: Sequence[WeekSheet]) -> int:
     """The most days in a row on which a nurse is away, with the days off before the plan."""
-    away = [(number, one) for number, week in enumerate(weeks) for one in week.absences if (one.nurse, one.shift) == (nurse, None)]
-    days: Set[int] = {WEEK_DAYS * number + one.day for number, one in away}
+    away = ((number, absence) for number, week in enumerate(weeks) for absence in week.absences)
+    days = {WEEK_DAYS * number + absence.day for number, absence in away if (absence.nurse, absence.shift) == (nurse, None)}
     longest, run = 0, ward.history.nurses[nurse].days_off
     for day in range(WEEK_DAYS * len(weeks)):
         run = run + 1 if day in days else 0

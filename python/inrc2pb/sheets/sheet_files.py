@@ -83,16 +83,16 @@ def _read_archive(path: Path, archive: zipfile.ZipFile) -> Book:
 
 def _csv_files(folder: Path) -> Dict[str, Path]:
     """The files of a folder by their sheets. LibreOffice writes the sheet plan of ward.ods to ward-plan.csv."""
-    found: Dict[str, Path] = {}
+    files: Dict[str, Path] = {}
     for file in sorted(folder.iterdir()):
         if file.suffix.lower() in (".csv", ".tsv") and file.is_file():
             sheet = file.stem.lower().rpartition("-")[2]
-            if sheet in found:
-                raise FileFault(folder, 0, f"{found[sheet].name} and {file.name} are both the sheet {sheet}: leave one of them")
-            found[sheet] = file
-    if not found:
+            if sheet in files:
+                raise FileFault(folder, 0, f"{files[sheet].name} and {file.name} are both the sheet {sheet}: leave one of them")
+            files[sheet] = file
+    if not files:
         raise FileFault(folder, 0, "this folder has no .csv files: save each sheet as one, such as shifts.csv")
-    return found
+    return files
 
 
 def _read_csv(path: Path) -> Rows:

@@ -11,7 +11,7 @@ _TABLE, _TEXT, _OFFICE = map(ods_space, ("table", "text", "office"))
 
 def sheets(parts: Parts) -> Tuple[Dict[str, Rows], Dict[str, List[int]], Dict[str, Marks]]:
     """The sheets by their names in small letters, the numbers of their hidden rows, and the cells with a look that may mean something."""
-    found: Dict[str, Rows] = {}
+    rows: Dict[str, Rows] = {}
     hidden: Dict[str, List[int]] = {}
     marks: Dict[str, Marks] = {}
     content = parts.read("content.xml")
@@ -22,8 +22,8 @@ def sheets(parts: Parts) -> Tuple[Dict[str, Rows], Dict[str, List[int]], Dict[st
             grid = Grid(name, parts)
             if name in SHEETS:
                 _read(table, grid, looks)
-            found[name], hidden[name], marks[name] = grid.rows(), grid.hidden, grid.marks
-    return found, hidden, marks
+            rows[name], hidden[name], marks[name] = grid.rows(), grid.hidden, grid.marks
+    return rows, hidden, marks
 
 
 def _rows(element: Element) -> Iterator[Element]:

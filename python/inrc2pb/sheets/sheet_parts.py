@@ -130,12 +130,12 @@ class Grid:
         """The rows, with merged cells filled as far as the sheet has others."""
         height = max(self._cells, default=-1) + 1
         width = max((max(cells) for cells in self._cells.values()), default=-1) + 1
-        found = [[self._cells.get(row, {}).get(column, "") for column in range(width)] for row in range(height)]
+        texts = [[self._cells.get(row, {}).get(column, "") for column in range(width)] for row in range(height)]
         for rows, columns in self._merged:
             if rows.start < height and columns.start < width:
                 for row in rows[: height - rows.start]:
-                    found[row][columns.start : columns.stop] = [found[rows.start][columns.start]] * len(columns[: width - columns.start])
-        return trimmed(found)
+                    texts[row][columns.start : columns.stop] = [texts[rows.start][columns.start]] * len(columns[: width - columns.start])
+        return trimmed(texts)
 
 
 def number_text(value: str) -> str:
@@ -159,10 +159,10 @@ def formula_text(formula: str, value: str) -> str:
 
 def trimmed(rows: Sequence[Sequence[str]]) -> Rows:
     """The rows without empty cells at their ends, and without empty rows at the end."""
-    found = [list(row) for row in rows]
-    for row in found:
+    shortened = [list(row) for row in rows]
+    for row in shortened:
         while row and not row[-1].strip():
             row.pop()
-    while found and not found[-1]:
-        found.pop()
-    return found
+    while shortened and not shortened[-1]:
+        shortened.pop()
+    return shortened

@@ -30,8 +30,8 @@ def tidy(text: str) -> str:
 
 def about(text: str) -> str:
     """The only number of a text that has words or a sign beside it; nothing if it is something else."""
-    found = _ABOUT.fullmatch(text)
-    return found[1] or found[2] if found else ""
+    number = _ABOUT.fullmatch(text)
+    return number[1] or number[2] if number else ""
 
 
 def letters_of(column: int) -> str:
@@ -104,7 +104,7 @@ class SheetCell(NamedTuple):
             self.fault(f"the cell is empty: write the name of the {kind}, or delete the row")
         if any(sign in SIGNS for sign in name):
             self.fault(f"'{self.text}' has one of the signs {' '.join(SIGNS)}: write the name without it")
-        if name.casefold() in (one.casefold() for one in taken):
+        if name.casefold() in (other.casefold() for other in taken):
             self.fault(f"the {kind} '{self.text}' is there already: use another name")
         return name
 
@@ -112,12 +112,12 @@ class SheetCell(NamedTuple):
         """The name that the cell has, in whatever letters. A fault names the other words that may be in its place too, and what else may
         help."""
         wanted = self.text.replace(" ", "_").casefold()
-        found = next((name for name in names if name.casefold() == wanted), None)
-        if found is None:
+        meant = next((name for name in names if name.casefold() == wanted), None)
+        if meant is None:
             otherwise = f"write one of {quoted([*map(readable, names), *others])}{end}"
             advice = did_you_mean(self.text.replace(" ", "_"), [*names, *others], otherwise, readable)
             self.fault(f"'{self.text}' is no {kind}: {advice}" if self.text else f"the cell is empty: write a {kind}, or delete the row")
-        return found
+        return meant
 
 
 class SheetRow:
@@ -243,13 +243,13 @@ def _joined_head(rows: Rows, first: int, open_end: bool) -> Tuple[List[str], int
     width = max(len(head), len(below))
     head, below = (row + [""] * (width - len(row)) for row in (head, below))
     # A head over two rows.
-    below = ["" if under == own else under for own, under in zip(head, below)]
+    below = ["" if under == upper else under for upper, under in zip(head, below)]
     has_days = all(re.match("mon|tue|wed|thu|fri|sat|sun", cell.casefold()) for cell in below if cell)
-    is_over = any(under and not own for own, under in zip(head, below)) and not any(re.search("[0-9]", cell) for cell in below)
+    is_over = any(under and not upper for upper, under in zip(head, below)) and not any(re.search("[0-9]", cell) for cell in below)
     if not any(below) or below[0] or not (has_days if open_end else is_over):
         return head, first + 1
     joined, above = [], ""
-    for own, under in zip(head, below):
-        above = own or (above if under else "")
+    for upper, under in zip(head, below):
+        above = upper or (above if under else "")
         joined.append(f"{above} {under}".strip())
     return joined, first + 2

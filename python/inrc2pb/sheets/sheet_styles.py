@@ -17,12 +17,12 @@ class Look(NamedTuple):
 
 def ods_looks(content: Element) -> Dict[str, Look]:
     """The looks of the styles of an ODS file, by their names."""
-    found: Dict[str, Look] = {}
+    looks: Dict[str, Look] = {}
     for style in content.iter(_STYLE + "style"):
         lines = {part.get(_STYLE + "text-line-through-style", "none") for part in style.findall(_STYLE + "text-properties")}
         colors = {part.get(_FO + "background-color", "transparent") for part in style.findall(_STYLE + "table-cell-properties")}
-        found[style.get(_STYLE + "name", "")] = Look(bool(lines - {"none"}), bool(colors - {"transparent", "#ffffff"}))
-    return found
+        looks[style.get(_STYLE + "name", "")] = Look(bool(lines - {"none"}), bool(colors - {"transparent", "#ffffff"}))
+    return looks
 
 
 def is_struck_in_ods(cell: Element, looks: Dict[str, Look]) -> bool:
@@ -53,7 +53,7 @@ def _is_solid(pattern: Element) -> bool:
 
 def _children(styles: Element, group: str, name: str) -> List[Element]:
     """The members of a group of styles."""
-    return [part for space in MAIN_SPACES for found in styles.findall(space + group) for part in found.findall(space + name)]
+    return [part for space in MAIN_SPACES for members in styles.findall(space + group) for part in members.findall(space + name)]
 
 
 def _at(values: List[bool], number: str) -> bool:

@@ -34,7 +34,7 @@ def sheets(parts: Parts) -> Sheets:
     items = _all(parts.read("xl/sharedStrings.xml"), "si") if parts.has("xl/sharedStrings.xml") else []
     texts = _Texts(list(map(_text, items)), list(map(is_struck_in_xlsx, items)), xlsx_looks(parts))
     targets = {link.get("Id", ""): _path(link.get("Target", "")) for link in parts.read("xl/_rels/workbook.xml.rels")}
-    found: Dict[str, Rows] = {}
+    rows: Dict[str, Rows] = {}
     hidden: Dict[str, List[int]] = {}
     marks: Dict[str, Marks] = {}
     for sheet in _all(book, "sheet"):
@@ -44,9 +44,9 @@ def sheets(parts: Parts) -> Sheets:
             grid = Grid(name, parts)
             if name in SHEETS:
                 _read(parts.read(target), grid, texts)
-            found[name], hidden[name], marks[name] = grid.rows(), grid.hidden, grid.marks
+            rows[name], hidden[name], marks[name] = grid.rows(), grid.hidden, grid.marks
     from_1904 = any(part.get("date1904") in ("1", "true", "on") for part in _all(book, "workbookPr"))
-    return found, hidden, marks, _DAY_ZERO_1904 if from_1904 else _DAY_ZERO
+    return rows, hidden, marks, _DAY_ZERO_1904 if from_1904 else _DAY_ZERO
 
 
 def _path(target: str) -> str:
@@ -55,7 +55,7 @@ def _path(target: str) -> str:
 
 
 def _all(element: Element, name: str) -> List[Element]:
-    return [found for space in MAIN_SPACES for found in element.iter(space + name)]
+    return [part for space in MAIN_SPACES for part in element.iter(space + name)]
 
 
 def _read(sheet: Element, grid: Grid, texts: _Texts) -> None:
@@ -73,9 +73,9 @@ def _read(sheet: Element, grid: Grid, texts: _Texts) -> None:
             look = _look(cell, texts)
             grid.mark(*place, look.struck and bool(value.strip()), look.colored)
     for merged in _all(sheet, "mergeCell"):
-        found = _RANGE.fullmatch(merged.get("ref", "").upper())
-        if found:
-            first, top, last, bottom = found.groups()
+        corners = _RANGE.fullmatch(merged.get("ref", "").upper())
+        if corners:
+            first, top, last, bottom = corners.groups()
             grid.merge(range(int(top) - 1, int(bottom)), range(_column(first), _column(last) + 1))
 
 

@@ -81,13 +81,13 @@ def read_ward(book: Book, name: str, weeks: int, faults: Gathering) -> Ward:
         nurse = _new_name(row.of("nurse"), "nurse", nurses, faults)
         of_nurses = Gathering() if faults.number > before else of_nurses
         contract = of_contracts.tried(lambda: row.of("contract").known("contract", contracts), next(iter(contracts)))
-        found = Nurse(nurse, contract, skills.of(row.of("skills"), faults))
+        record = Nurse(nurse, contract, skills.of(row.of("skills"), faults))
         shift_names = [of_shifts.tried(lambda: part.known("shift type", shift_types), "") for part in row.of("never").parts()]
         no_days: List[int] = []
         off = faults.tried(lambda: _days_off(row.of("always off")), no_days)
         of_past = _past(row, nurse, shift_types, faults, of_shifts)
         if nurse and nurse not in nurses:
-            nurses[nurse], past[nurse], never[nurse] = found, of_past, ([shift for shift in shift_names if shift], off)
+            nurses[nurse], past[nurse], never[nurse] = record, of_past, ([shift for shift in shift_names if shift], off)
     for kind, number, most in (("nurses", len(nurses), MAX_NURSES), ("skills", len(skills.cells), MAX_SKILLS)):
         with faults.step():
             _check_number(table_of(book, "nurses"), kind, number, most)
@@ -155,20 +155,20 @@ def shift_times(book: Book) -> Dict[str, Times]:
     cells = {row.of("shift").text.replace(" ", "_"): row.of("times") for row in table_of(book, "shifts").rows}
     if not any(cell.text for cell in cells.values()):
         return {}
-    found: Dict[str, Times] = {}
+    times: Dict[str, Times] = {}
     with Gathering() as faults:
         for name, cell in cells.items():
             with faults.step():
                 try:
-                    found[name] = times_of(cell.text, readable(name))
+                    times[name] = times_of(cell.text, readable(name))
                 except Misuse as fault:
                     cell.fault(f"{fault}; all shifts have times, or none has")
-    return found
+    return times
 
 
 def _contracts(table: Table, faults: Gathering) -> Tuple[Dict[str, Contract], Dict[str, Set[str]], Gathering]:
     """The contracts, the kinds of maxima that each of them never exceeds, and where faults of names that are none of them go."""
-    found: Dict[str, Contract] = {}
+    contracts: Dict[str, Contract] = {}
     kept: Dict[str, Set[str]] = {}
     unknown = faults
     for head, cell in table.kept.items():
@@ -177,14 +177,14 @@ def _contracts(table: Table, faults: Gathering) -> Tuple[Dict[str, Contract], Di
                 cell.fault(f"the sign {KEPT} is for {', '.join(_KEPT)}: delete it here")
     for row in table.rows:
         before = faults.number
-        name = _new_name(row.of("contract"), "contract", found, faults)
+        name = _new_name(row.of("contract"), "contract", contracts, faults)
         unknown = Gathering() if faults.number > before else unknown
         contract = _contract(row, name, faults)
         texts = {head: row.of(head).text for head in _KEPT}
-        if name and name not in found:
-            found[name] = contract
+        if name and name not in contracts:
+            contracts[name] = contract
             kept[name] = {_KEPT[head] for head, text in texts.items() if text.endswith(KEPT) or (head in table.kept and text)}
-    return found, kept, unknown
+    return contracts, kept, unknown
 
 
 def _contract(row: SheetRow, name: str, faults: Gathering) -> Contract:
@@ -234,32 +234,32 @@ class _Skills:
 
     def __init__(self, asked: Collection[str]) -> None:
         self._asked, self._names = {name.casefold() for name in asked}, [name.replace(" ", "_") for name in asked]
-        one = "|".join(map(re.escape, sorted(self._asked, key=len, reverse=True)))
-        self._several = re.compile(f"({one})((?: and | ?[&+] ?| )({one}))+")
+        any_skill = "|".join(map(re.escape, sorted(self._asked, key=len, reverse=True)))
+        self._several = re.compile(f"({any_skill})((?: and | ?[&+] ?| )({any_skill}))+")
         self.cells: Dict[str, SheetCell] = {}
 
     def of(self, cell: SheetCell, faults: Gathering) -> Tuple[str, ...]:
         """The skills of a nurse. After a fault all that the needs ask for are known, since she may have meant any of them."""
-        found: List[str] = []
+        skills: List[str] = []
         with faults.step():
             if not cell.parts():
                 cell.fault("the cell is empty: write the nurse's skills, such as Charge, Nurse")
         for part in cell.parts():
-            own = faults.tried(lambda: self._one(part, found), "")
-            if own:
-                self.cells.setdefault(own, part)
-                found.append(own)
-        if len(found) < max(1, len(cell.parts())):
+            skill = faults.tried(lambda: self._one(part, skills), "")
+            if skill:
+                self.cells.setdefault(skill, part)
+                skills.append(skill)
+        if len(skills) < max(1, len(cell.parts())):
             for name in self._names:
                 self.cells.setdefault(name, cell)
-        return tuple(found)
+        return tuple(skills)
 
     def _one(self, part: SheetCell, before: Collection[str]) -> str:
         """One skill of a nurse, who has those before it."""
         if part.text.casefold() not in self._asked and self._several.fullmatch(part.text.casefold()):
             part.fault(f"'{part.text}' is no skill of the sheet needs, and has several in it: write commas between skills")
-        own = part.new_name("skill", before)
-        return next((name for name in self.cells if name.casefold() == own.casefold()), own)
+        skill = part.new_name("skill", before)
+        return next((name for name in self.cells if name.casefold() == skill.casefold()), skill)
 
 
 def skill_warnings(ward: Ward, asked: Collection[str]) -> Iterator[str]:
@@ -268,7 +268,7 @@ def skill_warnings(ward: Ward, asked: Collection[str]) -> Iterator[str]:
         for name, cell in ward.skills.items():
             if name in asked:
                 continue
-            meant = closest(name, [one for one in ward.skills if one in asked])
+            meant = closest(name, [skill for skill in ward.skills if skill in asked])
             with faults.step():
                 if meant:
                     advice = f"write {readable(meant)} if you mean it, else add a row for it"

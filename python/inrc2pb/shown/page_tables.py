@@ -63,7 +63,7 @@ def sums_table(page: Content) -> Optional[Markup]:
     above = joined(element("td"), *(element("th", name, scope="colgroup", colspan=str(len(heads))) for name in names))
     head = joined(column("nurse"), *(column(name) for _ in groups for name in heads))
     numbers = {nurse: [number for sums in groups for number in sums.get(nurse, Sums()).texts(has_times)] for nurse in page.view.nurses}
-    rows = [[first(readable(nurse)), *(element("td", number) for number in own)] for nurse, own in numbers.items()]
+    rows = [[first(readable(nurse)), *(element("td", number) for number in of_nurse)] for nurse, of_nurse in numbers.items()]
     return table("Shifts, nights, weekends and wishes of each nurse", [above, head], rows, "totals")
 
 

@@ -168,7 +168,7 @@ def obeyed(text: str) -> bool:
 
 def not_obeyed(text: str) -> str:
     """The text with the codes of the signs that a terminal would obey, but for those that end a line."""
-    return _CONTROL.sub(lambda found: printable(found[0]), text)
+    return _CONTROL.sub(lambda sign: printable(sign[0]), text)
 
 
 def _code(number: int) -> str:

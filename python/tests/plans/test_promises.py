@@ -70,7 +70,7 @@ class Swapping(PromiseTest):
                     cell = self.plan.works.get(place)
                     one = SetDay(*place, "", cell.shift if cell else "", cell.skill if cell else "")
                     left = Swaps(self.promising(one)).offers(nurse, day)
-                    moves = {NurseDay(who, on) for who in (offer.swap.one, offer.swap.other) for on in offer.swap.days}
+                    moves = {NurseDay(who, on) for who in (offer.swap.nurse, offer.swap.other) for on in offer.swap.days}
                     self.assertIn(place, moves)
                     self.assertFalse([other for other in left if place in other.swap.places and self.moved(other.swap, place)])
                     tried += 1
@@ -78,7 +78,7 @@ class Swapping(PromiseTest):
 
     def moved(self, swap, place):
         """Whether a swap gives a nurse another shift on her day."""
-        other = swap.other if place.nurse == swap.one else swap.one
+        other = swap.other if place.nurse == swap.nurse else swap.nurse
         cells = [self.plan.works.get(NurseDay(nurse, place.day)) for nurse in (place.nurse, other)]
         return (cells[0] and cells[0][2:]) != (cells[1] and cells[1][2:])
 

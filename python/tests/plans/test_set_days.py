@@ -64,7 +64,7 @@ class Asked(SetTest):
         # Grace's Monday leaves Bruno alone on Day Nurse, of one at least and two at best.
         found = self.asked("Grace", "Mon", "off")
         self.assertEqual((found.now, found.faults), (None, ()))
-        self.assertEqual({one.swap.one for one in found.instead}, {"Grace"})
+        self.assertEqual({one.swap.nurse for one in found.instead}, {"Grace"})
         self.assertEqual(sorted(one.cost for one in found.instead), [one.cost for one in found.instead])
         said = lines(found, WRITE)
         self.assertIn("Grace, Mon 30 Nov: off instead of Day Nurse", said)
