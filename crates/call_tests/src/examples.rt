@@ -9,7 +9,7 @@ use rota_certificate_read::{read_certificate, read_facts};
 use rota_core::{Cell, FileFault, Instance, Roster, Rule};
 use rota_items::{Counter, Counts, Part, Taker, counts, drive_constraints};
 use rota_judge::{Judge, verdict_of};
-use rota_layout::{Cursor, Stop};
+use rota_layout::{Cursor, LayoutError};
 use rota_read::{read_history, read_scenario};
 use rota_rules::early_excess;
 use solver_text::{Answer, Status};
@@ -61,7 +61,7 @@ fn slots_are_read(rt: HostRuntime) -> Result<(), Fail> {
     Ok(())
 }
 
-fn example_of_rota_layout(rt: &impl Abort) -> Result<(), Stop> {
+fn example_of_rota_layout(rt: &impl Abort) -> Result<(), LayoutError> {
     let mut cursor = Cursor::open(b"ROWS = 12")?;
     assert_eq!(rt; cursor.setting(b"ROWS", 0, 100)?, 12);
     cursor.finish()

@@ -11,9 +11,9 @@ use Rattle.rota_core.specs.Trees.{LeafTables, Tree, leaf_tree, leaves_in, split_
 use Rattle.rota_core.specs.declared.certificate.Fact.{Fact}
 use Rattle.rota_layout.specs.Layout.{Layout, repeat}
 use Rattle.rota_layout.specs.Reading.{Fails, Reading, read_layout, then_read}
-use Rattle.rota_layout.specs.declared.fault.Fault.{Fault}
-use Rattle.rota_layout.specs.declared.fault.Stop.{Stop}
-use Rattle.rota_layout.specs.declared.fault.Stop.TheVariants as stops
+use Rattle.rota_layout.specs.declared.fault.LayoutError.{LayoutError}
+use Rattle.rota_layout.specs.declared.fault.LayoutError.TheVariants as stops
+use Rattle.rota_layout.specs.declared.fault.LineFault.{LineFault}
 use Rattle.rota_certificate_read.specs.CertificateLayout.{leaf, node_word, tree, tree_after, tree_within}
 use Rattle.rota_certificate_read.specs.FactsLayout.{fact, keyword}
 use Rattle.rota_certificate_read.specs.TreeRows.{PartTables, and_leaf, and_split, may_end, may_split, no_nodes, node_after, node_row, tree_nodes}
@@ -23,7 +23,7 @@ use Rattle.rota_certificate_read.proofs.TreeLaws.{IsTreeWithin, MayCome, leaves-
 use Rattle.rota_layout.proofs.ReadingLaws.{fills-read, front_fails, then_read-same}
 
 -- a part after a part after a part
-then_read-then : {A B C : Type 0} (r : Result A Fault) (f : A → Result B Fault) (g : B → Result C Fault) →
+then_read-then : {A B C : Type 0} (r : Result A LineFault) (f : A → Result B LineFault) (g : B → Result C LineFault) →
     then_read (then_read r f) g ≡ then_read r (λ a. then_read (f a) g)
 then_read-then (Ok a) f g = refl
 then_read-then (Err e) f g = refl
@@ -83,7 +83,7 @@ module _ (t : ScenarioTables) (weeks prices all : ℕ) (some : 1 ≤ prices) whe
       ]
 
   -- the rows that are left after the tree
-  abbrev then_rows : ℕ → PartTables → Tree × Reading → Result (PartTables × Reading) Fault
+  abbrev then_rows : ℕ → PartTables → Tree × Reading → Result (PartTables × Reading) LineFault
   then_rows n part x = read_layout (rows (n - (2 * leaves_in x.0 - 1)) (and_tree part x.0)) x.1
 
   -- the rows are read as the tree, and then as the rows that are left
@@ -94,10 +94,10 @@ module _ (t : ScenarioTables) (weeks prices all : ℕ) (some : 1 ≤ prices) whe
   module _ (depth low high n : ℕ) (part : PartTables)
       (each : (low high n : ℕ) (part : PartTables) (start : Reading) → high ≤ depth → IsPlace low high n part → Walks depth low high n part start)
       (deep : high ≤ suc depth) (place : IsPlace low high (suc n) part) where
-    abbrev next : PartTables × Reading → Result (PartTables × Reading) Fault
+    abbrev next : PartTables × Reading → Result (PartTables × Reading) LineFault
     next x = read_layout (rows n x.0) x.1
 
-    leaf-walks : (r : Result (LeafTables × Reading) Fault) →
+    leaf-walks : (r : Result (LeafTables × Reading) LineFault) →
         then_read (then_read r (λ z. Ok (and_leaf part z.0, z.1))) next ≡
         then_read (then_read r (λ z. Ok (leaf_tree z.0, z.1))) (then_rows (suc n) part)
     unfolding nodes_of leaves_in
@@ -121,7 +121,7 @@ module _ (t : ScenarioTables) (weeks prices all : ℕ) (some : 1 ≤ prices) whe
           }
 
       -- the second tree, after the first
-      abbrev second : Tree → Reading → Result (Tree × Reading) Fault
+      abbrev second : Tree → Reading → Result (Tree × Reading) LineFault
       second first left = read_layout (tree_within t weeks prices depth (low - leaves_in first) (high - leaves_in first)) left
 
       module _ (first : Tree) (is : IsTreeWithin t weeks prices some 1 (high - 1) first) where
@@ -168,7 +168,7 @@ module _ (t : ScenarioTables) (weeks prices all : ℕ) (some : 1 ≤ prices) whe
             then_read-same (second first left) (then_rows n_left after_two) (λ b. then_rows (suc n) part (split_tree one first b.0, b.1)) joined ∙
             sym (then_read-then (second first left) (λ b. Ok (split_tree one first b.0, b.1)) (then_rows (suc n) part))
 
-      abbrev trees : Tree × Reading → Result (Tree × Reading) Fault
+      abbrev trees : Tree × Reading → Result (Tree × Reading) LineFault
       trees a = then_read (second a.0 a.1) (λ b. Ok (split_tree one a.0 b.0, b.1))
 
       trees-walk : (left : Reading) → read_layout (rows n after_one) left ≡
@@ -184,7 +184,7 @@ module _ (t : ScenarioTables) (weeks prices all : ℕ) (some : 1 ≤ prices) whe
           (λ a is. second-walks a.0 (within a is) a.1) ∙
           sym (then_read-then front trees (then_rows (suc n) part))
 
-    split-walks : (more : 1 < high) (r : Result (Fact × Reading) Fault) →
+    split-walks : (more : 1 < high) (r : Result (Fact × Reading) LineFault) →
         then_read (then_read r (λ z. Ok (and_split part z.0, z.1))) next ≡
         then_read (then_read r (λ z. then_read (read_layout (tree_within t weeks prices depth 1 (high - 1)) z.1) (trees z.0 more)))
         (then_rows (suc n) part)
@@ -227,7 +227,7 @@ module _ (t : ScenarioTables) (weeks prices all : ℕ) (some : 1 ≤ prices) whe
   unfolding tree_nodes read_layout repeat
   rows-are-tree start above =
       let whole = read_layout (tree_within t weeks prices all all all) start in
-      let nodes : PartTables × Reading → Result (List NodeTables × Reading) Fault = λ x. Ok (x.0.nodes, x.1) in
+      let nodes : PartTables × Reading → Result (List NodeTables × Reading) LineFault = λ x. Ok (x.0.nodes, x.1) in
       let n = 2 * all - 1 in
       let place : IsPlace all all n no_nodes = record {
         above = above;
@@ -244,20 +244,20 @@ module _ (t : ScenarioTables) (weeks prices all : ℕ) (some : 1 ≤ prices) whe
       ap (λ (m : ℕ). then_read (read_layout (rows m (and_tree no_nodes a.0)) a.1) nodes) no_row in
       then_read-same whole (λ a. Ok (nodes_of a.0, a.1)) (λ a. then_read (then_rows n no_nodes a) nodes) none ∙
       sym (then_read-then whole (then_rows n no_nodes) nodes) ∙
-      ap (λ (r : Result (PartTables × Reading) Fault). then_read r nodes) (sym (walks all all all n no_nodes start (omega arith) place))
+      ap (λ (r : Result (PartTables × Reading) LineFault). then_read r nodes) (sym (walks all all all n no_nodes start (omega arith) place))
 
 -- ---- the tree that its nodes make
 
-abbrev nodes_read_as : List NodeTables × Reading → Result (List NodeTables × Reading) Fault
+abbrev nodes_read_as : List NodeTables × Reading → Result (List NodeTables × Reading) LineFault
 nodes_read_as x = Ok x
 
-abbrev nodes_read : Tree × Reading → Result (List NodeTables × Reading) Fault
+abbrev nodes_read : Tree × Reading → Result (List NodeTables × Reading) LineFault
 nodes_read a = Ok (nodes_of a.0, a.1)
 
 ok-same : (one other : List NodeTables × Reading) → nodes_read_as one ≡ nodes_read_as other → one ≡ other
 ok-same one other h = cc
 
-pub nodes-made : (r : Result (Tree × Reading) Fault) (list : List NodeTables) (left : Reading) → then_read r nodes_read ≡ Ok (list, left) →
+pub nodes-made : (r : Result (Tree × Reading) LineFault) (list : List NodeTables) (left : Reading) → then_read r nodes_read ≡ Ok (list, left) →
     (list ≡ nodes_of (tree_of list)) × (r ≡ Ok (tree_of list, left))
 nodes-made (Err e) list left h = absurd (cc h)
 nodes-made (Ok a) list left h =
@@ -269,7 +269,7 @@ nodes-made (Ok a) list left h =
       ap (λ (one : Tree). Ok (one, a.1)) (sym made) ∙ ap (λ (after : Reading). Ok (tree_of list, after)) rest,
     )
 
-pub nodes-fail : (r : Result (Tree × Reading) Fault) (e : Stop) → Fails e (then_read r nodes_read) → Fails e r
+pub nodes-fail : (r : Result (Tree × Reading) LineFault) (e : LayoutError) → Fails e (then_read r nodes_read) → Fails e r
 nodes-fail r stops.Memory h = tt
 nodes-fail (Ok a) (stops.Fault f) h = absurd (cc h)
 nodes-fail (Err d) (stops.Fault f) h = let same : d ≡ f = cc h in ap Err same
@@ -281,7 +281,7 @@ module _ (t : ScenarioTables) (weeks prices leaves : ℕ) (start : Reading) wher
   unfolding tree_nodes read_layout
   tree-made list left h = nodes-made (read_layout (tree t weeks prices leaves) start) list left h
 
-  pub tree-fails : (e : Stop) → Fails e (read_layout (tree_nodes t weeks prices leaves) start) →
+  pub tree-fails : (e : LayoutError) → Fails e (read_layout (tree_nodes t weeks prices leaves) start) →
       Fails e (read_layout (tree t weeks prices leaves) start)
   unfolding tree_nodes read_layout
   tree-fails e h = nodes-fail (read_layout (tree t weeks prices leaves) start) e h

@@ -18,7 +18,7 @@ use rota_core::{
     CaseTree, Certificate, FileFault, FileName, Kind, Leaf, MAX_NUMBER, MAX_PRICE, Node, Prices,
     Scenario,
 };
-use rota_layout::{Cursor, Stop};
+use rota_layout::{Cursor, LayoutError};
 use std::alloc::Global;
 
 /// The word that a node begins with.
@@ -75,7 +75,7 @@ fn table_row(
     alloc: Global,
     scenario: &Scenario,
     tables: &mut Vec<Prices>,
-) -> Result<(), Stop>
+) -> Result<(), LayoutError>
     ensures { Reads (λ _. tables.new.items) result cursor.new (read_layout (table_row scenario.now tables.old.items) cursor.old) }
 {
     let table = price_table(cursor, alloc, scenario)?;
@@ -89,7 +89,7 @@ fn table_rows(
     alloc: Global,
     scenario: &Scenario,
     weeks: u8,
-) -> Result<Vec<Prices>, Stop>
+) -> Result<Vec<Prices>, LayoutError>
     ensures { Reads (λ v. v.items) result cursor.new (read_layout (repeat weeks (table_row scenario.now) []) cursor.old) }
 {
     let mut tables = Vec::new(alloc);
@@ -107,7 +107,7 @@ fn list_row(
     scenario: &Scenario,
     weeks: u8,
     lists: &mut Vec<Vec<Prices>>,
-) -> Result<(), Stop>
+) -> Result<(), LayoutError>
     ensures { Reads (λ _. lists_of lists.new.items) result cursor.new (read_layout (list_row scenario.now weeks (lists_of lists.old.items)) cursor.old) }
 {
     let tables = table_rows(cursor, alloc, scenario, weeks)?;
@@ -122,7 +122,7 @@ fn list_rows(
     scenario: &Scenario,
     weeks: u8,
     count: u16,
-) -> Result<Vec<Vec<Prices>>, Stop>
+) -> Result<Vec<Vec<Prices>>, LayoutError>
     ensures { Reads (λ v. lists_of v.items) result cursor.new (read_layout (repeat count (list_row scenario.now weeks) []) cursor.old) }
 {
     let mut lists = Vec::new(alloc);
@@ -134,7 +134,7 @@ fn list_rows(
 
 // Reads one more surcharge.
 #[tactic(auto, unfolding(crate::specs::CertificateLayout::surcharge_row, rota_layout::specs::Reading::read_layout))]
-fn surcharge_row(cursor: &mut Cursor<'_>, surcharges: &mut Vec<u32>) -> Result<(), Stop>
+fn surcharge_row(cursor: &mut Cursor<'_>, surcharges: &mut Vec<u32>) -> Result<(), LayoutError>
     ensures { Reads (λ _. surcharges.new.items) result cursor.new (read_layout (surcharge_row surcharges.old.items) cursor.old) }
 {
     let surcharge = cursor.long_number(0, MAX_PRICE)?;
@@ -143,7 +143,11 @@ fn surcharge_row(cursor: &mut Cursor<'_>, surcharges: &mut Vec<u32>) -> Result<(
 
 // Reads this number of surcharges.
 #[tactic(auto, using(rota_layout::proofs::ReadingLaws::row_steps))]
-fn surcharge_rows(cursor: &mut Cursor<'_>, alloc: Global, count: u16) -> Result<Vec<u32>, Stop>
+fn surcharge_rows(
+    cursor: &mut Cursor<'_>,
+    alloc: Global,
+    count: u16,
+) -> Result<Vec<u32>, LayoutError>
     ensures { Reads (λ v. v.items) result cursor.new (read_layout (repeat count surcharge_row []) cursor.old) }
 {
     let mut surcharges = Vec::new(alloc);
@@ -155,7 +159,7 @@ fn surcharge_rows(cursor: &mut Cursor<'_>, alloc: Global, count: u16) -> Result<
 
 // The rest of a leaf, for this number of prices.
 #[tactic(auto, unfolding(crate::specs::CertificateLayout::leaf, rota_layout::specs::Reading::read_layout))]
-fn leaf(cursor: &mut Cursor<'_>, alloc: Global, prices: u16) -> Result<Leaf, Stop>
+fn leaf(cursor: &mut Cursor<'_>, alloc: Global, prices: u16) -> Result<Leaf, LayoutError>
     requires { 1 ≤ prices }
     ensures { Reads leaf_of result cursor.new (read_layout (leaf prices) cursor.old) }
 {
@@ -170,7 +174,7 @@ fn leaf(cursor: &mut Cursor<'_>, alloc: Global, prices: u16) -> Result<Leaf, Sto
 
 // The word of the next node of the tree.
 #[tactic(auto, unfolding(crate::specs::FactsLayout::keyword, rota_layout::specs::Reading::read_layout))]
-fn node_word(cursor: &mut Cursor<'_>, tree: &TreeRows, all: u16) -> Result<NodeWord, Stop>
+fn node_word(cursor: &mut Cursor<'_>, tree: &TreeRows, all: u16) -> Result<NodeWord, LayoutError>
     ensures read { Reads (λ word. word) result cursor.new (read_layout (keyword (node_word (may_split all (part_of tree.now)) (may_end all (part_of tree.now)))) cursor.old) }
     ensures split { IfOk result (λ word. word ≡ NodeWord.Split → tree.now.splits + 1 < 2 ^ 16) }
     ensures leaf { IfOk result (λ word. word ≡ NodeWord.Leaf → tree.now.leaves + 1 < 2 ^ 16) }
@@ -192,7 +196,7 @@ fn node_row(
     prices: u16,
     all: u16,
     tree: &mut TreeRows,
-) -> Result<(), Stop>
+) -> Result<(), LayoutError>
     requires { 1 ≤ prices }
     ensures { Reads (λ _. part_of tree.new) result cursor.new (read_layout (node_row scenario.now weeks prices all (part_of tree.old)) cursor.old) }
 {
@@ -220,7 +224,7 @@ fn node_rows(
     weeks: u8,
     prices: u16,
     all: u16,
-) -> Result<TreeRows, Stop>
+) -> Result<TreeRows, LayoutError>
     requires prices { 1 ≤ prices }
     requires all { 1 ≤ all }
     ensures { Reads part_of result cursor.new (read_layout (repeat (2 * all - 1) (node_row scenario.now weeks prices all) no_nodes) cursor.old) }
@@ -246,7 +250,7 @@ fn tree_nodes(
     weeks: u8,
     prices: u16,
     leaves: u16,
-) -> Result<Vec<Node>, Stop>
+) -> Result<Vec<Node>, LayoutError>
     requires prices { 1 ≤ prices }
     requires some { 1 ≤ leaves }
     ensures { Reads (λ nodes. map node_of nodes.items) result cursor.new (read_layout (tree_nodes scenario.now weeks prices leaves) cursor.old) }
@@ -264,7 +268,7 @@ fn tree(
     weeks: u8,
     prices: u16,
     leaves: u16,
-) -> Result<CaseTree, Stop>
+) -> Result<CaseTree, LayoutError>
     requires prices { 1 ≤ prices }
     requires some { 1 ≤ leaves }
     ensures { Reads (λ tree. tree) result cursor.new (read_layout (tree scenario.now weeks prices leaves) cursor.old) }
@@ -280,7 +284,7 @@ fn whole_certificate(
     scenario: &Scenario,
     weeks: u8,
     text: &[u8],
-) -> Result<Certificate, Stop>
+) -> Result<Certificate, LayoutError>
     ensures { ReadsFile certificate_of result (read_text (certificate scenario.now weeks) text.now) }
 {
     let mut cursor = Cursor::open(text)?;

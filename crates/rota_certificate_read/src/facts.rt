@@ -15,7 +15,7 @@ use rota_core::{
     ChargeKind, ChargeLimit, Condition, DayChoice, Fact, FileFault, FileName, Kind, MAX_NUMBER,
     NurseLimit, Scenario,
 };
-use rota_layout::{Cursor, Stop};
+use rota_layout::{Cursor, LayoutError};
 use std::alloc::Global;
 
 /// Facts about all plans.
@@ -86,7 +86,7 @@ fn is_first(first: &[u8], second: &[u8], word: &[u8]) -> Option<bool>
 }
 
 #[tactic(auto, unfolding(crate::specs::FactsLayout::keyword, rota_layout::specs::Reading::read_layout))]
-fn next_fact_word(cursor: &mut Cursor<'_>) -> Result<FactWord, Stop>
+fn next_fact_word(cursor: &mut Cursor<'_>) -> Result<FactWord, LayoutError>
     ensures { Reads (λ word. word) result cursor.new (read_layout (keyword fact_word) cursor.old) }
 {
     let token = cursor.token()?;
@@ -94,7 +94,7 @@ fn next_fact_word(cursor: &mut Cursor<'_>) -> Result<FactWord, Stop>
 }
 
 #[tactic(auto, unfolding(crate::specs::FactsLayout::keyword, rota_layout::specs::Reading::read_layout))]
-fn next_charge_kind(cursor: &mut Cursor<'_>) -> Result<ChargeKind, Stop>
+fn next_charge_kind(cursor: &mut Cursor<'_>) -> Result<ChargeKind, LayoutError>
     ensures { Reads (λ kind. kind) result cursor.new (read_layout (keyword charge_kind) cursor.old) }
 {
     let token = cursor.token()?;
@@ -103,7 +103,7 @@ fn next_charge_kind(cursor: &mut Cursor<'_>) -> Result<ChargeKind, Stop>
 
 // Whether the next token is the first of two words; otherwise it is the second.
 #[tactic(auto, unfolding(crate::specs::FactsLayout::one_of_two, crate::specs::FactsLayout::keyword, rota_layout::specs::Reading::read_layout))]
-fn one_of_two(cursor: &mut Cursor<'_>, first: &[u8], second: &[u8]) -> Result<bool, Stop>
+fn one_of_two(cursor: &mut Cursor<'_>, first: &[u8], second: &[u8]) -> Result<bool, LayoutError>
     ensures { Reads (λ is. is) result cursor.new (read_layout (one_of_two first.now second.now) cursor.old) }
 {
     let token = cursor.token()?;
@@ -112,7 +112,7 @@ fn one_of_two(cursor: &mut Cursor<'_>, first: &[u8], second: &[u8]) -> Result<bo
 
 // Whether the next fact holds, and the line that it begins on.
 #[tactic(auto, unfolding(crate::specs::FactsLayout::keyword_on_line, rota_layout::specs::Reading::read_layout))]
-fn beginning(cursor: &mut Cursor<'_>) -> Result<(bool, u32), Stop>
+fn beginning(cursor: &mut Cursor<'_>) -> Result<(bool, u32), LayoutError>
     ensures { Reads (λ first. first) result cursor.new (read_layout (keyword_on_line (is_first (codes "HOLDS") (codes "NOT"))) cursor.old) }
 {
     let token = cursor.token()?;
@@ -124,7 +124,7 @@ fn beginning(cursor: &mut Cursor<'_>) -> Result<(bool, u32), Stop>
 
 // A week, from 0.
 #[tactic(auto, unfolding(crate::specs::FactsLayout::week_number, rota_layout::specs::Reading::read_layout))]
-fn week_number(cursor: &mut Cursor<'_>, weeks: u8) -> Result<u8, Stop>
+fn week_number(cursor: &mut Cursor<'_>, weeks: u8) -> Result<u8, LayoutError>
     ensures { Reads (λ week. week) result cursor.new (read_layout (week_number weeks) cursor.old) }
 {
     let number = cursor.number(1, u16::from(weeks))?;
@@ -132,7 +132,11 @@ fn week_number(cursor: &mut Cursor<'_>, weeks: u8) -> Result<u8, Stop>
 }
 
 #[tactic(auto, unfolding(crate::specs::FactsLayout::day_choice, rota_layout::specs::Reading::read_layout))]
-fn day_choice(cursor: &mut Cursor<'_>, scenario: &Scenario, weeks: u8) -> Result<DayChoice, Stop>
+fn day_choice(
+    cursor: &mut Cursor<'_>,
+    scenario: &Scenario,
+    weeks: u8,
+) -> Result<DayChoice, LayoutError>
     ensures { Reads (λ one. one) result cursor.new (read_layout (day_choice scenario.now weeks) cursor.old) }
 {
     let week = week_number(cursor, weeks)?;
@@ -148,7 +152,11 @@ fn day_choice(cursor: &mut Cursor<'_>, scenario: &Scenario, weeks: u8) -> Result
 }
 
 #[tactic(auto, unfolding(crate::specs::FactsLayout::nurse_limit, rota_layout::specs::Reading::read_layout))]
-fn nurse_limit(cursor: &mut Cursor<'_>, scenario: &Scenario, weeks: u8) -> Result<NurseLimit, Stop>
+fn nurse_limit(
+    cursor: &mut Cursor<'_>,
+    scenario: &Scenario,
+    weeks: u8,
+) -> Result<NurseLimit, LayoutError>
     ensures { Reads (λ one. one) result cursor.new (read_layout (nurse_limit scenario.now weeks) cursor.old) }
 {
     let week = week_number(cursor, weeks)?;
@@ -171,7 +179,7 @@ fn nurse_unless(
     cursor: &mut Cursor<'_>,
     scenario: &Scenario,
     all: bool,
-) -> Result<Option<u16>, Stop>
+) -> Result<Option<u16>, LayoutError>
     ensures { Reads (λ nurse. nurse) result cursor.new (read_layout (nurse_unless scenario.now all) cursor.old) }
 {
     if all {
@@ -181,7 +189,7 @@ fn nurse_unless(
 }
 
 #[tactic(auto, unfolding(crate::specs::FactsLayout::charge_limit, rota_layout::specs::Reading::read_layout))]
-fn charge_limit(cursor: &mut Cursor<'_>, scenario: &Scenario) -> Result<ChargeLimit, Stop>
+fn charge_limit(cursor: &mut Cursor<'_>, scenario: &Scenario) -> Result<ChargeLimit, LayoutError>
     ensures { Reads (λ one. one) result cursor.new (read_layout (charge_limit scenario.now) cursor.old) }
 {
     let kind = next_charge_kind(cursor)?;
@@ -193,7 +201,7 @@ fn charge_limit(cursor: &mut Cursor<'_>, scenario: &Scenario) -> Result<ChargeLi
 
 /// A fact about a plan of this number of weeks.
 #[tactic(auto, unfolding(crate::specs::FactsLayout::fact, crate::specs::FactsLayout::fact_after, rota_layout::specs::Reading::read_layout))]
-pub fn fact(cursor: &mut Cursor<'_>, scenario: &Scenario, weeks: u8) -> Result<Fact, Stop>
+pub fn fact(cursor: &mut Cursor<'_>, scenario: &Scenario, weeks: u8) -> Result<Fact, LayoutError>
     ensures { Reads (λ one. one) result cursor.new (read_layout (fact scenario.now weeks) cursor.old) }
 {
     match next_fact_word(cursor)? {
@@ -211,7 +219,7 @@ fn condition_row(
     scenario: &Scenario,
     weeks: u8,
     given: &mut GivenFacts,
-) -> Result<(), Stop>
+) -> Result<(), LayoutError>
     ensures { Reads (λ _. given_of given.new) result cursor.new (read_layout (condition_row scenario.now weeks (given_of given.old)) cursor.old) }
 {
     let (holds, line) = beginning(cursor)?;
@@ -228,7 +236,7 @@ fn condition_rows(
     scenario: &Scenario,
     weeks: u8,
     count: u16,
-) -> Result<GivenFacts, Stop>
+) -> Result<GivenFacts, LayoutError>
     ensures { Reads given_of result cursor.new (read_layout (repeat count (condition_row scenario.now weeks) no_facts) cursor.old) }
 {
     let mut given = GivenFacts {
@@ -248,7 +256,7 @@ fn whole_facts(
     scenario: &Scenario,
     weeks: u8,
     text: &[u8],
-) -> Result<GivenFacts, Stop>
+) -> Result<GivenFacts, LayoutError>
     ensures { ReadsFile given_of result (read_text (facts scenario.now weeks) text.now) }
 {
     let mut cursor = Cursor::open(text)?;

@@ -8,13 +8,13 @@ ghost use Rattle.rota_certificate_read.specs.PricesLayout.{price_row, price_tabl
 ghost use Rattle.rota_layout.specs.Reading.{read_layout, Reads};
 
 use rota_core::{DAYS, MAX_NUMBER, MAX_PRICE, Prices, Scenario};
-use rota_layout::{Cursor, Stop, day_table};
+use rota_layout::{Cursor, LayoutError, day_table};
 use std::alloc::{AllocError, Global};
 
 /// The prices of Monday to Sunday, if a row has them.
 type PriceRow = Option<[u32; DAYS as usize]>;
 
-fn price(cursor: &mut Cursor<'_>) -> Result<u32, Stop>
+fn price(cursor: &mut Cursor<'_>) -> Result<u32, LayoutError>
     ensures { Reads (λ price. price) result cursor.new (read_layout (number 0 max_price) cursor.old) }
 {
     cursor.long_number(0, MAX_PRICE)
@@ -22,7 +22,7 @@ fn price(cursor: &mut Cursor<'_>) -> Result<u32, Stop>
 
 // The prices of Monday to Sunday.
 #[tactic(auto, unfolding(rota_layout::specs::Layout::many, rota_layout::specs::Layout::repeat, rota_layout::specs::Layout::one_more, rota_layout::specs::Reading::read_layout))]
-fn prices_of_days(cursor: &mut Cursor<'_>) -> Result<[u32; DAYS as usize], Stop>
+fn prices_of_days(cursor: &mut Cursor<'_>) -> Result<[u32; DAYS as usize], LayoutError>
     ensures { Reads (λ prices. prices) result cursor.new (read_layout (many DAYS (λ _. number 0 max_price)) cursor.old) }
 {
     let monday = price(cursor)?;
@@ -43,7 +43,7 @@ fn price_row(
     cursor: &mut Cursor<'_>,
     scenario: &Scenario,
     rows: &mut [PriceRow],
-) -> Result<(), Stop>
+) -> Result<(), LayoutError>
     requires { length rows.old ≡ length scenario.now.shifts * length scenario.now.skills }
     ensures { Reads (λ _. rows.new) result cursor.new (read_layout (price_row scenario.now rows.old) cursor.old) }
 {
@@ -60,7 +60,7 @@ fn price_rows(
     scenario: &Scenario,
     count: u16,
     rows: &mut [PriceRow],
-) -> Result<(), Stop>
+) -> Result<(), LayoutError>
     requires { length rows.old ≡ length scenario.now.shifts * length scenario.now.skills }
     ensures { Reads (λ _. rows.new) result cursor.new (read_layout (repeat count (price_row scenario.now) rows.old) cursor.old) }
 {
@@ -76,7 +76,7 @@ fn prices_of_rows(
     cursor: &mut Cursor<'_>,
     alloc: Global,
     scenario: &Scenario,
-) -> Result<Vec<u32>, Stop>
+) -> Result<Vec<u32>, LayoutError>
     ensures { Reads (λ v. table_for scenario.now v.items) result cursor.new (read_layout (price_table scenario.now) cursor.old) }
 {
     let count = cursor.setting(b"ROWS", 0, MAX_NUMBER)?;
@@ -90,7 +90,7 @@ pub fn price_table(
     cursor: &mut Cursor<'_>,
     alloc: Global,
     scenario: &Scenario,
-) -> Result<Prices, Stop>
+) -> Result<Prices, LayoutError>
     ensures read { Reads (λ p. p) result cursor.new (read_layout (price_table scenario.now) cursor.old) }
     ensures shifts { IfOk result (λ p. p.shifts ≡ length scenario.now.shifts) }
     ensures skills { IfOk result (λ p. p.skills ≡ length scenario.now.skills) }

@@ -1,14 +1,14 @@
 -- Reading the rest of a row of days: its pair, and then its values.
 use Rattle.std.proofs.Common.{◌≡◌, ℕ, Bool, List, Some, Result, Ok, Err, length, slice_set, refl}
 use Rattle.rota_core.specs.Sizes.{DAYS}
-use Rattle.rota_layout.specs.declared.fault.Fault.{Fault}
+use Rattle.rota_layout.specs.declared.fault.LineFault.{LineFault}
 use Rattle.rota_layout.specs.Layout.{Layout, end, ◌>>=◌, has_row, known_name, many}
 use Rattle.rota_layout.specs.DayPairs.{new_pair}
 use Rattle.rota_layout.specs.DayRows.{DayRows, day_row, pair_index}
 use Rattle.rota_layout.specs.Reading.{Reading, then_read, read_layout}
 
 -- a value may be changed before the part that follows, or in it
-then_changed : {X Y B : Type 0} (r : Result (X × Reading) Fault) (f : X → Y) (after : Y → Reading → Result B Fault) →
+then_changed : {X Y B : Type 0} (r : Result (X × Reading) LineFault) (f : X → Y) (after : Y → Reading → Result B LineFault) →
     then_read r (λ x. after (f x.0) x.1) ≡
     then_read {A = Y × Reading} (then_read {B = Y × Reading} r (λ x. Ok (f x.0, x.1))) (λ y. after y.0 y.1)
 then_changed (Ok x) f after = refl

@@ -3,9 +3,9 @@ use Rattle.std.proofs.Common.{◌≡◌, ℕ, ◌≤◌, ◌<◌, true, false, n
 use Rattle.std.proofs.lemmas.Bool.Decides.{nat_tests}
 use Rattle.rota_core.specs.Limits.{max_file_len}
 use Rattle.rota_core.specs.declared.fault.Kind.TheVariants as kinds
-use Rattle.rota_layout.specs.declared.fault.Fault.{Fault}
-use Rattle.rota_layout.specs.declared.fault.Stop.{Stop}
-use Rattle.rota_layout.specs.declared.fault.Stop.TheVariants as stops
+use Rattle.rota_layout.specs.declared.fault.LayoutError.{LayoutError}
+use Rattle.rota_layout.specs.declared.fault.LayoutError.TheVariants as stops
+use Rattle.rota_layout.specs.declared.fault.LineFault.{LineFault}
 use Rattle.rota_layout.specs.Layout.{Layout}
 use Rattle.rota_layout.specs.Reading.{then_read, read_layout, check_end, begin, opened, read_text, Fails}
 
@@ -33,13 +33,13 @@ unfolding read_text opened
 read_long l text long = rw (longer (length text) long) refl
 
 -- the part after the first one may be replaced
-pub then_read-same : {A B : Type 0} (r : Result A Fault) (f g : A → Result B Fault) → ((a : A) → r ≡ Ok a → f a ≡ g a) →
+pub then_read-same : {A B : Type 0} (r : Result A LineFault) (f g : A → Result B LineFault) → ((a : A) → r ≡ Ok a → f a ≡ g a) →
     then_read r f ≡ then_read r g
 then_read-same (Ok a) f g same = same a refl
 then_read-same (Err e) f g same = refl
 
 -- reading the first part fails
-pub front_fails : {A B : Type 0} (front : Result A Fault) (after : A → Result B Fault) (e : Stop) → Fails e front →
+pub front_fails : {A B : Type 0} (front : Result A LineFault) (after : A → Result B LineFault) (e : LayoutError) → Fails e front →
     Fails e (then_read front after)
 front_fails front after stops.Memory h = tt
 front_fails front after (stops.Fault f) h = ap (λ r. then_read r after) h

@@ -7,9 +7,9 @@ use Rattle.std.proofs.lemmas.List.{append-nil}
 use Rattle.rota_core.specs.declared.fault.Kind.{Kind}
 use Rattle.rota_core.specs.declared.fault.Kind.TheVariants as kinds
 use Rattle.rota_core.specs.declared.fault.FileName.{FileName}
-use Rattle.rota_layout.specs.declared.fault.Fault.{Fault}
-use Rattle.rota_layout.specs.declared.fault.Stop.{Stop}
-use Rattle.rota_layout.specs.declared.fault.Stop.TheVariants as stops
+use Rattle.rota_layout.specs.declared.fault.LayoutError.{LayoutError}
+use Rattle.rota_layout.specs.declared.fault.LayoutError.TheVariants as stops
+use Rattle.rota_layout.specs.declared.fault.LineFault.{LineFault}
 use Rattle.rota_layout.specs.FileFaults.{fault_in}
 use Rattle.rota_layout.specs.Tokens.{Token, tokens}
 use Rattle.rota_layout.specs.Reading.{Reading, then_read, filled_by, fill, read_layout, check_end, begin, read_text, Fails}
@@ -29,7 +29,7 @@ last_line-append line (t ∷ xs) ys = last_line-append t.line xs ys
 -- ---- tokens that fill a layout are read
 
 -- the result of a first part, and then of the parts that follow it
-read-bind : {A B : Type 0} (l : Layout A) (f : A → Layout B) (left : Reading) (r : Result (A × Reading) Fault) → read_layout l left ≡ r →
+read-bind : {A B : Type 0} (l : Layout A) (f : A → Layout B) (left : Reading) (r : Result (A × Reading) LineFault) → read_layout l left ≡ r →
     read_layout (l >>= f) left ≡ then_read r (λ x. read_layout (f x.0) x.1)
 unfolding read_layout
 read-bind l f left r h = ap (λ r. then_read r (λ x. read_layout (f x.0) x.1)) h
@@ -63,7 +63,7 @@ read-fills (l >>= f) front rest last value h =
 
 -- ---- a token that misses a slot is the fault
 
-misses-fill : {V : Type 0} (read : Token → Result V Kind) (last : ℕ) (all : List Token) (fault : Fault) →
+misses-fill : {V : Type 0} (read : Token → Result V Kind) (last : ℕ) (all : List Token) (fault : LineFault) →
     Misses (slot read) all (last_line_from last all) fault → fill read last all ≡ Err fault
 unfolding Misses
 misses-fill read last [] fault h = ap Err (sym h)
@@ -71,7 +71,7 @@ misses-fill read last (t ∷ rest) fault h =
     ap (λ r. filled_by r t rest) h.0 ∙ ap (λ n. Err (record { kind = fault.kind; line = n })) (sym h.1)
 
 -- the first slot that is missed is the fault that reading finds
-pub read-misses : {V : Type 0} (l : Layout V) (all : List Token) (last : ℕ) (fault : Fault) →
+pub read-misses : {V : Type 0} (l : Layout V) (all : List Token) (last : ℕ) (fault : LineFault) →
     Misses l all (last_line_from last all) fault → read_layout l (at last all) ≡ Err fault
 unfolding Misses read_layout
 read-misses (end v) all last fault h = absurd h
@@ -91,17 +91,17 @@ read-misses {V} (◌>>=◌ {A} l f) all last fault h =
 
 -- ---- the tokens that are read fill the layout
 
-and_then-ok : {A B : Type 0} (r : Result A Fault) (f : A → Result B Fault) (b : B) → then_read r f ≡ Ok b →
+and_then-ok : {A B : Type 0} (r : Result A LineFault) (f : A → Result B LineFault) (b : B) → then_read r f ≡ Ok b →
     (a : A) × (r ≡ Ok a) × (f a ≡ Ok b)
 and_then-ok (Ok a) f b h = (a, refl, h)
 and_then-ok (Err e) f b h = absurd (cc)
 
-and_then-err : {A B : Type 0} (r : Result A Fault) (f : A → Result B Fault) (e : Fault) → then_read r f ≡ Err e →
+and_then-err : {A B : Type 0} (r : Result A LineFault) (f : A → Result B LineFault) (e : LineFault) → then_read r f ≡ Err e →
     (r ≡ Err e) ⊎ ((a : A) × (r ≡ Ok a) × (f a ≡ Err e))
 and_then-err (Ok a) f e h = inr (a, refl, h)
 and_then-err (Err d) f e h = let same : d ≡ e = cc in inl (ap Err same)
 
-abbrev ok : {A : Type 0} → A → Result A Fault
+abbrev ok : {A : Type 0} → A → Result A LineFault
 ok x = Ok x
 
 ok_same : {A : Type 0} (x y : A) → ok x ≡ ok y → x ≡ y
@@ -148,20 +148,20 @@ fills-read {V} (◌>>=◌ {A} l f) last all value after h =
 
 -- ---- the fault that reading finds misses a slot
 
-filled-err : {V : Type 0} (r : Result V Kind) (t : Token) (rest : List Token) (fault : Fault) → filled_by r t rest ≡ Err fault →
+filled-err : {V : Type 0} (r : Result V Kind) (t : Token) (rest : List Token) (fault : LineFault) → filled_by r t rest ≡ Err fault →
     (r ≡ Err fault.kind) × (fault.line ≡ t.line)
 filled-err (Ok v) t rest fault h = absurd (cc)
 filled-err (Err kind) t rest fault h =
     let e : record { kind = kind; line = t.line } ≡ fault = cc in
-    (ap (λ (d : Fault). Err d.kind) e, sym (ap (λ (d : Fault). d.line) e))
+    (ap (λ (d : LineFault). Err d.kind) e, sym (ap (λ (d : LineFault). d.line) e))
 
-fill-err : {V : Type 0} (read : Token → Result V Kind) (last : ℕ) (all : List Token) (fault : Fault) → fill read last all ≡ Err fault →
+fill-err : {V : Type 0} (read : Token → Result V Kind) (last : ℕ) (all : List Token) (fault : LineFault) → fill read last all ≡ Err fault →
     Misses (slot read) all (last_line_from last all) fault
 unfolding Misses
 fill-err read last [] fault h = cc
 fill-err read last (t ∷ rest) fault h = filled-err (read t) t rest fault h
 
-pub misses-read : {V : Type 0} (l : Layout V) (last : ℕ) (all : List Token) (fault : Fault) → read_layout l (at last all) ≡ Err fault →
+pub misses-read : {V : Type 0} (l : Layout V) (last : ℕ) (all : List Token) (fault : LineFault) → read_layout l (at last all) ≡ Err fault →
     Misses l all (last_line_from last all) fault
 unfolding Misses read_layout
 misses-read (end v) last all fault h = absurd (cc)
@@ -189,12 +189,12 @@ end-ok : {V : Type 0} (value v : V) (rest : List Token) → then_read (check_end
 end-ok value v [] h = (refl, ok_same value v h)
 end-ok value v (t ∷ rest) h = absurd (cc)
 
-end-err : {V : Type 0} (value : V) (rest : List Token) (fault : Fault) → then_read (check_end rest) (λ _. ok value) ≡ Err fault
+end-err : {V : Type 0} (value : V) (rest : List Token) (fault : LineFault) → then_read (check_end rest) (λ _. ok value) ≡ Err fault
     → (t : Token) × (more : List Token) × (rest ≡ t ∷ more) × (fault ≡ record { kind = kinds.Trailing; line = t.line })
 end-err value [] fault h = absurd (cc)
 end-err value (t ∷ rest) fault h = (t, rest, refl, cc)
 
-abbrev Whole : {V : Type 0} → Layout V → List ℕ → Result V Fault
+abbrev Whole : {V : Type 0} → Layout V → List ℕ → Result V LineFault
 Whole l text = then_read (read_layout l (begin text)) (λ x. then_read (check_end x.1.rest) (λ _. Ok x.0))
 
 module _ {V : Type 0} (l : Layout V) (text : List ℕ) where
@@ -207,7 +207,7 @@ module _ {V : Type 0} (l : Layout V) (text : List ℕ) where
       let filled = subst (λ (xs : List Token). Fills l xs x.0.0) (sym all) one.3 in
       record { short = short; filled = subst (λ v. Fills l (tokens text) v) e.1 filled }
 
-  short-fault : length text ≤ max_file_len → (fault : Fault) → Whole l text ≡ Err fault → HasFault l text fault
+  short-fault : length text ≤ max_file_len → (fault : LineFault) → Whole l text ≡ Err fault → HasFault l text fault
   short-fault short fault h =
       elim (and_then-err (read_layout l (begin text)) (λ x. then_read (check_end x.1.rest) (λ _. Ok x.0)) fault h) as (λ _. HasFault l text fault) [
         | inl here ↦
@@ -235,7 +235,7 @@ module _ {V : Type 0} (l : Layout V) (text : List ℕ) where
       by false e = let short = is_not_longer (length text) e in short-spells short value (sym (read_short l text short) ∙ h)
 
   -- a text has the fault that reading finds
-  pub has_fault-read : (fault : Fault) → read_text l text ≡ Err fault → HasFault l text fault
+  pub has_fault-read : (fault : LineFault) → read_text l text ≡ Err fault → HasFault l text fault
   has_fault-read fault h = by (nat_lt max_file_len (length text)) refl
     where
       by : (b : Bool) → nat_lt max_file_len (length text) ≡ b → HasFault l text fault
@@ -253,7 +253,7 @@ module _ {V : Type 0} (l : Layout V) (text : List ℕ) where
       read_short l text s.short ∙ ap (λ r. then_read r (λ x. then_read (check_end x.1.rest) (λ _. ok x.0))) whole
 
   -- reading finds the fault of a text
-  pub read-has_fault : (fault : Fault) → HasFault l text fault → read_text l text ≡ Err fault
+  pub read-has_fault : (fault : LineFault) → HasFault l text fault → read_text l text ≡ Err fault
   read-has_fault fault (too_long long e) = read_long l text long ∙ ap Err (sym e)
   read-has_fault fault (misses_slot short m) =
       let met : read_layout l (begin text) ≡ Err fault = read-misses l (tokens text) 1 fault m in
@@ -272,13 +272,13 @@ one_meaning {V} l = record {
   never_both = λ text value fault s t. let g = sym (read-spells l text value s) ∙ read-has_fault l text fault t in cc g;
 }
   where
-    by : (text : List ℕ) (r : Result V Fault) → read_text l text ≡ r →
-        ((value : V) × Spells l text value) ⊎ ((fault : Fault) × HasFault l text fault)
+    by : (text : List ℕ) (r : Result V LineFault) → read_text l text ≡ r →
+        ((value : V) × Spells l text value) ⊎ ((fault : LineFault) × HasFault l text fault)
     by text (Ok value) h = inl (value, spells-read l text value h)
     by text (Err fault) h = inr (fault, has_fault-read l text fault h)
 
 -- if reading stops, the text has the fault, or memory ran out
-pub fault_in-read : {V : Type 0} (l : Layout V) (text : List ℕ) (file : FileName) (e : Stop) → Fails e (read_text l text) →
+pub fault_in-read : {V : Type 0} (l : Layout V) (text : List ℕ) (file : FileName) (e : LayoutError) → Fails e (read_text l text) →
     IsFaultOf file l text (fault_in file e)
 fault_in-read l text file stops.Memory h = tt
 fault_in-read l text file (stops.Fault f) h = (refl, has_fault-read l text f h)

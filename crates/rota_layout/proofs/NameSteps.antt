@@ -6,21 +6,21 @@ use Rattle.std.specs.Str.{bytes_eq}
 use Rattle.rota_core.specs.Words.{index_of}
 use Rattle.rota_core.specs.declared.fault.Kind.{Kind}
 use Rattle.rota_core.specs.declared.fault.Kind.TheVariants as kinds
-use Rattle.rota_layout.specs.declared.fault.Fault.{Fault}
+use Rattle.rota_layout.specs.declared.fault.LineFault.{LineFault}
 use Rattle.rota_layout.specs.Tokens.{Token}
 use Rattle.rota_layout.specs.Reading.{Reading, then_read, read_layout}
 use Rattle.rota_layout.specs.Layout.{any_word, is_sign_token, known_name, none_taken, shift_or}
 
 -- the fault of the previous token
-abbrev pub refused : {V : Type 0} → Kind → Reading → Result V Fault
+abbrev pub refused : {V : Type 0} → Kind → Reading → Result V LineFault
 refused kind left = Err (record { kind = kind; line = left.last })
 
 -- an index, if it is not taken
-abbrev pub unless_taken : (ℕ → Bool) → ℕ → Reading → Result (ℕ × Reading) Fault
+abbrev pub unless_taken : (ℕ → Bool) → ℕ → Reading → Result (ℕ × Reading) LineFault
 unless_taken taken index left = if taken index then refused kinds.Repeated left else Ok (index, left)
 
 -- the index that a word names, if it is not taken
-abbrev pub named : List (List ℕ) → (ℕ → Bool) → List ℕ × Reading → Result (ℕ × Reading) Fault
+abbrev pub named : List (List ℕ) → (ℕ → Bool) → List ℕ × Reading → Result (ℕ × Reading) LineFault
 named names taken x = option_map_or (λ index. unless_taken taken index x.1) (index_of names x.0) (refused kinds.Unknown x.1)
 
 -- reading a known name is reading a word, and then the index that it names
@@ -52,7 +52,7 @@ pub known_by_word : (names : List (List ℕ)) (taken : ℕ → Bool) (left : Rea
 known_by_word names taken left = known_from names taken left.last left.rest
 
 -- a known name that is not taken
-taken_after : (names : List (List ℕ)) (taken : ℕ → Bool) (word : Result (List ℕ × Reading) Fault) →
+taken_after : (names : List (List ℕ)) (taken : ℕ → Bool) (word : Result (List ℕ × Reading) LineFault) →
     then_read word (named names taken) ≡ then_read (then_read word (named names none_taken)) (λ x. unless_taken taken x.0 x.1)
 taken_after names taken (Err e) = refl
 taken_after names taken (Ok x) = at (index_of names x.0)
@@ -69,7 +69,7 @@ known_taken names taken left =
     rw (known_by_word names taken left, known_by_word names none_taken left) (taken_after names taken (read_layout any_word left))
 
 -- the shift type that a word names, or `None` for this word
-abbrev pub shift_named : List ℕ → List (List ℕ) → List ℕ × Reading → Result (Option ℕ × Reading) Fault
+abbrev pub shift_named : List ℕ → List (List ℕ) → List ℕ × Reading → Result (Option ℕ × Reading) LineFault
 shift_named none shifts x =
     if bytes_eq x.0 none then Ok (None, x.1)
     else option_map_or (λ shift. Ok (Some shift, x.1)) (index_of shifts x.0) (refused kinds.Unknown x.1)

@@ -1,6 +1,6 @@
 -- Reading rows one after the other, as a loop does.
 use Rattle.std.proofs.Common.{◌≡◌, ℕ, suc, ◌+◌, ◌-◌, ◌<◌, ◌≤◌, Ok, refl, arith}
-use Rattle.rota_layout.specs.declared.fault.Stop.{Stop}
+use Rattle.rota_layout.specs.declared.fault.LayoutError.{LayoutError}
 use Rattle.rota_layout.specs.Reading.{Reading, then_read, read_layout, Fails}
 use Rattle.rota_layout.specs.Layout.{Layout, repeat}
 use Rattle.rota_layout.proofs.EndLemmas.{front_fails}
@@ -15,7 +15,7 @@ module _ {S : Type 0} (row : S → Layout S) (state : S) (count i : ℕ) (left :
       rw k refl
 
   -- a row was not read
-  pub row_fails : (e : Stop) → i < count → Fails e (read_layout (row state) left) → Fails e (read_layout (repeat (count - i) row state) left)
+  pub row_fails : (e : LayoutError) → i < count → Fails e (read_layout (row state) left) → Fails e (read_layout (repeat (count - i) row state) left)
   row_fails e lt h =
       rw (next_row lt) (front_fails (read_layout (row state) left) (λ x. read_layout (repeat (count - (i + 1)) row x.0) x.1) e h)
 

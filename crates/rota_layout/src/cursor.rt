@@ -5,7 +5,7 @@ ghost use Rattle.rota_core.specs.Words.{is_whitespace as blank_byte, is_sign as 
 ghost use Rattle.rota_layout.specs.TokenLines.{tokens_from};
 ghost use Rattle.rota_layout.specs.Reading.{opened, ReadsFile};
 
-use crate::fault::{Fault, Stop};
+use crate::fault::{LayoutError, LineFault};
 use rota_core::{Kind, MAX_FILE_LEN};
 use std::marker::Model;
 
@@ -89,11 +89,11 @@ impl<'a> Model for Cursor<'a> {
 impl<'a> Cursor<'a> {
     /// The start of the text. It fails with `Limit` on line 0 if the text has more than `MAX_FILE_LEN` bytes.
     #[tactic(auto, unfolding(crate::specs::Reading::opened))]
-    pub fn open(text: &'a [u8]) -> Result<Self, Stop>
+    pub fn open(text: &'a [u8]) -> Result<Self, LayoutError>
         ensures { ReadsFile (λ cursor. cursor) result (opened text.now) }
     {
         if text.len() > MAX_FILE_LEN {
-            return Err(Stop::Fault(Fault {
+            return Err(LayoutError::Fault(LineFault {
                 kind: Kind::Limit,
                 line: 0,
             }));

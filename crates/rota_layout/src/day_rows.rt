@@ -6,7 +6,7 @@ ghost use Rattle.rota_layout.specs.DayRows.{day_table};
 ghost use Rattle.rota_layout.specs.Reading.{read_layout, Reads};
 
 use crate::cursor::Cursor;
-use crate::fault::Stop;
+use crate::fault::LayoutError;
 use rota_core::{DAYS, Scenario};
 use std::alloc::{AllocError, Global};
 
@@ -18,7 +18,7 @@ impl<'a> Cursor<'a> {
         scenario: &Scenario,
         shift: u8,
         rows: &[Option<T>],
-    ) -> Result<usize, Stop>
+    ) -> Result<usize, LayoutError>
         requires shift { shift < length scenario.now.shifts }
         requires rows { length rows.now ≡ length scenario.now.shifts * length scenario.now.skills }
         ensures read { Reads (λ p. p) result self.new (read_layout (new_pair scenario.now.skills shift rows.now) self.old) }

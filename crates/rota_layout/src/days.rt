@@ -6,13 +6,13 @@ ghost use Rattle.rota_layout.specs.Layout.{day_names, known_name, none_taken};
 ghost use Rattle.rota_layout.specs.Reading.{read_layout, Reads};
 
 use crate::cursor::Cursor;
-use crate::fault::Stop;
+use crate::fault::LayoutError;
 use rota_core::{DAYS, Kind};
 
 impl<'a> Cursor<'a> {
     /// A day, from 0 for `Mon`. It fails with `Unknown` for another word.
     #[tactic(auto, using(crate::proofs::NameSteps::known_by_word))]
-    pub fn day(&mut self) -> Result<u8, Stop>
+    pub fn day(&mut self) -> Result<u8, LayoutError>
         ensures read { Reads (λ d. d) result self.new (read_layout (known_name day_names none_taken) self.old) }
         ensures below { IfOk result (λ d. d < DAYS) }
     {

@@ -2,33 +2,33 @@
 
 ghost use Rattle.std.specs.Prelude.{◌≡◌};
 ghost use Rattle.rota_layout.specs.FileFaults.{fault_in};
-ghost use Rattle.rota_layout.specs.declared.fault.Stop.TheVariants.{Memory};
+ghost use Rattle.rota_layout.specs.declared.fault.LayoutError.TheVariants.{Memory};
 
 use rota_core::{FileFault, FileName, Kind};
 use std::alloc::{AllocError, AllocFailed};
 
 /// The kind of a text's fault, and its line.
 #[derive(Clone, Copy, Debug, PartialEq, Eq)]
-pub struct Fault {
+pub struct LineFault {
     pub kind: Kind,
     pub line: u32,
 }
 
 /// The reason why reading stops before the end.
 #[derive(Clone, Copy, Debug, PartialEq, Eq)]
-pub enum Stop {
+pub enum LayoutError {
     Memory,
-    Fault(Fault),
+    Fault(LineFault),
 }
 
-impl Stop {
+impl LayoutError {
     /// The fault of this file.
     pub fn in_file(self, file: FileName) -> FileFault
         ensures { result ≡ fault_in file self }
     {
         match self {
-            Stop::Memory => FileFault::Memory,
-            Stop::Fault(fault) => FileFault::Bad {
+            LayoutError::Memory => FileFault::Memory,
+            LayoutError::Fault(fault) => FileFault::Bad {
                 kind: fault.kind,
                 file,
                 line: fault.line,
@@ -37,18 +37,18 @@ impl Stop {
     }
 }
 
-impl From<AllocError> for Stop {
+impl From<AllocError> for LayoutError {
     ghost from_gives = { λ _ e. e ≡ Memory };
 
-    fn from(_e: AllocError) -> Stop {
-        Stop::Memory
+    fn from(_e: AllocError) -> LayoutError {
+        LayoutError::Memory
     }
 }
 
-impl<T: Drop> From<AllocFailed<T>> for Stop {
+impl<T: Drop> From<AllocFailed<T>> for LayoutError {
     ghost from_gives = { λ _ e. e ≡ Memory };
 
-    fn from(_e: AllocFailed<T>) -> Stop {
-        Stop::Memory
+    fn from(_e: AllocFailed<T>) -> LayoutError {
+        LayoutError::Memory
     }
 }

@@ -19,4 +19,4 @@ mod slots;
 
 pub use cursor::{Cursor, Token};
 pub use day_rows::day_table;
-pub use fault::{Fault, Stop};
+pub use fault::{LayoutError, LineFault};

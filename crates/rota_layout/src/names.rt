@@ -7,18 +7,18 @@ ghost use Rattle.rota_layout.specs.Layout.{known_name, none_taken, shift_or};
 ghost use Rattle.rota_layout.specs.Reading.{read_layout, Reads};
 
 use crate::cursor::Cursor;
-use crate::fault::{Fault, Stop};
+use crate::fault::{LayoutError, LineFault};
 use rota_core::{Kind, Scenario};
 
 impl<'a> Cursor<'a> {
     /// Fails with `Repeated`, on the line of the previous token, if the name there is taken.
-    pub fn unless_taken(&self, taken: bool) -> Result<(), Stop>
+    pub fn unless_taken(&self, taken: bool) -> Result<(), LayoutError>
         ensures { MatchResult result
             (λ _. taken ≡ false)
-            (λ e. (taken ≡ true) × (e ≡ Stop.Fault (record { kind = Repeated; line = self.now.last }))) }
+            (λ e. (taken ≡ true) × (e ≡ LayoutError.Fault (record { kind = Repeated; line = self.now.last }))) }
     {
         if taken {
-            return Err(Stop::Fault(Fault {
+            return Err(LayoutError::Fault(LineFault {
                 kind: Kind::Repeated,
                 line: self.last_line(),
             }));
@@ -28,7 +28,7 @@ impl<'a> Cursor<'a> {
 
     /// The number of a nurse. It fails with `Unknown` for another word.
     #[tactic(auto, using(crate::proofs::NameSteps::known_by_word))]
-    pub fn nurse(&mut self, scenario: &Scenario) -> Result<u16, Stop>
+    pub fn nurse(&mut self, scenario: &Scenario) -> Result<u16, LayoutError>
         ensures read { Reads (λ n. n) result self.new (read_layout (known_name scenario.now.nurses none_taken) self.old) }
         ensures below { IfOk result (λ n. n < length scenario.now.nurses) }
     {
@@ -40,7 +40,7 @@ impl<'a> Cursor<'a> {
 
     /// The number of a shift type. It fails with `Unknown` for another word.
     #[tactic(auto, using(crate::proofs::NameSteps::known_by_word))]
-    pub fn shift(&mut self, scenario: &Scenario) -> Result<u8, Stop>
+    pub fn shift(&mut self, scenario: &Scenario) -> Result<u8, LayoutError>
         ensures read { Reads (λ s. s) result self.new (read_layout (known_name scenario.now.shifts none_taken) self.old) }
         ensures below { IfOk result (λ s. s < length scenario.now.shifts) }
     {
@@ -52,7 +52,7 @@ impl<'a> Cursor<'a> {
 
     /// The number of a skill. It fails with `Unknown` for another word.
     #[tactic(auto, using(crate::proofs::NameSteps::known_by_word))]
-    pub fn skill(&mut self, scenario: &Scenario) -> Result<u8, Stop>
+    pub fn skill(&mut self, scenario: &Scenario) -> Result<u8, LayoutError>
         ensures read { Reads (λ k. k) result self.new (read_layout (known_name scenario.now.skills none_taken) self.old) }
         ensures below { IfOk result (λ k. k < length scenario.now.skills) }
     {
@@ -64,7 +64,7 @@ impl<'a> Cursor<'a> {
 
     /// The number of a shift type, or `None` for this word. It fails with `Unknown` for another one.
     #[tactic(auto, using(crate::proofs::NameSteps::shift_by_word))]
-    pub fn shift_or(&mut self, word: &[u8], scenario: &Scenario) -> Result<Option<u8>, Stop>
+    pub fn shift_or(&mut self, word: &[u8], scenario: &Scenario) -> Result<Option<u8>, LayoutError>
         ensures read { Reads (λ s. s) result self.new (read_layout (shift_or word.now scenario.now.shifts) self.old) }
         ensures below { IfOk result (λ s. ForSome s (λ n. n < length scenario.now.shifts)) }
     {

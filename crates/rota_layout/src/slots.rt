@@ -6,15 +6,15 @@ ghost use Rattle.rota_layout.specs.Layout.{exactly, number, any_word, setting};
 ghost use Rattle.rota_layout.specs.Reading.{read_layout, Reads, check_end, ReadsFile};
 
 use crate::cursor::{Cursor, Token, is_sign};
-use crate::fault::{Fault, Stop};
+use crate::fault::{LayoutError, LineFault};
 use rota_core::{Kind, MAX_PRICE, decimal_up_to};
 
 impl Token<'_> {
     /// A fault of this kind on the token's line.
-    pub fn fault(&self, kind: Kind) -> Stop
-        ensures { result ≡ Stop.Fault (record { kind = kind; line = self.now.line }) }
+    pub fn fault(&self, kind: Kind) -> LayoutError
+        ensures { result ≡ LayoutError.Fault (record { kind = kind; line = self.now.line }) }
     {
-        Stop::Fault(Fault {
+        LayoutError::Fault(LineFault {
             kind,
             line: self.line,
         })
@@ -23,14 +23,14 @@ impl Token<'_> {
 
 impl<'a> Cursor<'a> {
     /// The next token. It fails with `Ended` if there is none.
-    pub fn token(&mut self) -> Result<Token<'a>, Stop>
+    pub fn token(&mut self) -> Result<Token<'a>, LayoutError>
         ensures { MatchResult result
             (λ t. (self.old.rest ≡ record { word = t.word.now; line = t.line } ∷ self.new.rest)
             × (self.new.last ≡ t.line))
-            (λ e. (self.old.rest ≡ []) × (e ≡ Stop.Fault (record { kind = Ended; line = self.old.last }))) }
+            (λ e. (self.old.rest ≡ []) × (e ≡ LayoutError.Fault (record { kind = Ended; line = self.old.last }))) }
     {
         let last = self.last_line();
-        self.next().ok_or(Stop::Fault(Fault {
+        self.next().ok_or(LayoutError::Fault(LineFault {
             kind: Kind::Ended,
             line: last,
         }))
@@ -38,7 +38,7 @@ impl<'a> Cursor<'a> {
 
     /// The next token, which is to be a word. It fails with `OtherWord` for a sign.
     #[tactic(auto, unfolding(crate::specs::Layout::any_word, crate::specs::Reading::read_layout))]
-    pub fn word(&mut self) -> Result<Token<'a>, Stop>
+    pub fn word(&mut self) -> Result<Token<'a>, LayoutError>
         ensures read { Reads (λ t. t.word.now) result self.new (read_layout any_word self.old) }
         ensures line { IfOk result (λ t. t.line ≡ self.new.last) }
     {
@@ -50,7 +50,7 @@ impl<'a> Cursor<'a> {
     }
 
     /// The end of the file. It fails with `Trailing` if a token is left.
-    pub fn finish(&mut self) -> Result<(), Stop>
+    pub fn finish(&mut self) -> Result<(), LayoutError>
         ensures { ReadsFile (λ _. tt) result (check_end self.old.rest) }
     {
         match self.next() {
@@ -61,7 +61,7 @@ impl<'a> Cursor<'a> {
 
     /// This word or sign. It fails with `OtherWord` for another one.
     #[tactic(auto, unfolding(crate::specs::Layout::exactly, crate::specs::Reading::read_layout))]
-    pub fn exactly(&mut self, wanted: &[u8]) -> Result<(), Stop>
+    pub fn exactly(&mut self, wanted: &[u8]) -> Result<(), LayoutError>
         ensures { Reads (λ _. wanted.now) result self.new (read_layout (exactly wanted.now) self.old) }
     {
         let token = self.token()?;
@@ -72,7 +72,7 @@ impl<'a> Cursor<'a> {
     }
 
     /// A number between the limits. It fails with `NoNumber` for another token, and with `Limit` for another number.
-    pub fn number(&mut self, low: u16, high: u16) -> Result<u16, Stop>
+    pub fn number(&mut self, low: u16, high: u16) -> Result<u16, LayoutError>
         ensures read { Reads (λ n. n) result self.new (read_layout (number low high) self.old) }
         ensures above { IfOk result (λ n. low ≤ n) }
         ensures within { IfOk result (λ n. n ≤ high) }
@@ -82,7 +82,7 @@ impl<'a> Cursor<'a> {
 
     /// A number between the limits, which may be as large as a price. It fails as `number` does.
     #[tactic(auto, unfolding(crate::specs::Layout::number, crate::specs::Reading::read_layout))]
-    pub fn long_number(&mut self, low: u32, high: u32) -> Result<u32, Stop>
+    pub fn long_number(&mut self, low: u32, high: u32) -> Result<u32, LayoutError>
         requires { high ≤ MAX_PRICE }
         ensures read { Reads (λ n. n) result self.new (read_layout (number low high) self.old) }
         ensures above { IfOk result (λ n. low ≤ n) }
@@ -100,7 +100,7 @@ impl<'a> Cursor<'a> {
 
     /// This name, `=` and a number between the limits. It fails as `exactly` and `number` do.
     #[tactic(auto, unfolding(crate::specs::Layout::setting, crate::specs::Reading::read_layout))]
-    pub fn setting(&mut self, name: &[u8], low: u16, high: u16) -> Result<u16, Stop>
+    pub fn setting(&mut self, name: &[u8], low: u16, high: u16) -> Result<u16, LayoutError>
         ensures read { Reads (λ n. n) result self.new (read_layout (setting name.now low high) self.old) }
         ensures above { IfOk result (λ n. low ≤ n) }
         ensures within { IfOk result (λ n. n ≤ high) }

@@ -9,7 +9,7 @@ use Rattle.byte_ports.specs.Ports.{KnownBytes}
 use Rattle.rota_core.specs.declared.fault.FileName.{FileName}
 use Rattle.rota_core.specs.declared.fault.FileFault.{FileFault}
 use Rattle.rota_core.specs.declared.fault.FileFault.TheVariants as refusals
-use Rattle.rota_layout.specs.declared.fault.Fault.{Fault as TextFault}
+use Rattle.rota_layout.specs.declared.fault.LineFault.{LineFault}
 use Rattle.rota_layout.specs.Layout.{Layout}
 use Rattle.rota_layout.specs.Files.{HasFault, too_long, misses_slot, goes_on, Spells}
 use Rattle.rota_layout.specs.FileAnswers.{IsFaultOf}
@@ -39,7 +39,7 @@ module _ {V : Type 0} (name : FileName) (layout : Layout V) (reader : Reader) (t
       sym (append-nil text) ∙ ap (λ (r : List ℕ). text ++ r) (sym none) ∙ parts.2
 
   -- the file has the fault of the bytes that were read: a longer file is too long like them
-  fault-of_file : (fault : TextFault) → HasFault layout text fault → IfKnown reader (λ bytes. HasFault layout bytes fault)
+  fault-of_file : (fault : LineFault) → HasFault layout text fault → IfKnown reader (λ bytes. HasFault layout bytes fault)
   fault-of_file fault (too_long long is_long) bytes known =
       let parts : (rest : List ℕ) × (reader.port.left reader.new ≡ Some rest) × (text ++ rest ≡ bytes) =
       known_are (reader.port.left reader.old) (reader.port.left reader.new) text bytes read.0.front known in

@@ -2,7 +2,7 @@
 use Rattle.std.proofs.Common.{◌≡◌, ℕ, Bool, true, false, if◌then◌else◌, List, [], ◌∷◌, Result, Ok, refl}
 use Rattle.rota_core.specs.Words.{is_among}
 use Rattle.rota_core.specs.declared.fault.Kind.TheVariants as kinds
-use Rattle.rota_layout.specs.declared.fault.Fault.{Fault}
+use Rattle.rota_layout.specs.declared.fault.LineFault.{LineFault}
 use Rattle.rota_layout.specs.Tokens.{Token}
 use Rattle.rota_layout.specs.Reading.{Reading, then_read, read_layout}
 use Rattle.rota_layout.specs.Layout.{any_word, is_sign_token}
@@ -10,7 +10,7 @@ use Rattle.rota_read.specs.SharedSlots.{new_name}
 use Rattle.rota_layout.proofs.ReadingLaws.{refused}
 
 -- the word, if it is not among the names
-abbrev pub unnamed : List (List ℕ) → List ℕ × Reading → Result (List ℕ × Reading) Fault
+abbrev pub unnamed : List (List ℕ) → List ℕ × Reading → Result (List ℕ × Reading) LineFault
 unnamed names x = if is_among names x.0 then refused kinds.Repeated x.1 else Ok x
 
 -- reading a new name is reading a word that is not among the names

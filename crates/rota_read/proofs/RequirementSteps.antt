@@ -2,8 +2,8 @@
 use Rattle.std.proofs.Common.{◌≡◌, ℕ, suc, ◌+◌, ◌-◌, ◌<◌, ◌≤◌, Option, Result, Ok, codes, refl, arith}
 use Rattle.rota_core.specs.ScenarioTables.{ScenarioTables}
 use Rattle.rota_core.specs.declared.values.Demand.{Demand}
-use Rattle.rota_layout.specs.declared.fault.Fault.{Fault}
-use Rattle.rota_layout.specs.declared.fault.Stop.{Stop}
+use Rattle.rota_layout.specs.declared.fault.LayoutError.{LayoutError}
+use Rattle.rota_layout.specs.declared.fault.LineFault.{LineFault}
 use Rattle.rota_layout.specs.DayRows.{DayRows, day_row}
 use Rattle.rota_layout.specs.Layout.{◌>>=◌, shift_or}
 use Rattle.rota_layout.specs.Reading.{Reading, then_read, read_layout, Fails}
@@ -12,7 +12,7 @@ use Rattle.rota_layout.proofs.ReadingLaws.{front_fails}
 
 module _ (t : ScenarioTables) (rows : DayRows Demand) (count i : ℕ) (left : Reading) where
   -- the rows after a shift type, or none after the word
-  abbrev pub more_rows : Option ℕ × Reading → Result (DayRows Demand × Reading) Fault
+  abbrev pub more_rows : Option ℕ × Reading → Result (DayRows Demand × Reading) LineFault
   more_rows x = read_layout (part_or (λ shift. day_row demand t.skills shift rows >>= requirement_rows t (count - (i + 1))) x.0 rows) x.1
 
   pub next_requirement : i < count → read_layout (requirement_rows t (count - i) rows) left ≡
@@ -23,7 +23,7 @@ module _ (t : ScenarioTables) (rows : DayRows Demand) (count i : ℕ) (left : Re
       rw k refl
 
   -- neither a shift type nor the word was read
-  pub requirement_fails : (e : Stop) → i < count → Fails e (read_layout (shift_or (codes "SHIFT_OFF_REQUESTS") t.shifts) left) →
+  pub requirement_fails : (e : LayoutError) → i < count → Fails e (read_layout (shift_or (codes "SHIFT_OFF_REQUESTS") t.shifts) left) →
       Fails e (read_layout (requirement_rows t (count - i) rows) left)
   requirement_fails e lt h =
       rw (next_requirement lt) (front_fails (read_layout (shift_or (codes "SHIFT_OFF_REQUESTS") t.shifts) left) more_rows e h)

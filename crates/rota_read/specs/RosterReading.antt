@@ -3,8 +3,8 @@ use Rattle.std.specs.Prelude.{◌≡◌, List, Result, Ok, Err}
 use Rattle.rota_core.specs.declared.values.Cell.{Cell}
 use Rattle.rota_core.specs.RosterTables.{RosterTables}
 use Rattle.rota_core.specs.Problem.{Problem}
-use Rattle.rota_layout.specs.declared.fault.Fault.{Fault}
-use Rattle.rota_layout.specs.declared.fault.Stop.{Stop}
+use Rattle.rota_layout.specs.declared.fault.LayoutError.{LayoutError}
+use Rattle.rota_layout.specs.declared.fault.LineFault.{LineFault}
 use Rattle.rota_layout.specs.Reading.{Reading, Fails}
 use Rattle.rota_core.specs.ScenarioTables.{ScenarioTables}
 use Rattle.rota_layout.specs.Layout.{Layout, one_more}
@@ -15,10 +15,10 @@ unfoldable pub assignment_row : ScenarioTables → List Cell → Layout (List Ce
 assignment_row tables = one_more (assignment tables)
 
 -- The result of a function is a roster of the cells that reading returns, and the rest is the same, unless memory ran out.
-abbrev pub ReadsRoster : Problem → Result RosterTables Stop → Reading → Result (List Cell × Reading) Fault → Type 0
+abbrev pub ReadsRoster : Problem → Result RosterTables LayoutError → Reading → Result (List Cell × Reading) LineFault → Type 0
 ReadsRoster problem (Ok roster) left result = (rows : List Cell) × HasCells problem roster rows × (result ≡ Ok (rows, left))
 ReadsRoster problem (Err e) left result = Fails e result
 
-abbrev pub ReadsRosterFile : Problem → Result RosterTables Stop → Result (List Cell) Fault → Type 0
+abbrev pub ReadsRosterFile : Problem → Result RosterTables LayoutError → Result (List Cell) LineFault → Type 0
 ReadsRosterFile problem (Ok roster) result = (rows : List Cell) × HasCells problem roster rows × (result ≡ Ok rows)
 ReadsRosterFile problem (Err e) result = Fails e result

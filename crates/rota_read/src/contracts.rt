@@ -11,7 +11,7 @@ use crate::names::new_name;
 use crate::rows::pair;
 use indexmap::IndexSet;
 use rota_core::{Contract, MAX_CONTRACTS, MAX_NUMBER, add_name};
-use rota_layout::{Cursor, Stop};
+use rota_layout::{Cursor, LayoutError};
 use std::alloc::Global;
 
 #[derive(Drop)]
@@ -22,7 +22,7 @@ pub struct ContractRows {
 
 // The numbers of a contract.
 #[tactic(auto, unfolding(crate::specs::ScenarioLayout::contract, rota_layout::specs::Reading::read_layout))]
-fn contract(cursor: &mut Cursor<'_>) -> Result<Contract, Stop>
+fn contract(cursor: &mut Cursor<'_>) -> Result<Contract, LayoutError>
     ensures { Reads (λ c. c) result cursor.new (read_layout contract cursor.old) }
 {
     let total = pair(cursor)?;
@@ -40,7 +40,11 @@ fn contract(cursor: &mut Cursor<'_>) -> Result<Contract, Stop>
 }
 
 #[tactic(auto, unfolding(crate::specs::ScenarioLayout::new_row, rota_layout::specs::Reading::read_layout))]
-fn contract_row(cursor: &mut Cursor<'_>, alloc: Global, rows: &mut ContractRows) -> Result<(), Stop>
+fn contract_row(
+    cursor: &mut Cursor<'_>,
+    alloc: Global,
+    rows: &mut ContractRows,
+) -> Result<(), LayoutError>
     ensures read { Reads (λ _. contracts_of rows.new) result cursor.new (read_layout (new_row [] contract (contracts_of rows.old)) cursor.old) }
     ensures longer { OnOk result (length (bytes_of rows.new.names) ≡ length (bytes_of rows.old.names) + 1) }
 {
@@ -56,7 +60,7 @@ fn contract_rows(
     alloc: Global,
     count: u16,
     rows: &mut ContractRows,
-) -> Result<(), Stop>
+) -> Result<(), LayoutError>
     ensures read { Reads (λ _. contracts_of rows.new) result cursor.new (read_layout (repeat count (new_row [] contract) (contracts_of rows.old)) cursor.old) }
     ensures longer { OnOk result (length (bytes_of rows.new.names) ≡ length (bytes_of rows.old.names) + count) }
 {
@@ -71,7 +75,7 @@ pub fn contracts_part(
     cursor: &mut Cursor<'_>,
     alloc: Global,
     rows: &mut ContractRows,
-) -> Result<(), Stop>
+) -> Result<(), LayoutError>
     requires { contracts_of rows.old ≡ none_named }
     ensures read { Reads (λ _. contracts_of rows.new) result cursor.new (read_layout (section (codes "CONTRACTS") MAX_CONTRACTS (new_row [] contract) none_named) cursor.old) }
     ensures few { OnOk result (length (bytes_of rows.new.names) ≤ MAX_CONTRACTS) }

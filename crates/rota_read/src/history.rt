@@ -14,7 +14,7 @@ ghost use Rattle.rota_read.specs.SharedSlots.{known_row, value_of_each};
 ghost use Rattle.rota_layout.specs.Reading.{read_layout, Reads, read_text, ReadsFile};
 
 use rota_core::{FileFault, FileName, History, HistoryParts, MAX_NUMBER, Past, Scenario};
-use rota_layout::{Cursor, Stop};
+use rota_layout::{Cursor, LayoutError};
 use std::alloc::{AllocError, Global};
 
 // Stands in for a nurse without a row. A history has none: see `each_nurse_has_a_past`.
@@ -28,7 +28,7 @@ const NO_PAST: Past = Past {
 };
 
 #[tactic(auto, unfolding(crate::specs::HistoryLayout::past, rota_layout::specs::Reading::read_layout))]
-fn past(cursor: &mut Cursor<'_>, scenario: &Scenario) -> Result<Past, Stop>
+fn past(cursor: &mut Cursor<'_>, scenario: &Scenario) -> Result<Past, LayoutError>
     ensures { Reads (λ p. p) result cursor.new (read_layout (past scenario.now.shifts) cursor.old) }
 {
     let assignments = cursor.number(0, MAX_NUMBER)?;
@@ -52,7 +52,7 @@ fn past_row(
     cursor: &mut Cursor<'_>,
     scenario: &Scenario,
     pasts: &mut [Option<Past>],
-) -> Result<(), Stop>
+) -> Result<(), LayoutError>
     requires { length pasts.old ≡ length scenario.now.nurses }
     ensures { Reads (λ _. pasts.new) result cursor.new (read_layout (known_row scenario.now.nurses (past scenario.now.shifts) pasts.old) cursor.old) }
 {
@@ -70,7 +70,7 @@ fn rows_of_nurses(
     scenario: &Scenario,
     count: u16,
     pasts: &mut [Option<Past>],
-) -> Result<(), Stop>
+) -> Result<(), LayoutError>
     requires { length pasts.old ≡ length scenario.now.nurses }
     ensures { Reads (λ _. pasts.new) result cursor.new (read_layout (repeat count (known_row scenario.now.nurses (past scenario.now.shifts)) pasts.old) cursor.old) }
 {
@@ -86,7 +86,7 @@ fn past_rows(
     cursor: &mut Cursor<'_>,
     alloc: Global,
     scenario: &Scenario,
-) -> Result<Vec<Option<Past>>, Stop>
+) -> Result<Vec<Option<Past>>, LayoutError>
     ensures { Reads (λ v. v.items) result cursor.new (read_layout (value_of_each scenario.now.nurses (past scenario.now.shifts)) cursor.old) }
 {
     let count = scenario.nurses();
@@ -113,7 +113,11 @@ fn each_past(alloc: Global, pasts: &[Option<Past>]) -> Result<Vec<Past>, AllocEr
 
 // The rows of a history, from the whole text.
 #[tactic(auto, using(rota_layout::proofs::ReadingLaws::front_fails), unfolding(crate::specs::HistoryLayout::history, rota_layout::specs::Layout::exactly, rota_layout::specs::Reading::read_layout, rota_layout::specs::Reading::read_text))]
-fn history_parts(alloc: Global, scenario: &Scenario, text: &[u8]) -> Result<HistoryParts, Stop>
+fn history_parts(
+    alloc: Global,
+    scenario: &Scenario,
+    text: &[u8],
+) -> Result<HistoryParts, LayoutError>
     ensures read { ReadsFile history_of result (read_text (history scenario.now) text.now) }
     ensures limits { IfOk result (λ _. AreLimited (numbers_of scenario.now)) }
 {

@@ -10,7 +10,7 @@ ghost use Rattle.rota_layout.specs.Reading.{read_layout, Reads};
 
 use indexmap::IndexSet;
 use rota_core::{Kind, index_of_name, is_name};
-use rota_layout::{Cursor, Stop};
+use rota_layout::{Cursor, LayoutError};
 
 pub(crate) fn is_taken(taken: &[usize], index: usize) -> bool
     ensures { result ≡ is_one_of taken.now index }
@@ -26,7 +26,10 @@ fn is_reserved(word: &[u8]) -> bool
 
 /// A word that is none of the names.
 #[tactic(auto, using(crate::proofs::NewNames::new_by_word))]
-pub fn new_name<'a>(cursor: &mut Cursor<'a>, names: &IndexSet<Vec<u8>>) -> Result<&'a [u8], Stop>
+pub fn new_name<'a>(
+    cursor: &mut Cursor<'a>,
+    names: &IndexSet<Vec<u8>>,
+) -> Result<&'a [u8], LayoutError>
     ensures read { Reads (λ w. w.now) result cursor.new (read_layout (new_name (bytes_of names.now)) cursor.old) }
     ensures new { IfOk result (λ w. is_among (bytes_of names.now) w.now ≡ false) }
 {
@@ -40,7 +43,7 @@ pub fn new_name<'a>(cursor: &mut Cursor<'a>, names: &IndexSet<Vec<u8>>) -> Resul
 pub fn new_shift_name<'a>(
     cursor: &mut Cursor<'a>,
     names: &IndexSet<Vec<u8>>,
-) -> Result<&'a [u8], Stop>
+) -> Result<&'a [u8], LayoutError>
     ensures read { Reads (λ w. w.now) result cursor.new (read_layout (new_name (reserved ++ bytes_of names.now)) cursor.old) }
     ensures new { IfOk result (λ w. is_among (bytes_of names.now) w.now ≡ false) }
 {
@@ -51,7 +54,7 @@ pub fn new_shift_name<'a>(
 
 /// The index of a name.
 #[tactic(auto, using(rota_layout::proofs::ReadingLaws::known_by_word))]
-pub fn known_name(cursor: &mut Cursor<'_>, names: &IndexSet<Vec<u8>>) -> Result<usize, Stop>
+pub fn known_name(cursor: &mut Cursor<'_>, names: &IndexSet<Vec<u8>>) -> Result<usize, LayoutError>
     ensures read { Reads (λ n. n) result cursor.new (read_layout (known_name (bytes_of names.now) none_taken) cursor.old) }
     ensures below { IfOk result (λ n. n < length (bytes_of names.now)) }
 {

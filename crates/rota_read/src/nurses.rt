@@ -11,7 +11,7 @@ use crate::names::{known_name, new_name};
 use crate::rows::{append_marks, known_names};
 use indexmap::IndexSet;
 use rota_core::{MAX_CONTRACTS, MAX_NURSES, MAX_SKILLS, add_name};
-use rota_layout::{Cursor, Stop};
+use rota_layout::{Cursor, LayoutError};
 use std::alloc::{AllocError, Global};
 
 /// A nurse's contract and skills, by their indices.
@@ -28,7 +28,7 @@ pub struct NurseRows {
 }
 
 // The number of a contract.
-fn known_contract(cursor: &mut Cursor<'_>, contracts: &IndexSet<Vec<u8>>) -> Result<u8, Stop>
+fn known_contract(cursor: &mut Cursor<'_>, contracts: &IndexSet<Vec<u8>>) -> Result<u8, LayoutError>
     requires { length (bytes_of contracts.now) ≤ MAX_CONTRACTS }
     ensures { Reads (λ n. n) result cursor.new (read_layout (known_name (bytes_of contracts.now) none_taken) cursor.old) }
 {
@@ -43,7 +43,7 @@ fn nurse_row(
     contracts: &IndexSet<Vec<u8>>,
     skills: &IndexSet<Vec<u8>>,
     rows: &mut NurseRows,
-) -> Result<(), Stop>
+) -> Result<(), LayoutError>
     requires contracts { length (bytes_of contracts.now) ≤ MAX_CONTRACTS }
     requires skills { length (bytes_of skills.now) ≤ MAX_SKILLS }
     ensures { Reads (λ _. nurses_of rows.new) result cursor.new (read_layout (new_row [] (nurse (bytes_of contracts.now) (bytes_of skills.now)) (nurses_of rows.old)) cursor.old) }
@@ -68,7 +68,7 @@ fn nurse_rows(
     skills: &IndexSet<Vec<u8>>,
     count: u16,
     rows: &mut NurseRows,
-) -> Result<(), Stop>
+) -> Result<(), LayoutError>
     requires contracts { length (bytes_of contracts.now) ≤ MAX_CONTRACTS }
     requires skills { length (bytes_of skills.now) ≤ MAX_SKILLS }
     ensures { Reads (λ _. nurses_of rows.new) result cursor.new (read_layout (repeat count (new_row [] (nurse (bytes_of contracts.now) (bytes_of skills.now))) (nurses_of rows.old)) cursor.old) }
@@ -86,7 +86,7 @@ pub fn nurses_part(
     contracts: &IndexSet<Vec<u8>>,
     skills: &IndexSet<Vec<u8>>,
     rows: &mut NurseRows,
-) -> Result<(), Stop>
+) -> Result<(), LayoutError>
     requires contracts { length (bytes_of contracts.now) ≤ MAX_CONTRACTS }
     requires skills { length (bytes_of skills.now) ≤ MAX_SKILLS }
     requires none { nurses_of rows.old ≡ none_named }

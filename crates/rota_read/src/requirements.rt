@@ -8,12 +8,12 @@ ghost use Rattle.rota_read.specs.WeekLayout.{demand, requirement_rows, max_rows}
 
 use crate::rows::pair;
 use rota_core::{DAYS, Demand, Scenario};
-use rota_layout::{Cursor, Stop};
+use rota_layout::{Cursor, LayoutError};
 use std::alloc::Global;
 
 // A minimum and an optimal number.
 #[tactic(auto, unfolding(crate::specs::WeekLayout::demand, rota_layout::specs::Reading::read_layout))]
-fn demand(cursor: &mut Cursor<'_>) -> Result<Demand, Stop>
+fn demand(cursor: &mut Cursor<'_>) -> Result<Demand, LayoutError>
     ensures { Reads (λ d. d) result cursor.new (read_layout demand cursor.old) }
 {
     let numbers = pair(cursor)?;
@@ -25,7 +25,7 @@ fn demand(cursor: &mut Cursor<'_>) -> Result<Demand, Stop>
 
 // The demands of Monday to Sunday.
 #[tactic(auto, unfolding(rota_layout::specs::Layout::many, rota_layout::specs::Layout::repeat, rota_layout::specs::Layout::one_more, rota_layout::specs::Reading::read_layout))]
-fn demands_of_days(cursor: &mut Cursor<'_>) -> Result<[Demand; DAYS as usize], Stop>
+fn demands_of_days(cursor: &mut Cursor<'_>) -> Result<[Demand; DAYS as usize], LayoutError>
     ensures { Reads (λ d. d) result cursor.new (read_layout (many DAYS (λ _. demand)) cursor.old) }
 {
     let monday = demand(cursor)?;
@@ -47,7 +47,7 @@ fn requirement(
     scenario: &Scenario,
     shift: u8,
     rows: &mut Vec<Option<[Demand; DAYS as usize]>>,
-) -> Result<(), Stop>
+) -> Result<(), LayoutError>
     requires shift { shift < length scenario.now.shifts }
     requires rows { length rows.old.items ≡ length scenario.now.shifts * length scenario.now.skills }
     ensures read { Reads (λ _. rows.new.items) result cursor.new (read_layout (day_row demand scenario.now.skills shift rows.old.items) cursor.old) }
@@ -63,7 +63,7 @@ pub fn requirement_rows(
     cursor: &mut Cursor<'_>,
     alloc: Global,
     scenario: &Scenario,
-) -> Result<Vec<Option<[Demand; DAYS as usize]>>, Stop>
+) -> Result<Vec<Option<[Demand; DAYS as usize]>>, LayoutError>
     ensures { Reads (λ v. v.items) result cursor.new (read_layout (requirement_rows scenario.now (max_rows scenario.now) (no_day_rows scenario.now)) cursor.old) }
 {
     // one row more than there are pairs of a shift type and a skill

@@ -17,7 +17,7 @@ use crate::rows::new_names;
 use crate::shift_types::{ShiftRows, no_shift_types, shifts_part, successions_part};
 use indexmap::IndexSet;
 use rota_core::{FileFault, FileName, MAX_SKILLS, MAX_WEEKS, Scenario, ScenarioParts};
-use rota_layout::{Cursor, Stop};
+use rota_layout::{Cursor, LayoutError};
 use std::alloc::{AllocError, Global};
 
 // The contents of the sections of a scenario file.
@@ -96,7 +96,7 @@ fn skills_part(
     cursor: &mut Cursor<'_>,
     alloc: Global,
     names: &mut IndexSet<Vec<u8>>,
-) -> Result<(), Stop>
+) -> Result<(), LayoutError>
     requires { bytes_of names.old ≡ [] }
     ensures read { Reads (λ _. bytes_of names.new) result cursor.new (read_layout (section (codes "SKILLS") MAX_SKILLS (one_more new_name) []) cursor.old) }
     ensures few { OnOk result (length (bytes_of names.new) ≤ MAX_SKILLS) }
@@ -107,7 +107,11 @@ fn skills_part(
 
 // Reads each section into rows that one caller owns.
 #[tactic(auto, unfolding(crate::specs::ScenarioLayout::scenario, rota_layout::specs::Reading::read_layout))]
-fn sections(cursor: &mut Cursor<'_>, alloc: Global, rows: &mut ScenarioRows) -> Result<(), Stop>
+fn sections(
+    cursor: &mut Cursor<'_>,
+    alloc: Global,
+    rows: &mut ScenarioRows,
+) -> Result<(), LayoutError>
     requires { IsEmpty rows.old }
     ensures { Reads (λ _. tables_of rows.new) result cursor.new (read_layout scenario cursor.old) }
 {
@@ -125,7 +129,7 @@ fn sections(cursor: &mut Cursor<'_>, alloc: Global, rows: &mut ScenarioRows) -> 
 
 /// The parts of a scenario, from the whole text.
 #[tactic(auto, using(rota_layout::proofs::ReadingLaws::front_fails), unfolding(rota_layout::specs::Reading::read_text))]
-fn scenario_parts(alloc: Global, text: &[u8]) -> Result<ScenarioParts, Stop>
+fn scenario_parts(alloc: Global, text: &[u8]) -> Result<ScenarioParts, LayoutError>
     ensures { ReadsFile scenario_of result (read_text scenario text.now) }
 {
     let mut cursor = Cursor::open(text)?;

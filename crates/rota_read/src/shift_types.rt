@@ -14,7 +14,7 @@ use crate::names::{known_name, new_shift_name};
 use crate::rows::{append_marks, known_names, pair};
 use indexmap::IndexSet;
 use rota_core::{MAX_SHIFTS, Span, add_name};
-use rota_layout::{Cursor, Stop};
+use rota_layout::{Cursor, LayoutError};
 use std::alloc::{AllocError, Global};
 
 #[derive(Drop)]
@@ -27,7 +27,11 @@ pub struct ShiftRows {
 type SuccessionRow = Option<Vec<usize>>;
 
 #[tactic(auto, unfolding(crate::specs::ScenarioLayout::new_row, rota_layout::specs::Reading::read_layout))]
-fn shift_row(cursor: &mut Cursor<'_>, alloc: Global, rows: &mut ShiftRows) -> Result<(), Stop>
+fn shift_row(
+    cursor: &mut Cursor<'_>,
+    alloc: Global,
+    rows: &mut ShiftRows,
+) -> Result<(), LayoutError>
     ensures read { Reads (λ _. shifts_of rows.new) result cursor.new (read_layout (new_row reserved pair (shifts_of rows.old)) cursor.old) }
     ensures longer { OnOk result (length (bytes_of rows.new.names) ≡ length (bytes_of rows.old.names) + 1) }
 {
@@ -43,7 +47,7 @@ fn shift_rows(
     alloc: Global,
     count: u16,
     rows: &mut ShiftRows,
-) -> Result<(), Stop>
+) -> Result<(), LayoutError>
     ensures read { Reads (λ _. shifts_of rows.new) result cursor.new (read_layout (repeat count (new_row reserved pair) (shifts_of rows.old)) cursor.old) }
     ensures longer { OnOk result (length (bytes_of rows.new.names) ≡ length (bytes_of rows.old.names) + count) }
 {
@@ -54,7 +58,11 @@ fn shift_rows(
 }
 
 #[tactic(auto, unfolding(crate::specs::ScenarioLayout::section, rota_layout::specs::Reading::read_layout))]
-pub fn shifts_part(cursor: &mut Cursor<'_>, alloc: Global, rows: &mut ShiftRows) -> Result<(), Stop>
+pub fn shifts_part(
+    cursor: &mut Cursor<'_>,
+    alloc: Global,
+    rows: &mut ShiftRows,
+) -> Result<(), LayoutError>
     requires { shifts_of rows.old ≡ none_named }
     ensures read { Reads (λ _. shifts_of rows.new) result cursor.new (read_layout (section (codes "SHIFT_TYPES") MAX_SHIFTS (new_row reserved pair) none_named) cursor.old) }
     ensures few { OnOk result (length (bytes_of rows.new.names) ≤ MAX_SHIFTS) }
@@ -69,7 +77,7 @@ fn succession_row(
     alloc: Global,
     names: &IndexSet<Vec<u8>>,
     rows: &mut [SuccessionRow],
-) -> Result<(), Stop>
+) -> Result<(), LayoutError>
     requires few { length (bytes_of names.now) ≤ MAX_SHIFTS }
     requires rows { length rows.old ≡ length (bytes_of names.now) }
     ensures { Reads (λ _. successions_of rows.new) result cursor.new (read_layout (known_row (bytes_of names.now) (known_names (bytes_of names.now)) (successions_of rows.old)) cursor.old) }
@@ -86,7 +94,7 @@ fn rows_of_shifts(
     alloc: Global,
     names: &IndexSet<Vec<u8>>,
     rows: &mut [SuccessionRow],
-) -> Result<(), Stop>
+) -> Result<(), LayoutError>
     requires few { length (bytes_of names.now) ≤ MAX_SHIFTS }
     requires rows { length rows.old ≡ length (bytes_of names.now) }
     ensures { Reads (λ _. successions_of rows.new) result cursor.new (read_layout (repeat (length rows.old) (known_row (bytes_of names.now) (known_names (bytes_of names.now))) (successions_of rows.old)) cursor.old) }
@@ -103,7 +111,7 @@ fn succession_rows(
     cursor: &mut Cursor<'_>,
     alloc: Global,
     names: &IndexSet<Vec<u8>>,
-) -> Result<Vec<SuccessionRow>, Stop>
+) -> Result<Vec<SuccessionRow>, LayoutError>
     requires few { length (bytes_of names.now) ≤ MAX_SHIFTS }
     ensures { Reads (λ v. successions_of v.items) result cursor.new (read_layout (value_of_each (bytes_of names.now) (known_names (bytes_of names.now))) cursor.old) }
 {
@@ -118,7 +126,7 @@ pub fn successions_part(
     alloc: Global,
     names: &IndexSet<Vec<u8>>,
     table: &mut Vec<bool>,
-) -> Result<(), Stop>
+) -> Result<(), LayoutError>
     requires few { length (bytes_of names.now) ≤ MAX_SHIFTS }
     requires none { table.old.items ≡ [] }
     ensures { Reads (λ _. table.new.items) result cursor.new (read_layout (successions (bytes_of names.now)) cursor.old) }

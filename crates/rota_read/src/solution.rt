@@ -11,7 +11,7 @@ ghost use Rattle.rota_read.specs.SolutionLayout.{solution, HasCells, SpellsRoste
 ghost use Rattle.rota_read.specs.RosterReading.{assignment_row, ReadsRoster, ReadsRosterFile};
 
 use rota_core::{Cell, FileFault, FileName, Instance, MAX_NUMBER, Roster};
-use rota_layout::{Cursor, Stop};
+use rota_layout::{Cursor, LayoutError};
 use std::alloc::Global;
 
 // Reads one more assignment, and puts it into the roster.
@@ -20,7 +20,7 @@ fn assignment_row(
     cursor: &mut Cursor<'_>,
     instance: &Instance,
     roster: &mut Roster,
-) -> Result<Cell, Stop>
+) -> Result<Cell, LayoutError>
     requires { HasShapeOf (problem_of instance.now) roster.old }
     ensures read { (rows : List Cell) → HasCells (problem_of instance.now) roster.old rows →
         Reads (λ one. rows ++ one ∷ []) result cursor.new (read_layout (assignment_row instance.now.scenario rows) cursor.old) }
@@ -48,7 +48,7 @@ fn assignment_rows(
     alloc: Global,
     instance: &Instance,
     count: u16,
-) -> Result<Roster, Stop>
+) -> Result<Roster, LayoutError>
     ensures { ReadsRoster (problem_of instance.now) result cursor.new (read_layout (repeat count (assignment_row instance.now.scenario) []) cursor.old) }
 {
     let mut roster = Roster::new(alloc, instance)?;
@@ -60,7 +60,7 @@ fn assignment_rows(
 
 // The roster of a solution, from the whole text.
 #[tactic(auto, using(rota_layout::proofs::ReadingLaws::front_fails), unfolding(crate::specs::SolutionLayout::solution, rota_layout::specs::Layout::exactly, rota_layout::specs::Layout::many, crate::specs::RosterReading::assignment_row, rota_layout::specs::Reading::read_layout, rota_layout::specs::Reading::read_text))]
-fn solution_roster(alloc: Global, instance: &Instance, text: &[u8]) -> Result<Roster, Stop>
+fn solution_roster(alloc: Global, instance: &Instance, text: &[u8]) -> Result<Roster, LayoutError>
     ensures { ReadsRosterFile (problem_of instance.now) result (read_text (solution instance.now.scenario) text.now) }
 {
     let mut cursor = Cursor::open(text)?;

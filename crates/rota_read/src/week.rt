@@ -16,7 +16,7 @@ ghost use Rattle.rota_read.specs.WeekLayout.{week};
 use crate::requirements::requirement_rows;
 use crate::week_tables::requests_of;
 use rota_core::{Demand, FileFault, FileName, MAX_NUMBER, Scenario, Week, WeekParts};
-use rota_layout::{Cursor, Stop, day_table};
+use rota_layout::{Cursor, LayoutError, day_table};
 use std::alloc::Global;
 
 // The demand if no row gives it.
@@ -38,7 +38,7 @@ fn request_row(
     cursor: &mut Cursor<'_>,
     scenario: &Scenario,
     rows: &mut Vec<RequestRow>,
-) -> Result<(), Stop>
+) -> Result<(), LayoutError>
     requires { All (IsRequest (length scenario.now.nurses) (length scenario.now.shifts)) rows.old.items }
     ensures read { Reads (λ _. rows.new.items) result cursor.new (read_layout (request_row scenario.now rows.old.items) cursor.old) }
     ensures within { OnOk result (All (IsRequest (length scenario.now.nurses) (length scenario.now.shifts)) rows.new.items) }
@@ -56,7 +56,7 @@ fn request_rows(
     alloc: Global,
     scenario: &Scenario,
     count: u16,
-) -> Result<Vec<RequestRow>, Stop>
+) -> Result<Vec<RequestRow>, LayoutError>
     ensures read { Reads (λ v. v.items) result cursor.new (read_layout (repeat count (request_row scenario.now) []) cursor.old) }
     ensures within { IfOk result (λ v. All (IsRequest (length scenario.now.nurses) (length scenario.now.shifts)) v.items) }
     ensures count { IfOk result (λ v. length v.items ≡ count) }
@@ -70,7 +70,7 @@ fn request_rows(
 
 // The rows of a week, from the whole text.
 #[tactic(auto, using(rota_layout::proofs::ReadingLaws::front_fails), unfolding(crate::specs::WeekLayout::week, rota_layout::specs::Layout::exactly, rota_layout::specs::Layout::many, crate::specs::WeekRows::request_row, rota_layout::specs::Reading::read_layout, rota_layout::specs::Reading::read_text))]
-fn week_parts(alloc: Global, scenario: &Scenario, text: &[u8]) -> Result<WeekParts, Stop>
+fn week_parts(alloc: Global, scenario: &Scenario, text: &[u8]) -> Result<WeekParts, LayoutError>
     ensures read { ReadsFile week_tables_of result (read_text (week scenario.now) text.now) }
     ensures within { IfOk result (λ _. AreLimited (numbers_of scenario.now)) }
 {
