@@ -8,8 +8,6 @@ use Rattle.rota_core.specs.Defaults.{no_past}
 use Rattle.rota_core.specs.WeekTables.{IsPast}
 use Rattle.rota_core.specs.declared.values.Past.{Past}
 use Rattle.rota_certificate.specs.Nearness.{IsNear}
-use Rattle.rota_core.specs.Prices.{ArePrices, max_price}
-use Rattle.rota_core.specs.PriceTables.{IsPriceTables, PriceTables, prices_of}
 
 -- a property of each element and of the default is a property of the value at any index
 all-or_default : {X : Type 0} (P : X → Type 0) (xs : List X) (i : ℕ) (default : X) →
@@ -17,9 +15,6 @@ all-or_default : {X : Type 0} (P : X → Type 0) (xs : List X) (i : ℕ) (defaul
 all-or_default P [] i default all holds = holds
 all-or_default P (x ∷ xs) zero default all holds = all.0
 all-or_default P (x ∷ xs) (suc i) default all holds = all-or_default P xs i default all.1 holds
-
-pub prices-within : (t : PriceTables) → IsPriceTables t → ArePrices (prices_of t)
-prices-within t is d s k = all-or_default (λ (price : ℕ). price ≤ max_price) t.prices _ 0 is.within (omega arith)
 
 -- a past that some days can lead to is near after more days, too
 pub near-more : (shifts day other : ℕ) (past : Past) → day ≤ other → IsNear shifts day past → IsNear shifts other past

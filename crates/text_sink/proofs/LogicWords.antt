@@ -3,7 +3,7 @@ use Rattle.std.proofs.Common.{◌≡◌, ℕ, Bool, true, false, ◌||◌, refl,
 use Rattle.std.proofs.Common.{List, [], ◌++◌, length, take, drop, None, Some, Ok, Err}
 use Rattle.std.specs.Prelude.{Result, is_err, MatchResult, IsErr}
 use Rattle.std.specs.Io.KnownBytes.{append_known}
-use Rattle.std.proofs.lemmas.List.{append-nil, take-append-drop, take_at}
+use Rattle.std.proofs.lemmas.List.{append-nil, take-append-drop}
 use Rattle.byte_ports.specs.Ports.{KnownBytes, Begins}
 use Rattle.byte_ports.specs.declared.ports.PortFault.{PortFault}
 use Rattle.byte_ports.specs.declared.ports.Target.{Ghosts}
@@ -48,16 +48,6 @@ begins_front (Some part) (Some whole) same =
       rest = drop (length part) whole;
       joined = ap (λ bytes. Some (bytes ++ drop (length part) whole)) (sym front) ∙ ap Some (take-append-drop (length part) whole);
     }
-
-front_begins : (part whole : KnownBytes) → Begins part whole → known_front part whole ≡ part
-front_begins None whole begins = sym begins.joined
-front_begins (Some part) whole begins =
-    ap (known_front (Some part)) (sym begins.joined) ∙ ap Some (take_at part begins.rest (length part) refl)
-
--- the front of bytes that have others at their front
-pub front_of_more : (part known new : KnownBytes) → known_front part known ≡ part → Begins known new → known_front part new ≡ part
-front_of_more part known new front begins =
-    front_begins part new (begins_grown part known new begins.rest (begins_front part known front) (sym begins.joined))
 
 -- ---- the texts that a sink takes
 
