@@ -9,8 +9,7 @@ use Rattle.inrc2pb_frame.specs.Given.{Given}
 use Rattle.inrc2pb_frame.specs.Runs.{IsRun, IsWholeRun, Program}
 use Rattle.inrc2pb_frame.specs.declared.stop.Stop.{Stop}
 use Rattle.inrc2pb_frame.specs.declared.stop.Stop.TheVariants as stops
-use Rattle.rota_bound_run.specs.Bounding.{bound_run}
-use Rattle.rota_bound_run.specs.PeriodFiles.{period_readers}
+use Rattle.rota_bound_run.specs.Bounding.{AnswersFrom}
 use Rattle.rota_bound_run.specs.declared.files.PeriodFiles.{PeriodFiles}
 use Rattle.rota_pb.specs.declared.period_fault.PeriodFault.{PeriodFault}
 use Rattle.rota_pb.specs.declared.period_fault.PeriodFault.TheVariants.{Run}
@@ -34,7 +33,7 @@ pub data BoundOutcome {F : Type 0} (opener : Opener F) (job : BoundJob) (out : W
   unopened : (fault : Fault) → result ≡ Err (Run fault) → OpensAs opener (open_period opener.port job.paths) (Err fault) → IsUntouched out →
       BoundOutcome opener job out result
   ran : (opened left : PeriodFiles F) → OpensAs opener (open_period opener.port job.paths) (Ok opened) →
-      (bound_run job.question (period_readers opener.port opened left) out).ends result → BoundOutcome opener job out result
+      AnswersFrom job.question opener.port opened left out result → BoundOutcome opener job out result
 
 -- no file was opened, and nothing was written
 pub record IsIdle {F : Type 0} (opener : Opener F) (writer : Writer) : Type 0 where

@@ -2,6 +2,7 @@ pub mod FreePrices
 pub mod InTurn
 pub mod JudgedAfter
 pub mod Judging
+pub mod KeptFiles
 pub mod OtherHistories
 pub mod PastLists
 pub mod Penalties

@@ -19,7 +19,7 @@ use Rattle.rota_pb.specs.declared.period_fault.PeriodFault.TheVariants.{Run}
 use Rattle.rota_pb.proofs.Steps.{is_fault}
 use Rattle.rota_bound_run.specs.CertificateRead.{read_proof}
 use Rattle.rota_bound_run.specs.Judging.{history_before, judge_week}
-use Rattle.rota_bound_run.specs.PeriodFiles.{each_of, reader_if, week_readers}
+use Rattle.rota_bound_run.specs.PeriodFiles.{KeepWeeks, each_of, reader_if, week_readers}
 use Rattle.rota_bound_run.specs.PeriodRead.{read_given, read_next, read_weeks}
 use Rattle.rota_bound_run.specs.PeriodSteps.{PeriodStep, for_all, for_week}
 use Rattle.rota_bound_run.specs.PlanJudged.{for_some, judge_all, judge_next, judge_plan, meet_given}
@@ -27,6 +27,7 @@ use Rattle.rota_bound_run.specs.declared.files.WeekFiles.{WeekFiles}
 use Rattle.rota_bound_run.specs.declared.judged.Judged.{Judged}
 use Rattle.rota_bound_run.specs.declared.ward.Ward.{Ward}
 use Rattle.rota_bound_run.proofs.InTurn.{none-touched}
+use Rattle.rota_bound_run.proofs.KeptFiles.{kept-length}
 use Rattle.rota_bound_run.proofs.WeekSteps.{reads-no-week}
 
 -- the run ends with the fault of a step for all weeks
@@ -142,28 +143,36 @@ not-zero n empty is full = grind (arith, nat_tests)
 -- ---- files that were lent as slices
 
 module _ {S : Type 0} (port : Ghosts S) where
+  -- the weeks were read from these files, which kept their places
+  abbrev WeeksRead : Bool → Ward → Result (List InstanceTables) PeriodFault → List (WeekFiles S) → List (WeekFiles S) → Type 0
+  WeeksRead early ward result olds news = KeepWeeks olds news × (read_weeks early ward (each_of (week_readers port) olds news)).ends result
+
   -- the weeks were read from the files of a slice
   pub weeks-back : (early : Bool) (ward : Ward) (olds slice new : List (WeekFiles S)) (len : ℕ) → slice ≡ olds → length slice ≡ len →
-      length new ≡ length slice → (result : Result (List InstanceTables) PeriodFault) →
+      KeepWeeks slice new → (result : Result (List InstanceTables) PeriodFault) →
       (read_weeks early ward (each_of (week_readers port) slice new)).ends result →
-      (read_weeks early ward (each_of (week_readers port) olds (take len (new ++ drop (length new) olds)))).ends result
-  weeks-back early ward olds slice new len same long count result ends =
-      let lengths : length new ≡ length olds = count ∙ ap length same in
-      subst (λ (now : List (WeekFiles S)). (read_weeks early ward (each_of (week_readers port) olds now)).ends result)
+      WeeksRead early ward result olds (take len (new ++ drop (length new) olds))
+  weeks-back early ward olds slice new len same long kept result ends =
+      let lengths : length new ≡ length olds = kept-length slice new kept ∙ ap length same in
+      subst (λ (now : List (WeekFiles S)). WeeksRead early ward result olds now)
       (sym (settled olds new len lengths (sym (ap length same) ∙ long)))
-      (subst (λ (was : List (WeekFiles S)). (read_weeks early ward (each_of (week_readers port) was new)).ends result) same ends)
+      (subst (λ (was : List (WeekFiles S)). WeeksRead early ward result was new) same (kept, ends))
+
+  -- the rosters were judged from these files, none of which came or went
+  abbrev RostersJudged : List InstanceTables → GivenTables → Result (Option Judged) PeriodFault → List S → List S → Type 0
+  RostersJudged weeks given result olds news =
+      (length news ≡ length olds) × (judge_plan weeks given (each_of (reader_of port) olds news)).ends result
 
   -- the rosters were judged from the files of a slice
-  pub rosters-back : (weeks : List InstanceTables) (given : GivenTables) (olds slice new : List S) (len : ℕ) → slice ≡ olds → length slice ≡ len
-      →
-      length new ≡ length slice → (result : Result (Option Judged) PeriodFault) →
+  pub rosters-back : (weeks : List InstanceTables) (given : GivenTables) (olds slice new : List S) (len : ℕ) → slice ≡ olds →
+      length slice ≡ len → length new ≡ length slice → (result : Result (Option Judged) PeriodFault) →
       (judge_plan weeks given (each_of (reader_of port) slice new)).ends result →
-      (judge_plan weeks given (each_of (reader_of port) olds (take len (new ++ drop (length new) olds)))).ends result
+      RostersJudged weeks given result olds (take len (new ++ drop (length new) olds))
   rosters-back weeks given olds slice new len same long count result ends =
       let lengths : length new ≡ length olds = count ∙ ap length same in
-      subst (λ (now : List S). (judge_plan weeks given (each_of (reader_of port) olds now)).ends result)
+      subst (λ (now : List S). RostersJudged weeks given result olds now)
       (sym (settled olds new len lengths (sym (ap length same) ∙ long)))
-      (subst (λ (was : List S). (judge_plan weeks given (each_of (reader_of port) was new)).ends result) same ends)
+      (subst (λ (was : List S). RostersJudged weeks given result was new) same (count, ends))
 
 -- a slice that is as before
 pub slice-back : {X : Type 0} (olds slice new now : List X) (len : ℕ) → slice ≡ olds → length slice ≡ len → new ≡ slice →

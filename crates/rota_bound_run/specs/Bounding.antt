@@ -1,15 +1,18 @@
 -- A run that answers what was asked about the plans of some weeks: the files that it reads, and the text that it writes.
-use Rattle.std.specs.Prelude.{length}
+use Rattle.std.specs.Prelude.{Result, length}
+use Rattle.byte_ports.specs.declared.ports.Source.{Ghosts as SourceGhosts}
 use Rattle.rota_pb.specs.RunPorts.{Writer}
 use Rattle.rota_pb.specs.Steps.{◌>>=◌, send}
+use Rattle.rota_pb.specs.declared.period_fault.PeriodFault.{PeriodFault}
 use Rattle.rota_bound_run.specs.BoundText.{bound_text}
 use Rattle.rota_bound_run.specs.CertificateRead.{read_proof}
 use Rattle.rota_bound_run.specs.ExactAnswers.{IsAnswer}
-use Rattle.rota_bound_run.specs.PeriodFiles.{FilesOfPeriod}
+use Rattle.rota_bound_run.specs.PeriodFiles.{FilesOfPeriod, KeepsFiles, period_readers}
 use Rattle.rota_bound_run.specs.PeriodRead.{read_given, read_weeks}
 use Rattle.rota_bound_run.specs.PeriodSteps.{PeriodStep, for_all, make}
 use Rattle.rota_bound_run.specs.PlanJudged.{judge_plan}
 use Rattle.rota_bound_run.specs.Wards.{read_ward}
+use Rattle.rota_bound_run.specs.declared.files.PeriodFiles.{PeriodFiles}
 use Rattle.rota_bound_run.specs.declared.files.Question.{Question}
 
 -- The scenario, the history, and each week are read, then the given facts, the certificate, and each roster; then the text of the answer is
@@ -23,3 +26,9 @@ bound_run question files out = do
   judged ← judge_plan weeks given files.rosters
   answer ← make (IsAnswer question.minimums weeks given.conditions certificate judged)
   for_all (send out (bound_text answer))
+
+-- the run answered the question from the files that are `old` before it and `new` after it, and each of them kept its place
+pub record AnswersFrom {S : Type 0} (question : Question) (port : SourceGhosts S) (old new : PeriodFiles S) (out : Writer)
+    (result : Result (Unit {0}) PeriodFault) : Type 0 where
+  pub kept : KeepsFiles old new
+  pub ends : (bound_run question (period_readers port old new) out).ends result

@@ -1,5 +1,5 @@
 -- The readers of a period's files.
-use Rattle.std.specs.Prelude.{◌≡◌, ℕ, ◌<◌, ◌⊎◌, List, [], ◌∷◌, length, Option, Some, None, unwrap_or}
+use Rattle.std.specs.Prelude.{◌≡◌, ℕ, ◌<◌, ◌⊎◌, List, [], ◌∷◌, length, map, Option, Some, None, is_some, unwrap_or}
 use Rattle.byte_ports.specs.declared.ports.Source.{Ghosts as SourceGhosts}
 use Rattle.rota_pb.specs.RunPorts.{Reader, reader_of}
 use Rattle.rota_bound_run.specs.declared.files.PeriodFiles.{PeriodFiles}
@@ -35,8 +35,17 @@ pub record FilesOfPeriod : Type 1 where
 
 -- ---- files before and after a run
 
--- The files before a run decide which readers there are: a file of which nothing is left after the run is one that the run did not touch, so
--- that no file is hidden from a run by letting it go.
+-- each week keeps its place, and has a file of held cells after the run if and only if it had one before
+abbrev pub KeepWeeks : {S : Type 0} → List (WeekFiles S) → List (WeekFiles S) → Type 0
+KeepWeeks olds news = map (λ week. is_some week.fix) news ≡ map (λ week. is_some week.fix) olds
+
+-- Each file keeps its place: one that may be missing is there after the run if and only if it was there before. So none is read and then let
+-- go, as if it had not been touched.
+pub record KeepsFiles {S : Type 0} (old new : PeriodFiles S) : Type 0 where
+  pub weeks : KeepWeeks old.weeks.items new.weeks.items
+  pub given : is_some new.given ≡ is_some old.given
+  pub proof : is_some new.proof ≡ is_some old.proof
+  pub rosters : length new.rosters.items ≡ length old.rosters.items
 
 -- a reader for each of the files that are these before the run, in their order, and those after it
 unfoldable pub each_of : {X : Type 0} {R : Type 1} → (X → X → R) → List X → List X → List R

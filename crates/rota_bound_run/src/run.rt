@@ -1,7 +1,7 @@
 //! The run that proves how good the plans of some weeks can be.
 ghost use Rattle.rota_pb.specs.RunPorts.{writer_of};
-ghost use Rattle.rota_bound_run.specs.Bounding.{bound_run};
-ghost use Rattle.rota_bound_run.specs.PeriodFiles.{AreFiles, period_readers};
+ghost use Rattle.rota_bound_run.specs.Bounding.{AnswersFrom};
+ghost use Rattle.rota_bound_run.specs.PeriodFiles.{AreFiles};
 
 use crate::answer::answer_for;
 use crate::bound_text::write_answer;
@@ -36,7 +36,7 @@ pub fn run_bound<S: Source, W: Target>(
     out: &mut W,
 ) -> Result<(), PeriodFault>
     requires files { AreFiles files.old }
-    ensures { (bound_run question (period_readers S.Source files.old files.new) (writer_of W.Target out.old out.new)).ends result }
+    ensures { AnswersFrom question S.Source files.old files.new (writer_of W.Target out.old out.new) result }
 {
     let ward = read_ward(alloc, &mut files.scenario, &mut files.history)?;
     let mut weeks = read_weeks(alloc, question.early, &ward, &mut files.weeks)?;

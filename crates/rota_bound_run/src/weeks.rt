@@ -1,8 +1,8 @@
 //! The weeks of a period, read one after the other.
-ghost use Rattle.std.specs.Prelude.{◌≡◌, IfOk, length};
+ghost use Rattle.std.specs.Prelude.{◌≡◌, IfOk, is_some, length};
 ghost use Rattle.rota_core.specs.InstanceTables.{IsInstance};
 ghost use Rattle.rota_core.specs.ScenarioTables.{numbers_of};
-ghost use Rattle.rota_bound_run.specs.PeriodFiles.{each_of, reader_if, week_readers};
+ghost use Rattle.rota_bound_run.specs.PeriodFiles.{KeepWeeks, each_of, reader_if, week_readers};
 ghost use Rattle.rota_bound_run.specs.PeriodRead.{read_weeks};
 ghost use Rattle.rota_bound_run.specs.PeriodSteps.{EndsAs};
 ghost use Rattle.rota_bound_run.specs.Wards.{IsWard};
@@ -41,6 +41,7 @@ fn hold_cells<S: Source>(
     requires limits { IsInstance instance }
     ensures holds { (hold_cells instance (reader_if S.Source fix.old fix.new)).ends result }
     ensures like { IfOk result (IsLike instance) }
+    ensures kept { is_some fix.new ≡ is_some fix.old }
 {
     match fix {
         Some(file) => {
@@ -62,6 +63,7 @@ fn read_period_week<S: Source>(
     requires { IsWard ward.now }
     ensures reads { (read_period_week early ward.now later (week_readers S.Source files.old files.new)).ends result }
     ensures week { IfOk result (IsWeekAt early ward.now later) }
+    ensures kept { is_some files.new.fix ≡ is_some files.old.fix }
 {
     let week = read_week_from(alloc, &ward.scenario, &mut files.week)?;
     let instance = join_week(alloc, early, ward, later, week)?;
@@ -79,7 +81,7 @@ pub(crate) fn read_weeks<S: Source>(
     ensures reads { EndsAs (λ weeks. weeks.items) (read_weeks early ward.now (each_of (week_readers S.Source) files.old files.new)).ends result }
     ensures weeks { IfOk result (λ weeks. AreWeeksFrom early ward.now 0 weeks.items) }
     ensures count { IfOk result (λ weeks. length weeks.items ≡ length files.old) }
-    ensures files { length files.new ≡ length files.old }
+    ensures kept { KeepWeeks files.old files.new }
 {
     let mut weeks = Vec::new(alloc);
     let count = files.len();

@@ -17,40 +17,49 @@ pub returns-in_err-ward : goal.returns-in_err-ward
 unfolding bound_run
 returns-in_err-ward g c =
     let files = c.args.files.now in
-    stopped_for_all (read_ward (reader_of g.S.Source files.scenario c.read_ward.new.scenario_file) (reader_of g.S.Source files.history
-    c.read_ward.new.history_file))
-    _ _ c.from_residual.ensures.1 c.in_err-ward.ensures.reads
-    (λ ward. (
-      reads-no-weeks g.S.Source _ ward files.weeks.items,
-      λ weeks. (
-        gives-none g.S.Source _ _ files.given,
-        λ given. (
-          proves-none g.S.Source _ _ files.proof,
-          λ certificate. (
-            judges-none g.S.Source weeks given files.rosters.items,
-            λ judged.
-                (tt, λ answer. refl),
-          ),
-        ),
-      ),
-    ))
+    record {
+      kept = record { weeks = refl; given = refl; proof = refl; rosters = refl };
+      ends =
+          stopped_for_all (read_ward (reader_of g.S.Source files.scenario c.read_ward.new.scenario_file) (reader_of g.S.Source files.history
+          c.read_ward.new.history_file))
+          _ _ c.from_residual.ensures.1 c.in_err-ward.ensures.reads
+          (λ ward. (
+            reads-no-weeks g.S.Source _ ward files.weeks.items,
+            λ weeks. (
+              gives-none g.S.Source _ _ files.given,
+              λ given. (
+                proves-none g.S.Source _ _ files.proof,
+                λ certificate. (
+                  judges-none g.S.Source weeks given files.rosters.items,
+                  λ judged.
+                      (tt, λ answer. refl),
+                ),
+              ),
+            ),
+          ));
+    }
 
 pub returns-in_err-weeks : goal.returns-in_err-weeks
 unfolding bound_run
 returns-in_err-weeks g c =
     let files = c.args.files.now in
-    went_on c.in_ok-ward.ward c.in_ok-ward.ensures.reads
-    (stopped_by _ _ c.from_residual-in_err-weeks.ensures.1 (weeks-back g.S.Source c.args.question.early c.in_ok-ward.ward
-    files.weeks.items c.deref_mut.result.now c.read_weeks.new.files files.weeks.len
-    c.deref_mut.ensures.value c.deref_mut.ensures.len c.in_err-weeks.ensures.files _ c.in_err-weeks.ensures.reads)
-    (λ weeks. (
-      gives-none g.S.Source _ _ files.given,
-      λ given. (
-        proves-none g.S.Source _ _ files.proof,
-        λ certificate.
-            (judges-none g.S.Source weeks given files.rosters.items, λ judged. (tt, λ answer. refl)),
-      ),
-    )))
+    let weeks_read = weeks-back g.S.Source c.args.question.early c.in_ok-ward.ward files.weeks.items c.deref_mut.result.now
+    c.read_weeks.new.files files.weeks.len c.deref_mut.ensures.value c.deref_mut.ensures.len c.in_err-weeks.ensures.kept _
+    c.in_err-weeks.ensures.reads in
+    record {
+      kept = record { weeks = weeks_read.0; given = refl; proof = refl; rosters = refl };
+      ends =
+          went_on c.in_ok-ward.ward c.in_ok-ward.ensures.reads
+          (stopped_by _ _ c.from_residual-in_err-weeks.ensures.1 weeks_read.1
+          (λ weeks. (
+            gives-none g.S.Source _ _ files.given,
+            λ given. (
+              proves-none g.S.Source _ _ files.proof,
+              λ certificate.
+                  (judges-none g.S.Source weeks given files.rosters.items, λ judged. (tt, λ answer. refl)),
+            ),
+          )));
+    }
 
 pub returns-in_err-given : goal.returns-in_err-given
 unfolding bound_run
@@ -58,21 +67,26 @@ returns-in_err-given g c =
     let files = c.args.files.now in
     let weeks = c.in_ok-weeks.weeks.items in
     let count : c.len-count.result ≡ length weeks = c.len-count.ensures ∙ c.in_ok-weeks.weeks.ok.0 in
-    went_on c.in_ok-ward.ward c.in_ok-ward.ensures.reads
-    (went_on c.in_ok-weeks.weeks.items (weeks-back g.S.Source c.args.question.early c.in_ok-ward.ward files.weeks.items
-    c.deref_mut.result.now c.read_weeks.new.files files.weeks.len
-    c.deref_mut.ensures.value c.deref_mut.ensures.len c.in_ok-weeks.ensures.files _ c.in_ok-weeks.ensures.reads)
-    (stopped_for_all (read_given c.in_ok-ward.ward.scenario (length weeks) (reader_if g.S.Source files.given c.read_given.new.file)) _ _
-    c.from_residual-in_err-given.ensures.1 (subst (λ (n : ℕ). (read_given c.in_ok-ward.ward.scenario n (reader_if g.S.Source files.given
-    c.read_given.new.file)).ends (Err c.in_err-given.field-0.0)) count c.in_err-given.ensures.reads)
-    (λ given. (
-      proves-none g.S.Source _ _ files.proof,
-      λ certificate. (
-        judges-none g.S.Source weeks given files.rosters.items,
-        λ judged.
-            (tt, λ answer. refl),
-      ),
-    ))))
+    let weeks_read = weeks-back g.S.Source c.args.question.early c.in_ok-ward.ward files.weeks.items c.deref_mut.result.now
+    c.read_weeks.new.files files.weeks.len c.deref_mut.ensures.value c.deref_mut.ensures.len c.in_ok-weeks.ensures.kept _
+    c.in_ok-weeks.ensures.reads in
+    record {
+      kept = record { weeks = weeks_read.0; given = c.in_err-given.ensures.kept; proof = refl; rosters = refl };
+      ends =
+          went_on c.in_ok-ward.ward c.in_ok-ward.ensures.reads
+          (went_on c.in_ok-weeks.weeks.items weeks_read.1
+          (stopped_for_all (read_given c.in_ok-ward.ward.scenario (length weeks) (reader_if g.S.Source files.given c.read_given.new.file)) _ _
+          c.from_residual-in_err-given.ensures.1 (subst (λ (n : ℕ). (read_given c.in_ok-ward.ward.scenario n (reader_if g.S.Source files.given
+          c.read_given.new.file)).ends (Err c.in_err-given.field-0.0)) count c.in_err-given.ensures.reads)
+          (λ given. (
+            proves-none g.S.Source _ _ files.proof,
+            λ certificate. (
+              judges-none g.S.Source weeks given files.rosters.items,
+              λ judged.
+                  (tt, λ answer. refl),
+            ),
+          ))));
+    }
 
 pub returns-in_err-certificate : goal.returns-in_err-certificate
 unfolding bound_run
@@ -81,16 +95,21 @@ returns-in_err-certificate g c =
     let weeks = c.in_ok-weeks.weeks.items in
     let count : c.len-count.result ≡ length weeks = c.len-count.ensures ∙ c.in_ok-weeks.weeks.ok.0 in
     let given = given_of c.in_ok-given.given in
-    went_on c.in_ok-ward.ward c.in_ok-ward.ensures.reads
-    (went_on c.in_ok-weeks.weeks.items (weeks-back g.S.Source c.args.question.early c.in_ok-ward.ward files.weeks.items
-    c.deref_mut.result.now c.read_weeks.new.files files.weeks.len
-    c.deref_mut.ensures.value c.deref_mut.ensures.len c.in_ok-weeks.ensures.files _ c.in_ok-weeks.ensures.reads)
-    (went_on given (subst (λ (n : ℕ). (read_given c.in_ok-ward.ward.scenario n (reader_if g.S.Source files.given
-    c.read_given.new.file)).ends (Ok given)) count c.in_ok-given.ensures.reads)
-    (stopped_for_all (read_proof c.in_ok-ward.ward.scenario (length weeks) (reader_if g.S.Source files.proof c.read_proof.new.file)) _ _
-    c.from_residual-in_err-certificate.ensures.1 (subst (λ (n : ℕ). (read_proof c.in_ok-ward.ward.scenario n (reader_if g.S.Source
-    files.proof c.read_proof.new.file)).ends (Err c.in_err-certificate.field-0.0)) count c.in_err-certificate.ensures.reads)
-    (λ certificate. (judges-none g.S.Source weeks given files.rosters.items, λ judged. (tt, λ answer. refl))))))
+    let weeks_read = weeks-back g.S.Source c.args.question.early c.in_ok-ward.ward files.weeks.items c.deref_mut.result.now
+    c.read_weeks.new.files files.weeks.len c.deref_mut.ensures.value c.deref_mut.ensures.len c.in_ok-weeks.ensures.kept _
+    c.in_ok-weeks.ensures.reads in
+    record {
+      kept = record { weeks = weeks_read.0; given = c.in_ok-given.ensures.kept; proof = c.in_err-certificate.ensures.kept; rosters = refl };
+      ends =
+          went_on c.in_ok-ward.ward c.in_ok-ward.ensures.reads
+          (went_on c.in_ok-weeks.weeks.items weeks_read.1
+          (went_on given (subst (λ (n : ℕ). (read_given c.in_ok-ward.ward.scenario n (reader_if g.S.Source files.given
+          c.read_given.new.file)).ends (Ok given)) count c.in_ok-given.ensures.reads)
+          (stopped_for_all (read_proof c.in_ok-ward.ward.scenario (length weeks) (reader_if g.S.Source files.proof c.read_proof.new.file)) _ _
+          c.from_residual-in_err-certificate.ensures.1 (subst (λ (n : ℕ). (read_proof c.in_ok-ward.ward.scenario n (reader_if g.S.Source
+          files.proof c.read_proof.new.file)).ends (Err c.in_err-certificate.field-0.0)) count c.in_err-certificate.ensures.reads)
+          (λ certificate. (judges-none g.S.Source weeks given files.rosters.items, λ judged. (tt, λ answer. refl))))));
+    }
 
 pub returns-in_err-judged : goal.returns-in_err-judged
 unfolding bound_run
@@ -99,19 +118,24 @@ returns-in_err-judged g c =
     let weeks = c.in_ok-weeks.weeks.items in
     let count : c.len-count.result ≡ length weeks = c.len-count.ensures ∙ c.in_ok-weeks.weeks.ok.0 in
     let given = given_of c.in_ok-given.given in
-    went_on c.in_ok-ward.ward c.in_ok-ward.ensures.reads
-    (went_on c.in_ok-weeks.weeks.items (weeks-back g.S.Source c.args.question.early c.in_ok-ward.ward files.weeks.items
-    c.deref_mut.result.now c.read_weeks.new.files files.weeks.len
-    c.deref_mut.ensures.value c.deref_mut.ensures.len c.in_ok-weeks.ensures.files _ c.in_ok-weeks.ensures.reads)
-    (went_on given (subst (λ (n : ℕ). (read_given c.in_ok-ward.ward.scenario n (reader_if g.S.Source files.given
-    c.read_given.new.file)).ends (Ok given)) count c.in_ok-given.ensures.reads)
-    (went_on c.in_ok-certificate.certificate (subst (λ (n : ℕ). (read_proof c.in_ok-ward.ward.scenario n (reader_if g.S.Source
-    files.proof c.read_proof.new.file)).ends (Ok c.in_ok-certificate.certificate)) count c.in_ok-certificate.ensures.reads)
-    (stopped_by _ _ c.from_residual-in_err-judged.ensures.1 (rosters-back g.S.Source weeks given files.rosters.items
-    c.deref_mut-3.result.now c.judge_plan.new.files files.rosters.len
-    c.deref_mut-3.ensures.value c.deref_mut-3.ensures.len c.in_err-judged.ensures.count _ (rw
-    c.deref_mut-2.ensures.value at c.in_err-judged.ensures.reads))
-    (λ judged. (tt, λ answer. refl))))))
+    let weeks_read = weeks-back g.S.Source c.args.question.early c.in_ok-ward.ward files.weeks.items c.deref_mut.result.now
+    c.read_weeks.new.files files.weeks.len c.deref_mut.ensures.value c.deref_mut.ensures.len c.in_ok-weeks.ensures.kept _
+    c.in_ok-weeks.ensures.reads in
+    let judged = rosters-back g.S.Source weeks given files.rosters.items c.deref_mut-3.result.now c.judge_plan.new.files
+    files.rosters.len c.deref_mut-3.ensures.value c.deref_mut-3.ensures.len c.in_err-judged.ensures.count _
+    (rw c.deref_mut-2.ensures.value at c.in_err-judged.ensures.reads) in
+    record {
+      kept = record { weeks = weeks_read.0; given = c.in_ok-given.ensures.kept; proof = c.in_ok-certificate.ensures.kept; rosters = judged.0 };
+      ends =
+          went_on c.in_ok-ward.ward c.in_ok-ward.ensures.reads
+          (went_on c.in_ok-weeks.weeks.items weeks_read.1
+          (went_on given (subst (λ (n : ℕ). (read_given c.in_ok-ward.ward.scenario n (reader_if g.S.Source files.given
+          c.read_given.new.file)).ends (Ok given)) count c.in_ok-given.ensures.reads)
+          (went_on c.in_ok-certificate.certificate (subst (λ (n : ℕ). (read_proof c.in_ok-ward.ward.scenario n (reader_if g.S.Source
+          files.proof c.read_proof.new.file)).ends (Ok c.in_ok-certificate.certificate)) count c.in_ok-certificate.ensures.reads)
+          (stopped_by _ _ c.from_residual-in_err-judged.ensures.1 judged.1
+          (λ judged. (tt, λ answer. refl))))));
+    }
 
 pub returns-in_err-answer : goal.returns-in_err-answer
 unfolding bound_run
@@ -120,19 +144,24 @@ returns-in_err-answer g c =
     let weeks = c.in_ok-weeks.weeks.items in
     let count : c.len-count.result ≡ length weeks = c.len-count.ensures ∙ c.in_ok-weeks.weeks.ok.0 in
     let given = given_of c.in_ok-given.given in
-    went_on c.in_ok-ward.ward c.in_ok-ward.ensures.reads
-    (went_on c.in_ok-weeks.weeks.items (weeks-back g.S.Source c.args.question.early c.in_ok-ward.ward files.weeks.items
-    c.deref_mut.result.now c.read_weeks.new.files files.weeks.len
-    c.deref_mut.ensures.value c.deref_mut.ensures.len c.in_ok-weeks.ensures.files _ c.in_ok-weeks.ensures.reads)
-    (went_on given (subst (λ (n : ℕ). (read_given c.in_ok-ward.ward.scenario n (reader_if g.S.Source files.given
-    c.read_given.new.file)).ends (Ok given)) count c.in_ok-given.ensures.reads)
-    (went_on c.in_ok-certificate.certificate (subst (λ (n : ℕ). (read_proof c.in_ok-ward.ward.scenario n (reader_if g.S.Source
-    files.proof c.read_proof.new.file)).ends (Ok c.in_ok-certificate.certificate)) count c.in_ok-certificate.ensures.reads)
-    (went_on c.in_ok-judged.judged (rosters-back g.S.Source weeks given files.rosters.items c.deref_mut-3.result.now
-    c.judge_plan.new.files files.rosters.len
-    c.deref_mut-3.ensures.value c.deref_mut-3.ensures.len c.in_ok-judged.ensures.count _ (rw
-    c.deref_mut-2.ensures.value at c.in_ok-judged.ensures.reads))
-    (stopped_by _ _ c.from_residual-in_err-answer.ensures.1 refl (λ answer. refl))))))
+    let weeks_read = weeks-back g.S.Source c.args.question.early c.in_ok-ward.ward files.weeks.items c.deref_mut.result.now
+    c.read_weeks.new.files files.weeks.len c.deref_mut.ensures.value c.deref_mut.ensures.len c.in_ok-weeks.ensures.kept _
+    c.in_ok-weeks.ensures.reads in
+    let judged = rosters-back g.S.Source weeks given files.rosters.items c.deref_mut-3.result.now c.judge_plan.new.files
+    files.rosters.len c.deref_mut-3.ensures.value c.deref_mut-3.ensures.len c.in_ok-judged.ensures.count _
+    (rw c.deref_mut-2.ensures.value at c.in_ok-judged.ensures.reads) in
+    record {
+      kept = record { weeks = weeks_read.0; given = c.in_ok-given.ensures.kept; proof = c.in_ok-certificate.ensures.kept; rosters = judged.0 };
+      ends =
+          went_on c.in_ok-ward.ward c.in_ok-ward.ensures.reads
+          (went_on c.in_ok-weeks.weeks.items weeks_read.1
+          (went_on given (subst (λ (n : ℕ). (read_given c.in_ok-ward.ward.scenario n (reader_if g.S.Source files.given
+          c.read_given.new.file)).ends (Ok given)) count c.in_ok-given.ensures.reads)
+          (went_on c.in_ok-certificate.certificate (subst (λ (n : ℕ). (read_proof c.in_ok-ward.ward.scenario n (reader_if g.S.Source
+          files.proof c.read_proof.new.file)).ends (Ok c.in_ok-certificate.certificate)) count c.in_ok-certificate.ensures.reads)
+          (went_on c.in_ok-judged.judged judged.1
+          (stopped_by _ _ c.from_residual-in_err-answer.ensures.1 refl (λ answer. refl))))));
+    }
 
 pub returns-in_err-write_answer : goal.returns-in_err-write_answer
 unfolding bound_run
@@ -146,24 +175,29 @@ returns-in_err-write_answer g c =
     c.deref_mut-2.ensures.value
     c.deref_mut-2.ensures.len c.in_ok-judged.ensures.same c.deref.ensures.value in
     let p = err_from_is_err_and c.from_residual-in_err-write_answer.result c.from_residual-in_err-write_answer.ensures.1 in
-    rw (p.1, p.2)
-    (went_on c.in_ok-ward.ward c.in_ok-ward.ensures.reads
-    (went_on c.in_ok-weeks.weeks.items (weeks-back g.S.Source c.args.question.early c.in_ok-ward.ward files.weeks.items
-    c.deref_mut.result.now c.read_weeks.new.files files.weeks.len
-    c.deref_mut.ensures.value c.deref_mut.ensures.len c.in_ok-weeks.ensures.files _ c.in_ok-weeks.ensures.reads)
-    (went_on given (subst (λ (n : ℕ). (read_given c.in_ok-ward.ward.scenario n (reader_if g.S.Source files.given
-    c.read_given.new.file)).ends (Ok given)) count c.in_ok-given.ensures.reads)
-    (went_on c.in_ok-certificate.certificate (subst (λ (n : ℕ). (read_proof c.in_ok-ward.ward.scenario n (reader_if g.S.Source
-    files.proof c.read_proof.new.file)).ends (Ok c.in_ok-certificate.certificate)) count c.in_ok-certificate.ensures.reads)
-    (went_on c.in_ok-judged.judged (rosters-back g.S.Source weeks given files.rosters.items c.deref_mut-3.result.now
-    c.judge_plan.new.files files.rosters.len
-    c.deref_mut-3.ensures.value c.deref_mut-3.ensures.len c.in_ok-judged.ensures.count _ (rw
-    c.deref_mut-2.ensures.value at c.in_ok-judged.ensures.reads))
-    (went_on c.in_ok-answer.answer (rw (now, c.deref-2.ensures.value) at c.in_ok-answer.ensures) (
-      _,
-      refl,
-      c.in_err-write_answer.ensures,
-    )))))))
+    let weeks_read = weeks-back g.S.Source c.args.question.early c.in_ok-ward.ward files.weeks.items c.deref_mut.result.now
+    c.read_weeks.new.files files.weeks.len c.deref_mut.ensures.value c.deref_mut.ensures.len c.in_ok-weeks.ensures.kept _
+    c.in_ok-weeks.ensures.reads in
+    let judged = rosters-back g.S.Source weeks given files.rosters.items c.deref_mut-3.result.now c.judge_plan.new.files
+    files.rosters.len c.deref_mut-3.ensures.value c.deref_mut-3.ensures.len c.in_ok-judged.ensures.count _
+    (rw c.deref_mut-2.ensures.value at c.in_ok-judged.ensures.reads) in
+    record {
+      kept = record { weeks = weeks_read.0; given = c.in_ok-given.ensures.kept; proof = c.in_ok-certificate.ensures.kept; rosters = judged.0 };
+      ends =
+          rw (p.1, p.2)
+          (went_on c.in_ok-ward.ward c.in_ok-ward.ensures.reads
+          (went_on c.in_ok-weeks.weeks.items weeks_read.1
+          (went_on given (subst (λ (n : ℕ). (read_given c.in_ok-ward.ward.scenario n (reader_if g.S.Source files.given
+          c.read_given.new.file)).ends (Ok given)) count c.in_ok-given.ensures.reads)
+          (went_on c.in_ok-certificate.certificate (subst (λ (n : ℕ). (read_proof c.in_ok-ward.ward.scenario n (reader_if g.S.Source
+          files.proof c.read_proof.new.file)).ends (Ok c.in_ok-certificate.certificate)) count c.in_ok-certificate.ensures.reads)
+          (went_on c.in_ok-judged.judged judged.1
+          (went_on c.in_ok-answer.answer (rw (now, c.deref-2.ensures.value) at c.in_ok-answer.ensures) (
+            _,
+            refl,
+            c.in_err-write_answer.ensures,
+          )))))));
+    }
 
 pub returns : goal.returns
 unfolding bound_run
@@ -176,19 +210,24 @@ returns g c =
     slice-back weeks c.deref_mut-2.result.now c.judge_plan.new.weeks c.deref.result.now c.in_ok-weeks.weeks.len
     c.deref_mut-2.ensures.value
     c.deref_mut-2.ensures.len c.in_ok-judged.ensures.same c.deref.ensures.value in
-    went_on c.in_ok-ward.ward c.in_ok-ward.ensures.reads
-    (went_on c.in_ok-weeks.weeks.items (weeks-back g.S.Source c.args.question.early c.in_ok-ward.ward files.weeks.items
-    c.deref_mut.result.now c.read_weeks.new.files files.weeks.len
-    c.deref_mut.ensures.value c.deref_mut.ensures.len c.in_ok-weeks.ensures.files _ c.in_ok-weeks.ensures.reads)
-    (went_on given (subst (λ (n : ℕ). (read_given c.in_ok-ward.ward.scenario n (reader_if g.S.Source files.given
-    c.read_given.new.file)).ends (Ok given)) count c.in_ok-given.ensures.reads)
-    (went_on c.in_ok-certificate.certificate (subst (λ (n : ℕ). (read_proof c.in_ok-ward.ward.scenario n (reader_if g.S.Source
-    files.proof c.read_proof.new.file)).ends (Ok c.in_ok-certificate.certificate)) count c.in_ok-certificate.ensures.reads)
-    (went_on c.in_ok-judged.judged (rosters-back g.S.Source weeks given files.rosters.items c.deref_mut-3.result.now
-    c.judge_plan.new.files files.rosters.len
-    c.deref_mut-3.ensures.value c.deref_mut-3.ensures.len c.in_ok-judged.ensures.count _ (rw
-    c.deref_mut-2.ensures.value at c.in_ok-judged.ensures.reads))
-    (went_on c.in_ok-answer.answer (rw (now, c.deref-2.ensures.value) at c.in_ok-answer.ensures) c.in_ok-write_answer.ensures)))))
+    let weeks_read = weeks-back g.S.Source c.args.question.early c.in_ok-ward.ward files.weeks.items c.deref_mut.result.now
+    c.read_weeks.new.files files.weeks.len c.deref_mut.ensures.value c.deref_mut.ensures.len c.in_ok-weeks.ensures.kept _
+    c.in_ok-weeks.ensures.reads in
+    let judged = rosters-back g.S.Source weeks given files.rosters.items c.deref_mut-3.result.now c.judge_plan.new.files
+    files.rosters.len c.deref_mut-3.ensures.value c.deref_mut-3.ensures.len c.in_ok-judged.ensures.count _
+    (rw c.deref_mut-2.ensures.value at c.in_ok-judged.ensures.reads) in
+    record {
+      kept = record { weeks = weeks_read.0; given = c.in_ok-given.ensures.kept; proof = c.in_ok-certificate.ensures.kept; rosters = judged.0 };
+      ends =
+          went_on c.in_ok-ward.ward c.in_ok-ward.ensures.reads
+          (went_on c.in_ok-weeks.weeks.items weeks_read.1
+          (went_on given (subst (λ (n : ℕ). (read_given c.in_ok-ward.ward.scenario n (reader_if g.S.Source files.given
+          c.read_given.new.file)).ends (Ok given)) count c.in_ok-given.ensures.reads)
+          (went_on c.in_ok-certificate.certificate (subst (λ (n : ℕ). (read_proof c.in_ok-ward.ward.scenario n (reader_if g.S.Source
+          files.proof c.read_proof.new.file)).ends (Ok c.in_ok-certificate.certificate)) count c.in_ok-certificate.ensures.reads)
+          (went_on c.in_ok-judged.judged judged.1
+          (went_on c.in_ok-answer.answer (rw (now, c.deref-2.ensures.value) at c.in_ok-answer.ensures) c.in_ok-write_answer.ensures)))));
+    }
 
 pub overflow_cast-count : goal.overflow_cast-count
 overflow_cast-count g c =
