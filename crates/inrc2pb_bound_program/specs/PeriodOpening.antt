@@ -1,30 +1,25 @@
 -- The files of a period, opened one after the other.
-use Rattle.std.specs.Prelude.{◌≡◌, List, [], ◌∷◌, Option, Result, Ok, Err, Vec, option_map, string_bytes}
+use Rattle.std.specs.Prelude.{◌≡◌, List, [], ◌∷◌, Result, Ok, Err, Vec, option_map, string_bytes}
 use Rattle.std.specs.declared.string.String.{String}
 use Rattle.byte_ports.specs.declared.ports.Source.{Ghosts}
-use Rattle.rota_pb.specs.declared.fault.Fault.TheVariants.{Memory}
-use Rattle.inrc2pb_job.specs.Opening.{Opening, ◌>>=◌, asks_none, end_as, make_room, open_at, open_if_named}
+use Rattle.inrc2pb_job.specs.Opening.{Opening, ◌>>=◌, end_as, make_room, open_at, open_if_named}
 use Rattle.rota_bound_run.specs.declared.files.PeriodFiles.{PeriodFiles}
 use Rattle.rota_bound_run.specs.declared.files.WeekFiles.{WeekFiles}
 
--- each of these is opened, in their order; before each of them, and at the end, memory may run out
-unfoldable pub open_each : {A B : Type 0} → (A → Opening B) → List A → Opening (List B)
-open_each one_of [] = asks_none (λ found. found ≡ []) (λ fault. fault ≡ Memory)
-open_each one_of (x ∷ xs) = do
-  _ ← make_room
+-- each of these is opened, in their order
+unfoldable pub open_in_order : {A B : Type 0} → (A → Opening B) → List A → Opening (List B)
+open_in_order one_of [] = end_as (λ found. found ≡ [])
+open_in_order one_of (x ∷ xs) = do
   one ← one_of x
-  later ← open_each one_of xs
+  later ← open_in_order one_of xs
   end_as (λ found. found ≡ one ∷ later)
 
--- these are the files of the period
-pub record IsPeriod {F : Type 0} (scenario history : F) (weeks : List (WeekFiles F)) (given proof : Option F) (rosters : List F)
-    (opened : PeriodFiles F) : Type 0 where
-  pub scenario_is : opened.scenario ≡ scenario
-  pub history_is : opened.history ≡ history
-  pub weeks_is : opened.weeks.items ≡ weeks
-  pub given_is : opened.given ≡ given
-  pub proof_is : opened.proof ≡ proof
-  pub rosters_is : opened.rosters.items ≡ rosters
+-- if there are any, memory for all of them, unless it runs out, and then each of them
+abbrev pub open_each : {A B : Type 0} → (A → Opening B) → List A → Opening (List B)
+open_each one_of [] = end_as (λ found. found ≡ [])
+open_each one_of (x ∷ xs) = do
+  _ ← make_room
+  open_in_order one_of (x ∷ xs)
 
 module _ {F X : Type 0} (port : Ghosts F) where
   -- the file at the path
@@ -47,7 +42,14 @@ module _ {F X : Type 0} (port : Ghosts F) where
     given ← open_if_named port (option_map string_bytes paths.given)
     proof ← open_if_named port (option_map string_bytes paths.proof)
     rosters ← open_each open_path paths.rosters.items
-    end_as (IsPeriod scenario history weeks given proof rosters)
+    end_as (λ opened. (opened.weeks.items ≡ weeks) × (opened.rosters.items ≡ rosters) × (opened ≡ record {
+      scenario = scenario;
+      history = history;
+      weeks = opened.weeks;
+      given = given;
+      proof = proof;
+      rosters = opened.rosters;
+    }))
 
 -- the result with the list of what a call opened
 abbrev pub list_of : {A Z E : Type 0} → Result (Vec A Z) E → Result (List A) E

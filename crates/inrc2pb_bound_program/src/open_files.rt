@@ -1,10 +1,9 @@
 //! The files of a job, open.
-ghost use Rattle.std.specs.Prelude.{option_map, string_bytes};
 ghost use Rattle.inrc2pb_job.specs.Openers.{OpensAs, opener_at};
-ghost use Rattle.inrc2pb_job.specs.Opening.{open_if_named as if_named_opening};
-ghost use Rattle.inrc2pb_bound_program.specs.PeriodOpening.{list_of, open_path as path_opening, open_each as each_opening, open_period as period_opening, open_week as week_opening};
+ghost use Rattle.inrc2pb_bound_program.specs.PeriodOpening.{list_of, open_each as each_opening, open_path as path_opening};
+ghost use Rattle.inrc2pb_bound_program.specs.PeriodOpening.{open_period as period_opening, open_week as week_opening};
 
-use inrc2pb_job::{Opens, open};
+use inrc2pb_job::{Opens, open, open_if_named};
 use rota_bound_run::{PeriodFiles, WeekFiles};
 use rota_pb::Fault;
 use std::alloc::Global;
@@ -18,7 +17,8 @@ pub fn open_period<O: Opens>(
     files: &mut O,
     paths: &PeriodFiles<String>,
 ) -> Result<PeriodFiles<O::File>, Fault>
-    ensures { OpensAs (opener_at O.Opens O.File.Source files.old files.new) (period_opening O.File.Source paths.now) result }
+    ensures { OpensAs (opener_at O.Opens O.File.Source files.old files.new)
+        (period_opening O.File.Source paths.now) result }
 {
     Ok(PeriodFiles {
         scenario: open(files, paths.scenario.as_str())?,
@@ -36,14 +36,13 @@ fn open_weeks<O: Opens>(
     files: &mut O,
     weeks: &[WeekFiles<String>],
 ) -> Result<Vec<WeekFiles<O::File>>, Fault>
-    ensures { OpensAs (opener_at O.Opens O.File.Source files.old files.new) (each_opening (week_opening O.File.Source) weeks.now) (list_of result) }
+    ensures { OpensAs (opener_at O.Opens O.File.Source files.old files.new)
+        (each_opening (week_opening O.File.Source) weeks.now) (list_of result) }
 {
     let mut opened = Vec::with_capacity(alloc, weeks.len())?;
     for week in weeks {
         let files_of_week = open_week(files, week)?;
-        if opened.push(files_of_week).is_err() {
-            return Err(Fault::Memory);
-        }
+        opened.push_reserved(files_of_week);
     }
     Ok(opened)
 }
@@ -53,7 +52,8 @@ fn open_week<O: Opens>(
     files: &mut O,
     paths: &WeekFiles<String>,
 ) -> Result<WeekFiles<O::File>, Fault>
-    ensures { OpensAs (opener_at O.Opens O.File.Source files.old files.new) (week_opening O.File.Source paths.now) result }
+    ensures { OpensAs (opener_at O.Opens O.File.Source files.old files.new)
+        (week_opening O.File.Source paths.now) result }
 {
     Ok(WeekFiles {
         week: open(files, paths.week.as_str())?,
@@ -67,24 +67,13 @@ fn open_each<O: Opens>(
     files: &mut O,
     paths: &[String],
 ) -> Result<Vec<O::File>, Fault>
-    ensures { OpensAs (opener_at O.Opens O.File.Source files.old files.new) (each_opening (path_opening O.File.Source) paths.now) (list_of result) }
+    ensures { OpensAs (opener_at O.Opens O.File.Source files.old files.new)
+        (each_opening (path_opening O.File.Source) paths.now) (list_of result) }
 {
     let mut opened = Vec::with_capacity(alloc, paths.len())?;
     for path in paths {
         let file = open(files, path.as_str())?;
-        if opened.push(file).is_err() {
-            return Err(Fault::Memory);
-        }
+        opened.push_reserved(file);
     }
     Ok(opened)
-}
-
-// Opens a file if it is named.
-fn open_if_named<O: Opens>(files: &mut O, path: &Option<String>) -> Result<Option<O::File>, Fault>
-    ensures { OpensAs (opener_at O.Opens O.File.Source files.old files.new) (if_named_opening O.File.Source (option_map string_bytes path.now)) result }
-{
-    match path {
-        Some(path) => Ok(Some(open(files, path.as_str())?)),
-        None => Ok(None),
-    }
 }

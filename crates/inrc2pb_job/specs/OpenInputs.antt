@@ -2,8 +2,8 @@
 use Rattle.std.specs.Prelude.{◌≡◌, false, true}
 use Rattle.byte_ports.specs.declared.ports.Source.{Ghosts}
 use Rattle.rota_pb.specs.RunPorts.{WeekReaders, reader_of}
-use Rattle.inrc2pb_job.specs.Jobs.{[], Option, Some, None, option_map, string_bytes, Inputs, IsChoiceOf, Path}
-use Rattle.inrc2pb_job.specs.Opening.{Opening, ◌>>=◌, end_as, open_at}
+use Rattle.inrc2pb_job.specs.Jobs.{[], Option, Some, None, option_map, string_bytes, Inputs, IsChoiceOf}
+use Rattle.inrc2pb_job.specs.Opening.{Opening, ◌>>=◌, end_as, open_at, open_if_named}
 use Rattle.inrc2pb_job.specs.declared.optional_file.OptionalFile.{OptionalFile}
 use Rattle.inrc2pb_job.specs.declared.optional_file.OptionalFile.TheVariants.{Named, Absent}
 pub use Rattle.inrc2pb_job.specs.declared.open_files.OpenInputs.{OpenInputs}
@@ -16,12 +16,10 @@ optional_port port = record {
   has_ended = elim [ Named file ↦ port.has_ended file | Absent ↦ true ];
 }
 
--- the file at the path, if one is named
-abbrev pub open_optional : {F : Type 0} → Ghosts F → Option Path → Opening (OptionalFile F)
-open_optional port None = end_as (λ file. file ≡ Absent)
-open_optional port (Some path) = do
-  file ← open_at port path
-  end_as (λ optional. optional ≡ Named file)
+-- the file, if there is one, otherwise the file without bytes
+abbrev pub optional_of : {F : Type 0} → Option F → OptionalFile F
+optional_of None = Absent
+optional_of (Some file) = Named file
 
 -- each input is opened at its own path, and the choices of the run are the choices of the inputs
 abbrev pub open_inputs : {F : Type 0} → Ghosts F → Inputs → Opening (OpenInputs F)
@@ -29,8 +27,14 @@ open_inputs port inputs = do
   sce ← open_at port (string_bytes inputs.sce)
   his ← open_at port (string_bytes inputs.his)
   week ← open_at port (string_bytes inputs.week)
-  fix ← open_optional port (option_map string_bytes inputs.fix)
-  end_as (λ opened. (opened ≡ record { choice = opened.choice; sce = sce; his = his; week = week; fix = fix }) × IsChoiceOf inputs opened.choice)
+  fix ← open_if_named port (option_map string_bytes inputs.fix)
+  end_as (λ opened. IsChoiceOf inputs opened.choice × (opened ≡ record {
+    choice = opened.choice;
+    sce = sce;
+    his = his;
+    week = week;
+    fix = optional_of fix;
+  }))
 
 -- the readers of the inputs that are `old` before a run and `new` after it
 abbrev pub readers_of : {F : Type 0} → Ghosts F → OpenInputs F → OpenInputs F → WeekReaders

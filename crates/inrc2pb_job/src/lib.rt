@@ -10,6 +10,6 @@ mod paths;
 
 pub use job::{Inputs, Job};
 pub use job_run::perform;
-pub use open_files::{OpenInputs, open, open_inputs, open_optional};
+pub use open_files::{OpenInputs, open, open_if_named, open_inputs};
 pub use optional_file::OptionalFile;
 pub use paths::{HasPath, Opens};

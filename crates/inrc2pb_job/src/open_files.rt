@@ -1,8 +1,8 @@
 //! The inputs of a job, open.
 ghost use Rattle.std.specs.Prelude.{option_map, string_bytes};
-ghost use Rattle.inrc2pb_job.specs.OpenInputs.{open_inputs as inputs_opening, open_optional as optional_opening};
+ghost use Rattle.inrc2pb_job.specs.OpenInputs.{open_inputs as inputs_opening};
 ghost use Rattle.inrc2pb_job.specs.Openers.{OpensAs, opener_at};
-ghost use Rattle.inrc2pb_job.specs.Opening.{open_at};
+ghost use Rattle.inrc2pb_job.specs.Opening.{open_at, open_if_named as if_named_opening};
 
 use crate::job::Inputs;
 use crate::optional_file::OptionalFile;
@@ -35,14 +35,15 @@ impl<F: Drop> Drop for OpenInputs<F> {
 /// # Errors
 /// `Read` if an input does not open.
 pub fn open_inputs<O: Opens>(files: &mut O, inputs: &Inputs) -> Result<OpenInputs<O::File>, Fault>
-    ensures { OpensAs (opener_at O.Opens O.File.Source files.old files.new) (inputs_opening O.File.Source inputs.now) result }
+    ensures { OpensAs (opener_at O.Opens O.File.Source files.old files.new)
+        (inputs_opening O.File.Source inputs.now) result }
 {
     Ok(OpenInputs {
         choice: inputs.choice(),
         sce: open(files, inputs.sce.as_str())?,
         his: open(files, inputs.his.as_str())?,
         week: open(files, inputs.week.as_str())?,
-        fix: open_optional(files, &inputs.fix)?,
+        fix: OptionalFile::of(open_if_named(files, &inputs.fix)?),
     })
 }
 
@@ -51,7 +52,8 @@ pub fn open_inputs<O: Opens>(files: &mut O, inputs: &Inputs) -> Result<OpenInput
 /// # Errors
 /// `Read` if the input does not open.
 pub fn open<O: Opens>(files: &mut O, path: &str) -> Result<O::File, Fault>
-    ensures { OpensAs (opener_at O.Opens O.File.Source files.old files.new) (open_at O.File.Source path.now) result }
+    ensures { OpensAs (opener_at O.Opens O.File.Source files.old files.new)
+        (open_at O.File.Source path.now) result }
 {
     match files.open(path) {
         Ok(file) => Ok(file),
@@ -63,14 +65,15 @@ pub fn open<O: Opens>(files: &mut O, path: &str) -> Result<O::File, Fault>
 ///
 /// # Errors
 /// `Read` if the input does not open.
-pub fn open_optional<O: Opens>(
+pub fn open_if_named<O: Opens>(
     files: &mut O,
     path: &Option<String>,
-) -> Result<OptionalFile<O::File>, Fault>
-    ensures { OpensAs (opener_at O.Opens O.File.Source files.old files.new) (optional_opening O.File.Source (option_map string_bytes path.now)) result }
+) -> Result<Option<O::File>, Fault>
+    ensures { OpensAs (opener_at O.Opens O.File.Source files.old files.new)
+        (if_named_opening O.File.Source (option_map string_bytes path.now)) result }
 {
     match path {
-        Some(path) => Ok(OptionalFile::Named(open(files, path.as_str())?)),
-        None => Ok(OptionalFile::Absent),
+        Some(path) => Ok(Some(open(files, path.as_str())?)),
+        None => Ok(None),
     }
 }

@@ -1,5 +1,6 @@
 //! A file that a job names, or none.
-ghost use Rattle.std.specs.Prelude.{Some, [], false, true};
+ghost use Rattle.std.specs.Prelude.{◌≡◌, Some, [], false, true};
+ghost use Rattle.inrc2pb_job.specs.OpenInputs.{optional_of};
 ghost use Rattle.inrc2pb_job.specs.declared.optional_file.OptionalFile.TheVariants.{Absent, Named};
 
 use byte_ports::{PortFault, Source};
@@ -9,6 +10,18 @@ use byte_ports::{PortFault, Source};
 pub enum OptionalFile<F> {
     Named(F),
     Absent,
+}
+
+impl<F> OptionalFile<F> {
+    /// The file, if there is one, otherwise an empty file at its end.
+    pub(crate) fn of(file: Option<F>) -> OptionalFile<F>
+        ensures { result ≡ optional_of file }
+    {
+        match file {
+            Some(file) => OptionalFile::Named(file),
+            None => OptionalFile::Absent,
+        }
+    }
 }
 
 impl<F: Source> Source for OptionalFile<F> {

@@ -17,10 +17,10 @@ run_bound-requires g c =
     let paths = c.args.job.now.paths in
     let three = went (went (went c.in_ok-opened.ensures.ends).4).4 in
     let six = went (went (went three.4).4).4 in
-    let is_period = six.4.1 in
-    let weeks = ap length is_period.weeks_is ∙ each-length (open_week port) paths.weeks.items three.0 at three.1 three.3 in
-    let rosters = ap length is_period.rosters_is ∙ each-length (open_path port) paths.rosters.items six.0 at six.1 six.3 in
+    let opened = six.4.1 in
+    let weeks = ap length opened.0 ∙ each-length (open_week port) paths.weeks.items three.0 at three.1 three.3 in
+    let rosters = ap length opened.1 ∙ each-length (open_path port) paths.rosters.items six.0 at six.1 six.3 in
     record { files = record { some = rw weeks c.requires.some; rosters = rw (weeks, rosters) c.requires.rosters } }
 
 pub returns : goal.returns
-returns g c = ran c.in_ok-opened.opened c.run_bound.new.files c.in_ok-opened.ensures (search (c.run_bound.ensures))
+returns g c = ran c.in_ok-opened.opened c.run_bound.new.files c.in_ok-opened.ensures c.run_bound.ensures

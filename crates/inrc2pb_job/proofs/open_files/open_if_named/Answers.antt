@@ -1,6 +1,6 @@
 use Rattle.std.proofs.Common.{refl}
 use Rattle.inrc2pb_job.proofs.OpeningLemmas.{opens_none, opens_stopped, opens_then}
-use Rattle.inrc2pb_bound_program.proofs.open_files.open_if_named.Goals as goal
+use Rattle.inrc2pb_job.proofs.open_files.open_if_named.Goals as goal
 
 pub returns-in_err-open-in-Some : goal.returns-in_err-open-in-Some
 returns-in_err-open-in-Some g c =
