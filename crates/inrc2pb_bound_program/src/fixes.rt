@@ -1,7 +1,5 @@
 //! The held cells that the words name: each text of `--fix` names a week and a path.
-ghost use Rattle.std.specs.Prelude.{◌≡◌, ◌+◌, None, Some, if◌then◌else◌, min, option_map};
-ghost use Rattle.rota_core.specs.Decimal.{decimal, is_decimal};
-ghost use Rattle.rota_core.specs.Limits.{max_weeks};
+ghost use Rattle.std.specs.Prelude.{◌≡◌, option_map};
 ghost use Rattle.inrc2pb_frame.specs.Options.{texts};
 ghost use Rattle.inrc2pb_bound_program.specs.FixTexts.{are_fixes as each_has_a_week, fix_of, path_named, week_named};
 

@@ -2,7 +2,7 @@
 use Rattle.std.proofs.Common.{◌≡◌, ℕ, suc, ◌+◌, ◌*◌, ◌^◌, ◌<◌, ◌≤◌, refl, ap, sym, ◌∙◌, subst, arith, List, [], ◌∷◌, ◌++◌, length, take, drop, get_or, length-append}
 use Rattle.std.specs.Prelude.{Some, slice_get, slice_index_or}
 use Rattle.std.specs.List.{AllByRecursion}
-use Rattle.std.proofs.lemmas.List.{drop_more, length-map, take_all}
+use Rattle.std.proofs.lemmas.List.{drop_more}
 use Rattle.std.proofs.lemmas.Option.{slice_get_read}
 use Rattle.std.proofs.lemmas.List.Sums.{sum_by-append, sum_by-cons}
 use Rattle.rota_core.specs.HardRules.{KeepsHardRules}
@@ -13,7 +13,7 @@ use Rattle.rota_core.specs.declared.values.Past.{Past}
 use Rattle.rota_core.proofs.LogicWords.{AllByRecursion-append}
 use Rattle.rota_rules.specs.CostBounds.{penalty_limit}
 use Rattle.rota_rules.specs.Penalty.{penalty}
-use Rattle.rota_certificate.specs.CountedCharges.{HaveShapes, IsPlanned, numbers_in}
+use Rattle.rota_certificate.specs.CountedCharges.{HaveShapes, numbers_in}
 use Rattle.rota_certificate.specs.Plans.{Pasts, after, history_after, plan_after, plan_cost, plan_from}
 use Rattle.rota_certificate.specs.PeriodBounds.{IsPeriod}
 use Rattle.rota_certificate.proofs.CountedPlans.{numbers-at}

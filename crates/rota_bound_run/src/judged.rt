@@ -1,11 +1,8 @@
 //! The rosters of all weeks, read and judged one after the other.
-ghost use Rattle.std.specs.Prelude.{◌≡◌, ◌<◌, [], IfOk, IfSome, length, map};
-ghost use Rattle.rota_core.specs.Certificates.{AreConditionsFor};
-ghost use Rattle.rota_core.specs.InstanceTables.{problem_of};
-ghost use Rattle.rota_core.specs.RosterTables.{set_of};
+ghost use Rattle.std.specs.Prelude.{◌≡◌, ◌<◌, IfOk, IfSome, length};
 ghost use Rattle.rota_certificate_read.specs.FactsLayout.{given_of};
 ghost use Rattle.rota_pb.specs.RunPorts.{reader_of};
-ghost use Rattle.rota_certificate.specs.CountedCharges.{IsPlanned, numbers_in};
+ghost use Rattle.rota_certificate.specs.CountedCharges.{IsPlanned};
 ghost use Rattle.rota_certificate.specs.Plans.{plan_cost, plan_from};
 ghost use Rattle.rota_certificate.specs.PeriodBounds.{AreGivenFor, IsPeriod};
 ghost use Rattle.rota_bound_run.specs.PeriodFiles.{AreRosters, each_of};
