@@ -108,6 +108,8 @@ class Pricing:
         self.wishes = [plan.wishes(nurse, requests.get(nurse, ())) for nurse in plan.nurses]
         # The days on which rows may differ from these, if there are some.
         self._days, self._rows = range(plan.days), [b""] * 0
+        # The nurses on these days, from their first pricing on: choices that are kept do not change them.
+        self._members: List[Member] = []
         self._batch: Optional[_Batch] = None
 
     def part(self, plan: Plan) -> "Pricing":
@@ -118,13 +120,13 @@ class Pricing:
         part.plan, part.crews = plan, Crews(plan)
         part.graphs, part.starts = [self.graphs[number] for number in numbers], [self.starts[number] for number in numbers]
         part.base, part.wishes = [self.base[number] for number in numbers], [self.wishes[number] for number in numbers]
-        part._days, part._rows, part._batch = self._days, [b""] * 0, None
+        part._days, part._rows, part._members, part._batch = self._days, [b""] * 0, [], None
         return part
 
     def on_days(self, days: range, rows: Sequence[NurseWeek]) -> "Pricing":
         """The same for rows that are the given ones, except on these days."""
         part = copy.copy(self)
-        part.wishes, part._days, part._rows, part._batch = [], days, list(rows), None
+        part.wishes, part._days, part._rows, part._members, part._batch = [], days, list(rows), [], None
         others = [day for day in range(self.plan.days) if day not in days]
         for nurse, row in enumerate(rows):
             part.wishes.append({**self.wishes[nurse], **{day: self._only(nurse, day, row[day]) for day in others}})
@@ -157,8 +159,17 @@ class Pricing:
     def cheapest_of(self, nurses: Sequence[int], gains: Gains) -> List[Optional[Priced]]:
         """The cheapest row of each of these nurses."""
         if self._batch is None:
-            self._batch = _Batch(self, self._days, self._rows)
+            self._members += [] if self._members else map(self._member, range(len(self.plan.nurses)))
+            self._batch = _Batch(self, self._days, self._rows, self._members)
         return self._batch.cheapest(nurses, gains)
+
+    def _member(self, nurse: int) -> Member:
+        """A nurse on the days on which her row may differ from the one that she keeps."""
+        graph, start, rest, days = self.graphs[nurse], self.starts[nurse], None, self._days
+        if self._rows:
+            start, _ = graph.walked(start, self._rows[nurse][: days.start])
+            rest = graph.arrays.after(days.stop, self._rows[nurse]) if days.stop < len(graph.days) else None
+        return Member(nurse, graph.arrays, start, rest)
 
     def cost(self, nurse: int, row: NurseWeek) -> Optional[Points]:
         """What a row costs its nurse; None if a hard rule forbids it."""
@@ -183,7 +194,7 @@ class Pricing:
 class _Batch:
     """The nurses of a pricing together, on the days on which their rows may differ from those that they keep."""
 
-    def __init__(self, pricing: Pricing, days: range, rows: Sequence[NurseWeek]) -> None:
+    def __init__(self, pricing: Pricing, days: range, rows: Sequence[NurseWeek], members: Sequence[Member]) -> None:
         self._pricing, self._days, self._rows = pricing, days, rows
         # By nurse, day and choice.
         self._crews = numpy.array(pricing.crews.of)
@@ -191,13 +202,6 @@ class _Batch:
         for nurse, wishes in enumerate(pricing.wishes):
             for day, costs in wishes.items():
                 self._wishes[nurse, day] = costs
-        members = []
-        for nurse, (graph, start) in enumerate(zip(pricing.graphs, pricing.starts)):
-            rest = None
-            if rows:
-                start, _ = graph.walked(start, rows[nurse][: days.start])
-                rest = graph.arrays.after(days.stop, rows[nurse]) if days.stop < len(graph.days) else None
-            members.append(Member(nurse, graph.arrays, start, rest))
         self._together = priced_together(members, days, self._wishes < NEVER // 2)
 
     def cheapest(self, nurses: Sequence[int], gains: Gains) -> List[Optional[Priced]]:

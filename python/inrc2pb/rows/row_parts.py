@@ -1,6 +1,7 @@
 """Improves the best roster of a search part by part, with several solvers at once: which parts come, and how large they are."""
 
 import concurrent.futures
+import itertools
 import math
 import random
 import threading
@@ -14,7 +15,7 @@ from .part_search import MOST_WORK, Dive, Done, Part, PartSearch
 from .plan import POINT, STEP
 from .pricing import NurseWeek
 from .row_search import RowSearch
-from .workers import PartWorker, workers
+from .workers import PAUSE, PartWorker, workers
 
 # The nurses of the first neighborhood of one week, and the fewest of any.
 FIRST_SIZE, LEAST_SIZE = 20.0, 4
@@ -31,8 +32,8 @@ WIDE_GAP = 6 * STEP * POINT
 # The share of the time that is left for a dive, the shares that dives fix at once, and their seeds. After the first ones their work in
 # vain is about this part of that of neighborhoods.
 DIVE_SHARE, FIXED_SHARES, MOST_SEED, DIVES = 0.5, (0.08, 0.06, 0.1), 1 << 30, 0.2
-# With more weeks than this a dive takes long. So the first one fixes this share, to end soon.
-FEW_WEEKS, FIRST_FIXED = 4, 0.3
+# With more weeks than this prices and dives take long. So the first plan is made better beside that, in windows of so many weeks.
+FEW_WEEKS, WINDOW = 4, 3
 # A roster that was not made better by so much work is left for that of a new dive, in a period.
 STUCK_WORK = 20 * MOST_WORK
 # Up to this part of the bound a gap is small. The share of the time that is left for an integer program over the known rows of all
@@ -63,11 +64,54 @@ class Restart:
         return True
 
 
+class Sweeps:
+    """Makes the first plan of a long period better while its prices are not known yet, in a process of its own: all nurses get new rows in
+    a window of some weeks, one window after another, until all of them are in vain."""
+
+    def __init__(self, search: RowSearch, solver: LinearSolver, clock: Clock) -> None:
+        self._search, self._clock = search, clock.part(clock.left())
+        [self._worker] = workers(search.known(), [solver])
+        self._pool = concurrent.futures.ThreadPoolExecutor(1)
+        self._done = self._pool.submit(self._run)
+
+    def _run(self) -> None:
+        plan, vain = self._search.plan, 0
+        windows = [range(WEEK_DAYS * first, WEEK_DAYS * (first + WINDOW)) for first in range(len(plan.weeks) - WINDOW + 1)]
+        for days in itertools.cycle(windows):
+            vain = 0 if self._improve(Part(tuple(range(len(plan.nurses))), days)) else vain + 1
+            if vain == len(windows) or self._clock.left() <= 0:
+                return
+
+    def _improve(self, part: Part) -> bool:
+        """Looks for better rows in a window. Returns whether there is a better plan now."""
+        search, before, rows = self._search, self._search.penalty, list(self._search.rows or ())
+
+        def take(found: List[NurseWeek], finder: str) -> bool:
+            return search.keep(part.put(search.rows or rows, found), finder)
+
+        self._worker.do(Done, ("improve", part, rows), self._clock, take)
+        return search.penalty != before
+
+    def wait(self, clock: Clock) -> None:
+        """Waits until they have ended."""
+        while not concurrent.futures.wait([self._done], PAUSE).done:
+            clock.check()
+        self._done.result()
+
+    def end(self) -> None:
+        """Ends them."""
+        self._clock.stop()
+        self._pool.shutdown()
+        self._worker.end()
+
+
 class RowParts:
     """Improves the best roster of a search part by part, with each of the solvers at once, `apart` in a process of its own. Each solver has
-    files of its own."""
+    files of its own. The last one waits for the end of `sweeps`."""
 
-    def __init__(self, search: RowSearch, solvers: Sequence[LinearSolver], seed: int = 1, apart: bool = False) -> None:
+    def __init__(
+        self, search: RowSearch, solvers: Sequence[LinearSolver], seed: int = 1, apart: bool = False, sweeps: Optional[Sweeps] = None
+    ) -> None:
         self._search, self._solvers = search, solvers
         self._chance = random.Random(seed)
         self._minimums = search.minimum_values()
@@ -83,7 +127,7 @@ class RowParts:
         self._sizes = {length: min(len(search.plan.nurses), FIRST_SIZE * (WEEK_DAYS / length) ** 0.5) for length in lengths}
         self._spent, self._dived = dict.fromkeys(lengths, 0), 0.0
         # How many dives have begun, and how many run. In a period each solver begins with one.
-        self._begun = self._diving = 0
+        self._begun, self._diving, self._sweeps = 0, 0, sweeps
         self._firsts = len(solvers) if len(search.plan.weeks) > 1 else 1
         # The days on which new choices of all nurses do not make the best roster better.
         self._closed: Set[range] = set()
@@ -122,6 +166,8 @@ class RowParts:
         """One thread: neighborhoods of sizes that its time allows, and dives if no other thread makes one. In a week with a small gap the
         first thread begins with all nurses."""
         search = self._search
+        if self._sweeps and number + 1 == len(self._solvers):
+            self._sweeps.wait(clock)
         if number == 0 and not self._dives and search.bound is not None and search.gap() < SMALL_GAP * search.bound:
             everything = Part(tuple(range(len(search.plan.nurses))), range(search.plan.days), limited=False)
             self.improve(everything, solver, clock.part(clock.left() * WHOLE_SHARE), search)
@@ -175,9 +221,7 @@ class RowParts:
             self._begun, self._diving = self._begun + 1, self._diving + 1
             share: float = self._chance.choice(FIXED_SHARES)
             seed: Optional[int] = self._chance.randrange(MOST_SEED)
-            if self._begun == 1:
-                share, seed = FIRST_FIXED if len(self._search.plan.weeks) > FEW_WEEKS else FIXED_SHARES[0], None
-            return Dive(share, seed, self._search.penalty)
+            return Dive(share, seed, self._search.penalty) if self._begun > 1 else Dive(FIXED_SHARES[0], None, self._search.penalty)
 
     def _dive(self, solver: LinearSolver, clock: Clock, dive: Dive) -> None:
         """A dive over all nurses and days."""

@@ -18,7 +18,7 @@ from .first_rows import matched_rows
 from .plan import POINT, STEP, Plan, Points
 from .pricing import Crews, NurseWeek, Priced, Prices, Pricing
 from .row_generation import NoRow, RowGeneration
-from .row_parts import RowParts
+from .row_parts import FEW_WEEKS, RowParts, Sweeps
 from .row_search import GIVEN, Offer, RowSearch, WrongBound
 from .skills import staffed
 from .week_dives import WeekDives
@@ -30,8 +30,8 @@ ROWS_SHARE, DIVE_SHARE, LAST_DIVE_SHARE, KNOWN_SHARE, LISTED_SHARE = 0.5, 0.5, 0
 # The most rows of an integer program.
 MOST_LISTED = 6_000
 # Up to this gap, in thousandths, a tree of cases may end soon: in a week nothing else is done for this number of seconds. It is worth its
-# time up to this part of the bound, too.
-TREE_GAP, TREE_SECONDS, TREE_PART = 4 * STEP * POINT, 1.0, 0.1
+# time up to this part of the bound, too, and in a long period, in which plans get better for long, up to the second.
+TREE_GAP, TREE_SECONDS, TREE_PART, LONG_TREE_PART = 4 * STEP * POINT, 1.0, 0.1, 0.015
 # The share of the time that is left for a tree alone, if the gap is one step.
 LAST_SHARE = 0.5
 # The seconds that a tree has after a solver's claim of the best roster, or more if the search took longer.
@@ -92,6 +92,7 @@ class RowRun:
         self.crews = Crews(plan)
         self.search: Optional[RowSearch] = None
         self._tree: Optional[CaseTree] = None
+        self._sweeps: Optional[Sweeps] = None
         # Prices that prove that no roster keeps the minimums; or the nurse who has no row.
         self.minimums: Optional[Certificate] = None
         self.without_row: Optional[str] = None
@@ -121,6 +122,9 @@ class RowRun:
             return
         except NoRow as none:
             self.without_row = none.nurse
+        finally:
+            if self._sweeps:
+                self._sweeps.end()
 
     def _run(self) -> None:
         first, finder = self._start or matched_rows(self.plan, self.crews, self._clock.check), GIVEN if self._start else "matching"
@@ -130,6 +134,8 @@ class RowRun:
         search.begin(first, penalty)
         if self._solver is None:
             return
+        if penalty is not None and self._dives_beside and len(self.plan.weeks) > FEW_WEEKS:
+            self._sweeps = Sweeps(search, self._solver.beside(1), self._clock)
         while not search.complete:
             self._try(search.generate, ROWS_SHARE)
             if search.complete and search.misses_minimums and (self._keeps_limits or self._no_roster()):
@@ -200,7 +206,7 @@ class RowRun:
                 concurrent.futures.wait([tree], clock.left() * LAST_SHARE)
                 clock.check()
         if solver.chooses and not search.is_proved:
-            RowParts(search, _side_by_side(solver), self._seed, apart=processors() > 1).run(clock)
+            RowParts(search, _side_by_side(solver), self._seed, processors() > 1, self._sweeps).run(clock)
 
     def _choose_among_all(self, search: RowSearch, solver: LinearSolver, clock: Clock) -> bool:
         """Lets an integer program choose among the rows that a better roster can have. Returns whether the solver claims that there is
@@ -221,7 +227,8 @@ class RowRun:
         """Whether the gap is small enough for a tree of cases."""
         if not self._splits or search.penalty is None or search.bound is None:
             return False
-        return search.gap() <= max(TREE_GAP, TREE_PART * search.bound)
+        part = LONG_TREE_PART if len(self.plan.weeks) > FEW_WEEKS else TREE_PART
+        return search.gap() <= max(TREE_GAP, part * search.bound)
 
     def _close_cases(self, search: RowSearch, solver: LinearSolver, clock: Clock) -> None:
         """Looks for cases that show that no roster costs less than the best one, and for better rosters, as soon as the gap is small. If

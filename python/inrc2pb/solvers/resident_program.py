@@ -167,8 +167,9 @@ class LinearProgram:
         self._number = child.number() if child else 0
         self._lower, self._upper = array("d"), array("d")
         self._columns: List[Column] = []
-        # The operations that the child has not done yet, and the start of the child that has done the others.
+        # The changes that the child has not done yet, the rows and columns that it has, and its start.
         self._pending: List[_Operation] = []
+        self._sent = (0, 0)
         self._start = 0
         # The statuses of the columns and rows in the basis of the last whole solution.
         self.basis = (b"", b"")
@@ -200,18 +201,14 @@ class LinearProgram:
 
     def add_rows(self, bounds: Iterable[Tuple[float, float]]) -> None:
         """Adds rows without entries, of these lower and upper bounds."""
-        given = list(bounds)
-        lower, upper = array("d", (_finite(least) for least, _ in given)), array("d", (_finite(most) for _, most in given))
-        self._lower += lower
-        self._upper += upper
-        self._pending.append(("add_rows", lower.tobytes(), upper.tobytes()))
+        for lower, upper in bounds:
+            self._lower.append(_finite(lower))
+            self._upper.append(_finite(upper))
 
     def add_columns(self, columns: Sequence[Column]) -> int:
         """Adds columns, at their lower bounds. Returns the number of the first one."""
         first = len(self._columns)
         self._columns += columns
-        if columns:
-            self._pending.append(("add_columns", *_as_arrays(columns)))
         return first
 
     def bound_columns(self, bounds: Dict[int, Tuple[float, float]]) -> None:
@@ -265,14 +262,20 @@ class LinearProgram:
         if not child.is_alive:
             child.start()
         if self._start != child.starts:
-            self._start = child.starts
-            self._pending = [("add_rows", self._lower.tobytes(), self._upper.tobytes()), ("add_columns", *_as_arrays(self._columns))]
-            self._pending.append(("begin_at", *self.basis))
-        operations, self._pending = [*self._pending, ("solve", *words)], []
+            self._start, self._sent, self._pending = child.starts, (0, 0), [("begin_at", *self.basis)]
+        operations, self._pending = [*self._new(), *self._pending, ("solve", *words)], []
         sizes = (self.rows, self.columns) if words[-1] else (0, 0)
         found = child.ask([(self._number, *operation) for operation in operations], clock, *sizes)
         self.basis = found.basis if words[-1] else self.basis
         return found
+
+    def _new(self) -> Iterable[_Operation]:
+        """Gives the child the rows and columns that it does not have yet."""
+        (rows, columns), self._sent = self._sent, (self.rows, self.columns)
+        if rows < self.rows:
+            yield "add_rows", self._lower[rows:].tobytes(), self._upper[rows:].tobytes()
+        if columns < self.columns:
+            yield "add_columns", *_as_arrays(self._columns[columns:])
 
     def text(self, names: Sequence[str], whole: str) -> str:
         """The program in the MPS format: row N is cN. Each column has its name; an empty one leaves it out, and names with the letter of
@@ -311,7 +314,7 @@ class LinearProgram:
 
 def _as_arrays(columns: Sequence[Column]) -> Tuple[bytes, ...]:
     """The costs, the bounds, the starts of the entries, their rows and their values."""
-    bounds = [array("d", map(_finite, part)).tobytes() for part in zip(*(column[:3] for column in columns))] or [b""] * 3
+    bounds = [array("d", map(_finite, part)).tobytes() for part in zip(*(column[:3] for column in columns))]
     starts, rows, values = array("i", [0]), array("i"), array("d")
     for column in columns:
         for row, value in column.entries:

@@ -2,6 +2,7 @@
 
 import itertools
 import random
+import threading
 import unittest
 from unittest import mock
 
@@ -14,9 +15,12 @@ from inrc2pb.rows.first_rows import matched_rows
 from inrc2pb.rows.plan import POINT, Plan
 from inrc2pb.rows.pricing import Crews, Pricing
 from inrc2pb.rows.part_search import Dive, Done, Part, PartSearch
-from inrc2pb.rows.row_parts import STUCK_WORK, Restart, RowParts
+from inrc2pb.rows.row_arrays import Arrays
+from inrc2pb.rows.row_parts import STUCK_WORK, Restart, RowParts, Sweeps
 from inrc2pb.rows.row_search import RowSearch
 from inrc2pb.rows.week_dives import WeekDives
+from inrc2pb.rows.workers import Worker
+from inrc2pb.solvers.answers import SolverFault
 from inrc2pb.solvers.linear_solvers import LinearSolver
 
 MONTH = ROOT / "examples" / "month"
@@ -58,6 +62,18 @@ class DaysOfParts(unittest.TestCase):
                     values.append(POINT * cost - sum(gains[crews[day][choice]] for day, choice in enumerate(other)))
             found = part.cheapest(nurse, gains)
             self.assertEqual((found.value, found.row[:4], found.row[6:]), (min(values), row[:4], row[6:]))
+
+    def test_choices_that_are_kept_need_no_other_nurses(self):
+        whole = search_of(1)
+        part = whole.pricing.on_days(range(2, 5), whole.rows)
+        gains = whole.pricing.crews.gains(whole.prices)
+        before = part.cheapest_of(range(30), gains)
+        kept = part.keeping([(4, range(3, 4), before[4].row[3:4])])
+        with mock.patch.object(Arrays, "after", side_effect=AssertionError):
+            self.assertEqual(kept.cheapest_of(range(30), gains), before)
+            # Other days have other nurses.
+            with self.assertRaises(AssertionError):
+                whole.pricing.on_days(range(1, 5), whole.rows).cheapest(4, gains)
 
     def test_a_part_begins_with_the_cheapest_known_rows(self):
         whole = search_of(1)
@@ -223,6 +239,45 @@ class Dives(DiveTest):
         self.assertFalse(parts._dives)
         week.bound -= 31 * POINT
         self.assertTrue(parts._dives)
+
+    def test_windows_of_all_nurses_until_all_are_in_vain(self):
+        search, finders = search_of(2), []
+        before, keep = search.penalty, search.keep
+        with mock.patch.object(row_parts, "WINDOW", 1):
+            with mock.patch.object(search, "keep", lambda rows, finder: finders.append(finder) or keep(rows, finder)):
+                sweeps = Sweeps(search, self.solver, Clock(LONG))
+                sweeps.wait(Clock(LONG))
+                sweeps.end()
+        self.assertLess(search.penalty, before)
+        self.assertEqual({finder.split(",")[1] for finder in finders}, {" 7 days"})
+        # Each window is in vain now.
+        parts, last = PartSearch(search.pricing, search.known(), self.solver), search.penalty
+        for days in (range(7), range(7, 14)):
+            part = Part(tuple(range(30)), days)
+            parts.improve(Clock(LONG), lambda found, finder: search.keep(part.put(search.rows, found), finder), part, search.rows)
+        self.assertEqual(search.penalty, last)
+
+    def test_sweeps_that_are_ended_or_fail(self):
+        search = search_of(2)
+        with mock.patch.object(row_parts, "WINDOW", 1):
+            sweeps = Sweeps(search, self.solver, Clock(LONG))
+            with self.assertRaises(TimeIsOver):
+                sweeps.wait(Clock(0.0))
+            sweeps.end()
+            self.assertTrue(sweeps._done.done())
+            with mock.patch.object(Worker, "do", side_effect=SolverFault("cbc is broken")):
+                sweeps = Sweeps(search, self.solver, Clock(LONG))
+                with self.assertRaises(SolverFault):
+                    sweeps.wait(Clock(LONG))
+                sweeps.end()
+
+    def test_the_last_thread_waits_for_sweeps(self):
+        search, waited = search_of(2), []
+        sweeps = mock.Mock(wait=lambda clock: waited.append(threading.current_thread()))
+        parts, search.bound = RowParts(search, [self.solver, self.solver.beside(1)], sweeps=sweeps), 0
+        search.penalty = search.lower_bound
+        parts.run(search.clock)
+        self.assertEqual(len(waited), 1)
 
     def test_a_solver_has_the_steps_that_are_left(self):
         search = self.generated()

@@ -11,7 +11,7 @@ from unittest import mock
 
 from ward import ENOUGH, HAS_CBC, ROOT, HelperTest, files, records
 
-from inrc2pb.rows import row_generation, row_program
+from inrc2pb.rows import row_generation, row_program, row_run
 from inrc2pb.programs.clock import Clock, TimeIsOver
 from inrc2pb.solvers.answers import MAX_FAULTS, Chosen, SolverFault
 from inrc2pb.solvers.linear_solvers import LinearSolver
@@ -95,6 +95,30 @@ class RowSearches(HelperTest):
         with mock.patch.object(Descent, "sweep", return_value=0):
             run.run()
         self.assertTrue(found)
+
+    @unittest.skipUnless(HAS_CBC, "needs cbc")
+    def test_a_long_period_begins_with_sweeps(self):
+        week = week_of("n005w4")
+        plan = Plan.of(week.scenario, week.history, [week.data, week.data])
+        solver = LinearSolver(Processes(), self.folder, self.fail)
+        self.addCleanup(solver.close)
+        for few in (1, 2):
+            run = RowRun(plan, solver, Clock(600.0), lambda rows, _finder: 10_000, lambda: None)
+            with mock.patch.object(row_run, "FEW_WEEKS", few), mock.patch.object(row_run, "Sweeps") as sweeps:
+                with mock.patch.object(RowRun, "_close_gap"):
+                    run.run()
+            self.assertEqual([sweeps.call_count, sweeps.return_value.end.call_count], [2 - few] * 2)
+
+    def test_a_tree_of_a_long_period_begins_at_a_small_gap(self):
+        week = week_of("n005w4")
+        run = RowRun(
+            Plan.of(week.scenario, week.history, [week.data, week.data]), None, Clock(600.0), lambda rows, _finder: None, lambda: None
+        )
+        search = mock.Mock(penalty=0, bound=10_000_000)
+        for few, gap, narrow in ((2, 1_000_000, True), (2, 1_000_001, False), (1, 150_000, True), (1, 150_001, False)):
+            search.gap.return_value = gap
+            with mock.patch.object(row_run, "FEW_WEEKS", few):
+                self.assertEqual(run._is_narrow(search), narrow)
 
     @unittest.skipUnless(HAS_CBC, "needs cbc")
     def test_columns_that_were_dropped_come_back(self):
