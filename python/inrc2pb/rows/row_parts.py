@@ -1,6 +1,7 @@
 """Improves the best roster of a search part by part, with several solvers at once: which parts come, and how large they are."""
 
 import concurrent.futures
+import functools
 import itertools
 import math
 import random
@@ -29,9 +30,8 @@ WEEK_SHARES, PERIOD_SHARES = (0.35, 0.5, 0.75, 1.0), (0.125, 0.25, 0.5, 0.75, 1.
 CHANGED_SHARE, MOST_CHANGED = 0.4, 2
 # Above this gap, in thousandths, dives are made in a week, too.
 WIDE_GAP = 6 * STEP * POINT
-# The share of the time that is left for a dive, the shares that dives fix at once, and their seeds. After the first ones their work in
-# vain is about this part of that of neighborhoods.
-DIVE_SHARE, FIXED_SHARES, MOST_SEED, DIVES = 0.5, (0.08, 0.06, 0.1), 1 << 30, 0.2
+# The shares that dives fix at once, and their seeds. After the first ones their work in vain is about this part of that of neighborhoods.
+FIXED_SHARES, MOST_SEED, DIVES = (0.08, 0.06, 0.1), 1 << 30, 0.2
 # With more weeks than this prices and dives take long. So the first plan is made better beside that, in windows of so many weeks.
 FEW_WEEKS, WINDOW = 4, 3
 # A roster that was not made better by so much work is left for that of a new dive, in a period.
@@ -39,29 +39,6 @@ STUCK_WORK = 20 * MOST_WORK
 # Up to this part of the bound a gap is small. The share of the time that is left for an integer program over the known rows of all
 # nurses then.
 SMALL_GAP, WHOLE_SHARE = 0.03, 0.3
-
-
-class Restart:
-    """A roster of a new dive, which is made better beside the best one. When it is better, it is the best one."""
-
-    def __init__(self, search: RowSearch, rows: List[NurseWeek]) -> None:
-        self._search, self.rows, self.penalty = search, rows, search.value_of(rows)
-
-    def keep(self, rows: List[NurseWeek], finder: str) -> bool:
-        """Takes better rows, and offers them to the search. Returns whether they are better."""
-        value = self._search.value_of(rows)
-        if value is None or (self.penalty is not None and value >= self.penalty):
-            return False
-        self.rows, self.penalty = rows, value
-        self._search.keep(rows, finder)
-        return True
-
-    def swap(self, rows: List[NurseWeek]) -> bool:
-        """Takes other rows that cost as much. Returns whether they do."""
-        if rows == self.rows or self._search.value_of(rows) != self.penalty:
-            return False
-        self.rows = rows
-        return True
 
 
 class Sweeps:
@@ -75,22 +52,19 @@ class Sweeps:
         self._done = self._pool.submit(self._run)
 
     def _run(self) -> None:
-        plan, vain = self._search.plan, 0
-        windows = [range(WEEK_DAYS * first, WEEK_DAYS * (first + WINDOW)) for first in range(len(plan.weeks) - WINDOW + 1)]
-        for days in itertools.cycle(windows):
-            vain = 0 if self._improve(Part(tuple(range(len(plan.nurses))), days)) else vain + 1
-            if vain == len(windows) or self._clock.left() <= 0:
+        search, vain = self._search, 0
+        nurses, firsts = tuple(range(len(search.plan.nurses))), range(len(search.plan.weeks) - WINDOW + 1)
+        for first in itertools.cycle(firsts):
+            before, rows = search.penalty, list(search.rows or ())
+            part = Part(nurses, range(WEEK_DAYS * first, WEEK_DAYS * (first + WINDOW)))
+            self._worker.do(Done, ("improve", part, rows), self._clock, functools.partial(self._take, part))
+            vain = vain + 1 if search.penalty == before else 0
+            if vain == len(firsts) or self._clock.left() <= 0:
                 return
 
-    def _improve(self, part: Part) -> bool:
-        """Looks for better rows in a window. Returns whether there is a better plan now."""
-        search, before, rows = self._search, self._search.penalty, list(self._search.rows or ())
-
-        def take(found: List[NurseWeek], finder: str) -> bool:
-            return search.keep(part.put(search.rows or rows, found), finder)
-
-        self._worker.do(Done, ("improve", part, rows), self._clock, take)
-        return search.penalty != before
+    def _take(self, part: Part, found: List[NurseWeek], finder: str) -> bool:
+        rows = self._search.rows
+        return rows is not None and self._search.keep(part.put(rows, found), finder)
 
     def wait(self, clock: Clock) -> None:
         """Waits until they have ended."""
@@ -171,8 +145,7 @@ class RowParts:
         if number == 0 and not self._dives and search.bound is not None and search.gap() < SMALL_GAP * search.bound:
             everything = Part(tuple(range(len(search.plan.nurses))), range(search.plan.days), limited=False)
             self.improve(everything, solver, clock.part(clock.left() * WHOLE_SHARE), search)
-        roster: Union[RowSearch, Restart] = search
-        vain = 0
+        roster, vain = search, 0
         while not search.is_proved:
             clock.check()
             dive = self._next_dive()
@@ -193,19 +166,13 @@ class RowParts:
         """Whether the thread of this number leaves a roster that is stuck. If there are several, the first one stays with the best one."""
         return len(self._search.plan.weeks) > 1 and (number > 0 or len(self._solvers) == 1)
 
-    def _restarted(self, solver: LinearSolver, clock: Clock) -> Optional[Restart]:
-        """The roster of a new dive, which may be worse than the best one."""
-        found: List[List[NurseWeek]] = []
-
-        def take(rows: List[NurseWeek], finder: str) -> bool:
-            self._search.keep(rows, finder)
-            found.append(rows)
-            return True
-
+    def _restarted(self, solver: LinearSolver, clock: Clock) -> Optional[RowSearch]:
+        """A search from the roster of a new dive, which may be worse than the best one."""
         with self._lock:
-            task = Dive(self._chance.choice(FIXED_SHARES), self._chance.randrange(MOST_SEED), None)
-        self._searches[solver].dive(clock.part(clock.left() * DIVE_SHARE), take, task)
-        return Restart(self._search, found[-1]) if found else None
+            self._diving += 1
+            dive = Dive(self._chance.choice(FIXED_SHARES), self._chance.randrange(MOST_SEED), None)
+        found = self._dive(solver, clock, dive)
+        return self._search.restart(found[-1]) if found else None
 
     @property
     def _dives(self) -> bool:
@@ -219,27 +186,29 @@ class RowParts:
             if not (self._dives and is_next):
                 return None
             self._begun, self._diving = self._begun + 1, self._diving + 1
-            share: float = self._chance.choice(FIXED_SHARES)
-            seed: Optional[int] = self._chance.randrange(MOST_SEED)
+            share, seed = self._chance.choice(FIXED_SHARES), self._chance.randrange(MOST_SEED)
             return Dive(share, seed, self._search.penalty) if self._begun > 1 else Dive(FIXED_SHARES[0], None, self._search.penalty)
 
-    def _dive(self, solver: LinearSolver, clock: Clock, dive: Dive) -> None:
-        """A dive over all nurses and days."""
+    def _dive(self, solver: LinearSolver, clock: Clock, dive: Dive) -> List[List[NurseWeek]]:
+        """A dive over all nurses and days. Returns the rows that it found, the best last."""
+        found: List[List[NurseWeek]] = []
         is_better = False
 
         def take(rows: List[NurseWeek], finder: str) -> bool:
             nonlocal is_better
+            found.append(rows)
             is_better = self._search.keep(rows, finder) or is_better
-            return is_better
+            return is_better or dive.penalty is None
 
-        done = self._searches[solver].dive(clock.part(clock.left() * DIVE_SHARE), take, dive)
+        done = self._searches[solver].dive(clock, take, dive)
         with self._lock:
             self._diving -= 1
             if not is_better:
                 # Some end before the first step.
                 self._dived += max(1, done.work) if done.ended else math.inf
+        return found
 
-    def improve(self, part: Part, solver: LinearSolver, clock: Clock, roster: Union[RowSearch, Restart]) -> Done:
+    def improve(self, part: Part, solver: LinearSolver, clock: Clock, roster: RowSearch) -> Done:
         """Looks for better rows of a neighborhood of a roster."""
         with self._lock:
             assert roster.rows is not None
@@ -268,7 +237,7 @@ class RowParts:
             elif is_of_best and done.ended and len(part.nurses) == len(self._search.plan.nurses) and not part.changed:
                 self._closed.add(part.days)
 
-    def _next(self, roster: Union[RowSearch, Restart]) -> Part:
+    def _next(self, roster: RowSearch) -> Part:
         """The next neighborhood of a roster. The lengths share the work that is in vain, and days that are closed for all nurses come
         last."""
         with self._lock:

@@ -3,6 +3,7 @@
 If a roster is above the bound, an integer program chooses among all rows that a better roster can have.
 """
 
+import copy
 from typing import Callable, Dict, List, NamedTuple, Optional, Sequence
 
 from ..programs.clock import Clock
@@ -79,6 +80,17 @@ class RowSearch(RowGeneration):
             return False
         self.rows = rows
         return True
+
+    def restart(self, rows: List[NurseWeek]) -> "RowSearch":
+        """A search from this roster, which is made better beside the best one. When it is better, it is the best one here, too."""
+
+        def offer(found: List[NurseWeek], finder: str) -> Optional[Points]:
+            self.keep(found, finder)
+            return self.value_of(found)
+
+        other = copy.copy(self)
+        other.rows, other.penalty, other._offer = rows, self.value_of(rows), offer
+        return other
 
     def value_of(self, rows: Sequence[NurseWeek]) -> Optional[Points]:
         """What rows cost; None if they break a hard rule."""

@@ -16,7 +16,7 @@ from inrc2pb.rows.plan import POINT, Plan
 from inrc2pb.rows.pricing import Crews, Pricing
 from inrc2pb.rows.part_search import Dive, Done, Part, PartSearch
 from inrc2pb.rows.row_arrays import Arrays
-from inrc2pb.rows.row_parts import STUCK_WORK, Restart, RowParts, Sweeps
+from inrc2pb.rows.row_parts import STUCK_WORK, RowParts, Sweeps
 from inrc2pb.rows.row_search import RowSearch
 from inrc2pb.rows.week_dives import WeekDives
 from inrc2pb.rows.workers import Worker
@@ -150,13 +150,10 @@ class NextParts(unittest.TestCase):
 
 
 class NextDives(unittest.TestCase):
-    def test_the_first_dive_of_many_weeks_fixes_much_and_has_no_chance(self):
-        first = RowParts(search_of(2), [None])._next_dive()
-        self.assertEqual((first.share, first.seed), (0.08, None))
+    def test_the_first_dive_has_no_chance(self):
         parts = RowParts(search_of(2), [None, None])
-        with mock.patch.object(row_parts, "FEW_WEEKS", 1):
-            first, second = parts._next_dive(), parts._next_dive()
-        self.assertEqual((first.share, first.seed), (0.3, None))
+        first, second = parts._next_dive(), parts._next_dive()
+        self.assertEqual((first.share, first.seed), (0.08, None))
         self.assertIn(second.share, (0.08, 0.06, 0.1))
         self.assertIsNotNone(second.seed)
         # Two solvers have two first dives.
@@ -166,14 +163,14 @@ class NextDives(unittest.TestCase):
 class Restarts(unittest.TestCase):
     def test_a_roster_beside_the_best_one(self):
         search = search_of(1)
-        best, roster = search.penalty, Restart(search, [OFF] * 30)
+        best, roster = search.penalty, search.restart([OFF] * 30)
         # All nurses are off: this is no roster, and a better one is.
         self.assertIsNone(roster.penalty)
         self.assertTrue(roster.keep(search.rows, "a dive"))
         self.assertEqual((roster.penalty, search.penalty), (best, best))
         self.assertFalse(roster.keep(search.rows, "a dive"))
         search.penalty = best + 100
-        roster = Restart(search, search.rows)
+        roster = search.restart(search.rows)
         roster.penalty = best + 50
         # What is better than this roster is offered to the search.
         self.assertTrue(roster.keep(list(search.rows), "a dive"))
@@ -199,7 +196,7 @@ class Restarts(unittest.TestCase):
             return Done(True, STUCK_WORK // 4 + 1)
 
         with mock.patch.object(parts, "improve", improve):
-            with mock.patch.object(parts, "_restarted", lambda *_: Restart(search, search.rows)), self.assertRaises(TimeIsOver):
+            with mock.patch.object(parts, "_restarted", lambda *_: search.restart(search.rows)), self.assertRaises(TimeIsOver):
                 parts._work(None, clock, 0)
         self.assertEqual([roster is search for roster in seen], [True] * 4 + [False] * 4 + [True] * 4 + [False] * 3)
 
