@@ -32,8 +32,9 @@ CHANGED_SHARE, MOST_CHANGED = 0.4, 2
 WIDE_GAP = 6 * STEP * POINT
 # The shares that dives fix at once, and their seeds. After the first ones their work in vain is about this part of that of neighborhoods.
 FIXED_SHARES, MOST_SEED, DIVES = (0.08, 0.06, 0.1), 1 << 30, 0.2
-# With more weeks than this prices and dives take long. So the first plan is made better beside that, in windows of so many weeks.
-FEW_WEEKS, WINDOW = 4, 3
+# With more weeks than this prices and dives take long. So the first plan is made better beside that, in windows of so many weeks, and the
+# first dive fixes this share at once.
+FEW_WEEKS, WINDOW, FIRST_FIXED = 4, 3, 0.3
 # A roster that was not made better by so much work is left for that of a new dive, in a period.
 STUCK_WORK = 20 * MOST_WORK
 # Up to this part of the bound a gap is small. The share of the time that is left for an integer program over the known rows of all
@@ -187,7 +188,8 @@ class RowParts:
                 return None
             self._begun, self._diving = self._begun + 1, self._diving + 1
             share, seed = self._chance.choice(FIXED_SHARES), self._chance.randrange(MOST_SEED)
-            return Dive(share, seed, self._search.penalty) if self._begun > 1 else Dive(FIXED_SHARES[0], None, self._search.penalty)
+            first = FIRST_FIXED if len(self._search.plan.weeks) > FEW_WEEKS else FIXED_SHARES[0]
+            return Dive(share, seed, self._search.penalty) if self._begun > 1 else Dive(first, None, self._search.penalty)
 
     def _dive(self, solver: LinearSolver, clock: Clock, dive: Dive) -> List[List[NurseWeek]]:
         """A dive over all nurses and days. Returns the rows that it found, the best last."""

@@ -19,6 +19,8 @@ FIRST_SHARE, LEAST_SHARE, MOST_SHARE = 0.06, 0.02, 0.5
 # The most rounds of new rows between two fixings, and if the time is short. Before, they end when the value of the program, in points, is
 # as near to what its prices prove.
 MOST_ROUNDS, SHORT_ROUNDS, NEAR = 40, 2, STEP / 2
+# The most that the shares of the weeks that a dive with a share of its own fixes at once lack to whole weeks, together.
+MOST_LACKING = 8.0
 # A larger share counts as a whole week. The factors of shares in a dive by chance.
 WHOLE, BY_CHANCE = 0.999, (0.8, 1.0)
 # How many times the part of the time that a step takes is fixed in it, if the time is short. The later ones take less.
@@ -85,7 +87,7 @@ class WeekDives(RowSearch):
             self._last = self._greatest(now)
             # So many at once that the time is enough.
             last, hurry = now.value, HURRY * (before - clock.left()) / max(EXACT, clock.left())
-            new = self._chosen(now, left, max(share, hurry), chance)
+            new = self._chosen(now, left, max(share, hurry), chance, MOST_LACKING if fixed_share > hurry else math.inf)
             if not new:
                 return None
             fixed.update(new)
@@ -128,8 +130,11 @@ class WeekDives(RowSearch):
             now = self.program.solve(clock)
         return now
 
-    def _chosen(self, now: Solved, left: List[_Week], share: float, chance: Optional[random.Random]) -> Dict[_Week, NurseWeek]:
-        """The weeks to fix: all that have no other choices in the solution, and this share of the others, of different nurses."""
+    def _chosen(
+        self, now: Solved, left: List[_Week], share: float, chance: Optional[random.Random], lacking: float
+    ) -> Dict[_Week, NurseWeek]:
+        """The weeks to fix: all that have no other choices in the solution, and this share of the others, of different nurses, but no more
+        than lack so much to whole weeks. At least one is fixed."""
         shares: Dict[_Week, Dict[NurseWeek, float]] = {week: {} for week in left}
         for column, taken in now.shares.items():
             nurse, row, *_ = self.program.columns[column]
@@ -142,8 +147,8 @@ class WeekDives(RowSearch):
         others: Dict[int, _Week] = {}
         most = max(1, int(share * (len(best) - len(new))))
         for week in sorted((week for week in best if week not in new), key=weights.__getitem__, reverse=True):
-            if len(others) < most:
-                others.setdefault(week.nurse, week)
+            if len(others) < most and week.nurse not in others and (lacking > 0 or not others):
+                others[week.nurse], lacking = week, lacking - 1 + shares[week][best[week]]
         return {**new, **{week: best[week] for week in others.values()}}
 
     def _keep_weeks(self, new: Dict[_Week, NurseWeek], nurses: Set[int]) -> None:

@@ -150,10 +150,13 @@ class NextParts(unittest.TestCase):
 
 
 class NextDives(unittest.TestCase):
-    def test_the_first_dive_has_no_chance(self):
-        parts = RowParts(search_of(2), [None, None])
-        first, second = parts._next_dive(), parts._next_dive()
+    def test_the_first_dive_of_many_weeks_fixes_much_and_has_no_chance(self):
+        first = RowParts(search_of(2), [None])._next_dive()
         self.assertEqual((first.share, first.seed), (0.08, None))
+        parts = RowParts(search_of(2), [None, None])
+        with mock.patch.object(row_parts, "FEW_WEEKS", 1):
+            first, second = parts._next_dive(), parts._next_dive()
+        self.assertEqual((first.share, first.seed), (0.3, None))
         self.assertIn(second.share, (0.08, 0.06, 0.1))
         self.assertIsNotNone(second.seed)
         # Two solvers have two first dives.

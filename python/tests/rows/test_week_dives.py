@@ -1,6 +1,7 @@
 """Tests of dives that fix the weeks of nurses."""
 
 import itertools
+import math
 import pickle
 import random
 import unittest
@@ -15,6 +16,7 @@ from inrc2pb.rows.plan import POINT
 from inrc2pb.rows.part_search import Dive, PartSearch
 from inrc2pb.rows.row_parts import RowParts
 from inrc2pb.rows.row_program import RowProgram
+from inrc2pb.rows.week_dives import _Week
 from inrc2pb.solvers.resident_program import DUAL, INFEASIBLE, PRIMAL
 
 
@@ -136,6 +138,16 @@ class Dives(DiveTest):
         self.assertLess(search.penalty, before)
         self.assertEqual(search.penalty, search.value_of(search.rows))
         self.assertIs(search.pricing, pricing)
+
+    def test_weeks_that_lack_much_are_fixed_one_after_another(self):
+        search = self.generated()
+        left = [_Week(nurse, number) for nurse in range(30) for number in range(2)]
+        whole, few, all_of_them = (search._chosen(search.solved, left, 1.0, None, lacking) for lacking in (0.0, 1.0, math.inf))
+        # One week more than those that are whole, in any case.
+        self.assertLess(len(whole), len(few))
+        self.assertLess(len(few), len(all_of_them))
+        self.assertLessEqual(whole.items(), few.items())
+        self.assertLessEqual(few.items(), all_of_them.items())
 
     def test_no_row_without_the_fixed_weeks(self):
         search, fixed = self.generated(), {}
