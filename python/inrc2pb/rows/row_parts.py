@@ -205,7 +205,7 @@ class RowParts:
         done = self._searches[solver].dive(clock, take, dive)
         with self._lock:
             self._diving -= 1
-            if not is_better:
+            if not is_better and dive.penalty is not None:
                 # Some end before the first step.
                 self._dived += max(1, done.work) if done.ended else math.inf
         return found

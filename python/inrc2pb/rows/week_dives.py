@@ -19,8 +19,8 @@ FIRST_SHARE, LEAST_SHARE, MOST_SHARE = 0.06, 0.02, 0.5
 # The most rounds of new rows between two fixings, and if the time is short. Before, they end when the value of the program, in points, is
 # as near to what its prices prove.
 MOST_ROUNDS, SHORT_ROUNDS, NEAR = 40, 2, STEP / 2
-# The most that the shares of the weeks that a dive with a share of its own fixes at once lack to whole weeks, together.
-MOST_LACKING = 8.0
+# A dive that fixes more than this share at once fixes no more weeks than lack so much to whole weeks, together.
+LARGE_SHARE, MOST_LACKING = 0.2, 8.0
 # A larger share counts as a whole week. The factors of shares in a dive by chance.
 WHOLE, BY_CHANCE = 0.999, (0.8, 1.0)
 # How many times the part of the time that a step takes is fixed in it, if the time is short. The later ones take less.
@@ -87,7 +87,7 @@ class WeekDives(RowSearch):
             self._last = self._greatest(now)
             # So many at once that the time is enough.
             last, hurry = now.value, HURRY * (before - clock.left()) / max(EXACT, clock.left())
-            new = self._chosen(now, left, max(share, hurry), chance, MOST_LACKING if fixed_share > hurry else math.inf)
+            new = self._chosen(now, left, max(share, hurry), chance, MOST_LACKING if fixed_share > max(LARGE_SHARE, hurry) else math.inf)
             if not new:
                 return None
             fixed.update(new)
