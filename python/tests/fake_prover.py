@@ -3,7 +3,7 @@
 that of its given facts to LOG.
 
 `hang` never ends, also on TERM, `crash` ends by a signal, `fails` has the fault of a program without memory, `lies` prints what is no
-number, `flood` a number of many digits, `old` has no certificates, and a number is the bound. A number after `/` is the bound of a
+number, `flood` a number of many digits, and a number is the bound. A number after `/` is the bound of a
 certificate with cases.
 """
 
@@ -17,9 +17,6 @@ from pathlib import Path
 
 def main():
     how, log, *words = sys.argv[1:]
-    if words == ["--help"]:
-        print("--prices <FILE>" if how == "old" else "--proof <FILE>")
-        return 0
     texts = {option: Path(path).read_text() for option, path in zip(words, words[1:]) if option in ("--proof", "--given")}
     Path(log).write_text(json.dumps({"words": words, "texts": texts, "process": os.getpid()}))
     if how == "hang":

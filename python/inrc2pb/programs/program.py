@@ -225,9 +225,14 @@ def extend(files: WeekFiles, roster: Path) -> Tuple[str, Report]:
     return answer, decode(files, answer)
 
 
+def objective_of(answer: str) -> int:
+    """What an answer of `extend` costs, by its first line."""
+    return int(answer.split("\n", 1)[0].split()[1])
+
+
 def penalty_of(files: WeekFiles, roster: Path) -> int:
     """The penalty of a roster, by `extend`."""
-    return int(answer_with(files, roster).split("\n", 1)[0].split()[1])
+    return objective_of(answer_with(files, roster))
 
 
 def report_of(text: str) -> Report:

@@ -65,11 +65,7 @@ class CasePricing:
         self._together = priced_together(
             [Member(nurse, apart[id(graph)], start) for nurse, (graph, start) in enumerate(graphs)], range(plan.days)
         )
-        self.crew = numpy.array(crews.of)
-        self._wishes = numpy.zeros(self.crew.shape, dtype=numpy.int64)
-        for nurse, wishes in enumerate(pricing.wishes):
-            for day, costs in wishes.items():
-                self._wishes[nurse, day] = costs
+        self._wishes = pricing.wish_table()
         self._missing = plan.missing_cost * POINT
 
     def limits(self, case: Case) -> CaseLimits:
@@ -109,7 +105,7 @@ class CasePricing:
 
     def _pay(self, prices: Prices, forbidden: Dict[int, Set[Tuple[int, int]]]) -> Any:
         """What each choice costs each nurse beside the costs of her row."""
-        pay = self._wishes - numpy.array(self.crews.gains(prices), dtype=numpy.int64)[self.crew]
+        pay = self._wishes - numpy.array(self.crews.gains(prices), dtype=numpy.int64)[self.crews.table]
         for nurse, choices in forbidden.items():
             for day, choice in choices:
                 pay[nurse, day, choice] = NEVER

@@ -1,6 +1,6 @@
 """The search of one case: for prices that prove that no roster of it costs less than the best one, else for the best split of it."""
 
-from typing import Iterable, List, NamedTuple, Optional, Tuple
+from typing import List, NamedTuple, Optional, Sequence, Tuple
 
 from ..judging.runs import NEVER
 from ..programs.clock import Clock
@@ -55,8 +55,11 @@ class CaseSearch:
         """A search that begins with the rows that are known."""
         pricing = CasePricing(known.plan, crews, check)
         program = CaseProgram(pricing, solver.program())
-        counted = (pricing.counted(nurse, row) for nurse, rows in enumerate(known.rows) for row in rows)
-        program.add([row for row in counted if row])
+        found: List[PricedRow] = []
+        for nurse, rows in enumerate(known.rows):
+            check()
+            found += filter(None, (pricing.counted(nurse, row) for row in rows))
+        program.add(found)
         return CaseSearch(pricing, program)
 
     def close(self, clock: Clock, take: Take, task: CaseTask) -> Examined:
@@ -92,15 +95,11 @@ class CaseSearch:
         facts = [fact for fact in suggested(self.pricing, self._program, now, limits) if fact not in old]
         return best_split(self.pricing, self._program, now, task.case, facts, task.target, clock) if facts else None
 
-    def _better(self, now: CaseSolution, rows: Iterable[PricedRow]) -> List[PricedRow]:
+    def _better(self, now: CaseSolution, rows: Sequence[PricedRow]) -> List[PricedRow]:
         """The rows that make a solution better."""
-        gains, table = self.pricing.crews.gains(now.prices), self.pricing.crews.of
-        found = []
-        for row in rows:
-            earned = sum(gains[crews[choice]] for crews, choice in zip(table[row.nurse], row.row))
-            if row.cost * POINT + now.surcharge * row.runs - earned - now.nurses[row.nurse] < -WORTH:
-                found.append(row)
-        return found
+        earned = self.pricing.crews.earned(now.prices, [row.nurse for row in rows], [row.row for row in rows])
+        costs = (row.cost * POINT + now.surcharge * row.runs - now.nurses[row.nurse] for row in rows)
+        return [row for row, cost, less in zip(rows, costs, earned.tolist()) if cost - less < -WORTH]
 
     def _see(self, now: CaseSolution, target: Points, take: Take) -> None:
         """Offers the roster that a solution is, if it is one and costs less than the target."""

@@ -6,7 +6,7 @@ Nothing is trusted: the cost of each row is walked in Python, and each bound is 
 import ctypes
 import numpy
 from pathlib import Path
-from typing import Any, Optional, Sequence, Tuple, Union
+from typing import Any, Sequence, Tuple, Union
 
 from .row_arrays import Arrays, Blocks, Member
 
@@ -91,7 +91,6 @@ def _arcs(arrays: Arrays) -> Any:
     return arrays.compiled[0]
 
 
-def priced_together(members: Sequence[Member], days: range, allowed: Optional[Any] = None) -> Union[CompiledRows, Blocks]:
-    """What prices these nurses on these days: the library, or NumPy. `allowed` has the choices that they may have, by nurse, day and
-    choice, if not all."""
-    return CompiledRows(members, days, library) if library else Blocks(members, days, allowed)
+def priced_together(members: Sequence[Member], days: range) -> Union[CompiledRows, Blocks]:
+    """What prices these nurses on these days: the library, or NumPy."""
+    return CompiledRows(members, days, library) if library else Blocks(members, days)

@@ -25,11 +25,10 @@ _Kind = Tuple[str, int, Beside]
 
 
 class Priced(NamedTuple):
-    """A nurse's cheapest row at some prices: its cost less what it earns, in thousandths, and its own cost in points."""
+    """A nurse's cheapest row at some prices, with its cost less what it earns, in thousandths."""
 
     value: Thousandths
     row: NurseWeek
-    cost: Points
 
 
 class Crews:
@@ -56,6 +55,7 @@ class Crews:
                 days = [self._day(plan, day, (skill,)) if skill else days[day] for day, skill in held.items()]
             self.of.append(days)
         self.members: List[Tuple[int, ...]] = list(self._index)
+        self.table = numpy.array(self.of)
 
     def _day(self, plan: Plan, day: int, skills: Sequence[str]) -> List[int]:
         crews = [0]
@@ -68,6 +68,15 @@ class Crews:
     def gains(self, prices: Prices) -> List[int]:
         """What a nurse of each crew earns: the highest price of its places."""
         return [max([prices[place] for place in places], default=0) for places in self.members]
+
+    def earned(self, prices: Prices, nurses: Sequence[int], rows: Sequence[NurseWeek]) -> Any:
+        """What rows of these nurses earn, in thousandths, as an array."""
+        choices = numpy.frombuffer(b"".join(rows), dtype=numpy.uint8).reshape(-1, self.table.shape[1])
+        return numpy.array(self.gains(prices), dtype=numpy.int64)[self.at(nurses, choices)].sum(axis=1)
+
+    def at(self, nurses: Sequence[int], choices: Any) -> Any:
+        """The crews of the choices of these nurses, by day."""
+        return self.table[numpy.array(nurses, dtype=int)[:, None], numpy.arange(self.table.shape[1]), choices]
 
     def best_place(self, crew: int, prices: Sequence[float]) -> Optional[int]:
         """The place of a crew that has the highest price."""
@@ -158,10 +167,24 @@ class Pricing:
 
     def cheapest_of(self, nurses: Sequence[int], gains: Gains) -> List[Optional[Priced]]:
         """The cheapest row of each of these nurses."""
+        values, rows = self.least(nurses, gains)
+        found = zip(values.tolist(), map(bytes, rows))
+        return [Priced(Thousandths(value), row) if value < NEVER // 2 else None for value, row in found]
+
+    def least(self, nurses: Sequence[int], gains: Gains) -> Tuple[Any, Any]:
+        """What the cheapest row of each of these nurses costs less what it earns, and its choices, as arrays."""
         if self._batch is None:
             self._members += [] if self._members else map(self._member, range(len(self.plan.nurses)))
             self._batch = _Batch(self, self._days, self._rows, self._members)
-        return self._batch.cheapest(nurses, gains)
+        return self._batch.least(nurses, gains)
+
+    def wish_table(self) -> Any:
+        """What the wishes make of each choice, by nurse, day and choice."""
+        found = numpy.zeros(self.crews.table.shape, dtype=numpy.int64)
+        for nurse, wishes in enumerate(self.wishes):
+            for day, costs in wishes.items():
+                found[nurse, day] = costs
+        return found
 
     def _member(self, nurse: int) -> Member:
         """A nurse on the days on which her row may differ from the one that she keeps."""
@@ -192,35 +215,26 @@ class Pricing:
 
 
 class _Batch:
-    """The nurses of a pricing together, on the days on which their rows may differ from those that they keep."""
+    """The nurses of a pricing together, on the days on which their rows may differ from those that they keep, if they keep any."""
 
     def __init__(self, pricing: Pricing, days: range, rows: Sequence[NurseWeek], members: Sequence[Member]) -> None:
-        self._pricing, self._days, self._rows = pricing, days, rows
-        # By nurse, day and choice.
-        self._crews = numpy.array(pricing.crews.of)
-        self._wishes = numpy.zeros(self._crews.shape, dtype=numpy.int64)
-        for nurse, wishes in enumerate(pricing.wishes):
-            for day, costs in wishes.items():
-                self._wishes[nurse, day] = costs
-        self._together = priced_together(members, days, self._wishes < NEVER // 2)
+        self._days, self._crews, self._wishes = days, pricing.crews.table, pricing.wish_table()
+        nurses, every = len(members), range(self._crews.shape[1])
+        kept = list(rows) or [bytes(len(every))] * nurses
+        self._rows = numpy.frombuffer(b"".join(kept), dtype=numpy.uint8).reshape(nurses, -1)
+        choices = numpy.arange(nurses)[:, None], (others := [day for day in every if day not in days]), self._rows[:, others]
+        # The crews of each nurse on the other days, and what she pays there.
+        self._kept, self._paid = self._crews[choices], numpy.array(pricing.base) + self._wishes[choices].sum(axis=1)
+        before = zip(pricing.graphs, pricing.starts, kept)
+        self._paid += [graph.walked(start, row[: days.start])[1] for graph, start, row in before]
+        self._together = priced_together(members, days)
 
-    def cheapest(self, nurses: Sequence[int], gains: Gains) -> List[Optional[Priced]]:
-        """The cheapest row of each of these nurses."""
-        wanted = list(nurses)
-        earned = numpy.asarray(gains, dtype=numpy.int64)[self._crews[wanted]]
-        costs, rows = self._together.cheapest(self._wishes[wanted] - earned, wanted)
-        return [self._priced(*priced) for priced in zip(wanted, costs.tolist(), map(bytes, rows), earned)]
-
-    def _priced(self, nurse: int, least: int, row: NurseWeek, earned: Any) -> Optional[Priced]:
-        """A row with the choices that it keeps, if it costs less than what is forbidden. Its cost is walked anew."""
-        if self._rows:
-            kept, days = self._rows[nurse], self._days
-            row = kept[: days.start] + row + kept[days.stop :]
-        cost = None if least >= NEVER // 2 else self._pricing.cost(nurse, row)
-        if cost is None:
-            return None
-        income = int(earned[numpy.arange(len(row)), list(row)].sum())
-        return Priced(Thousandths(cost * POINT - income), row, cost)
+    def least(self, nurses: Sequence[int], gains: Gains) -> Tuple[Any, Any]:
+        """What the cheapest row of each of these nurses costs less what it earns, and its choices."""
+        wanted, gained = list(nurses), numpy.asarray(gains, dtype=numpy.int64)
+        rows, pay = self._rows[wanted], self._wishes[wanted] - gained[self._crews[wanted]]
+        least, rows[:, self._days.start : self._days.stop] = self._together.cheapest(pay, wanted)
+        return least + self._paid[wanted] - gained[self._kept[wanted]].sum(axis=1), rows
 
 
 def in_steps(cost: Thousandths) -> Points:

@@ -9,12 +9,15 @@ from typing import Callable, Dict, List, Optional, Sequence
 from ..programs.clock import Clock
 from ..solvers.linear_solvers import LinearSolver
 from ..solvers.resident_program import LinearProgram
+from .first_prices import first_prices
 from .plan import POINT, STEP, Points, Thousandths
 from .pricing import Priced, Prices, Pricing, NurseWeek, in_steps
 from ..week.records import Place
 from .row_program import MOST_BELOW, RowProgram, Solved
 from .skills import staffed
 
+# The rounds of the first prices with whose rows the linear program begins.
+BEGINNING = 10
 # The share of the best prices in those that are tried next.
 SMOOTHING = 0.4
 # A row is worth a column if it costs less than the known ones by more than this many thousandths.
@@ -49,6 +52,8 @@ class RowGeneration:
         self.solved: Optional[Solved] = None
         # Whether nurses are missing below minimums even so.
         self.misses_minimums = False
+        # The rows of earlier rounds of the first prices.
+        self._earlier: List[List[NurseWeek]] = []
 
     def linear_program(self) -> LinearProgram:
         """An empty program of its solver."""
@@ -70,24 +75,18 @@ class RowGeneration:
         for nurse, day, shift, skill in staffed(self.plan, crews, rows).cells:
             places[names[nurse]][day] = numbers.get(Place(day, shift, skill))
         for nurse_number, row in enumerate(rows):
-            cost = self.pricing.cost(nurse_number, row)
-            if cost is not None:
-                self._add(nurse_number, row, cost, self.prices, places[nurse_number])
+            self.add_row(nurse_number, row, places=places[nurse_number])
 
     def begin_at(self, places: Sequence[Place], prices: Prices) -> None:
         """Begins with the prices of these places."""
         known = dict(zip(places, prices))
         self.prices = [known.get(place, 0) for place in self.pricing.crews.places]
 
-    def add_row(self, nurse: int, row: NurseWeek) -> None:
-        """Adds a row to the program, if no hard rule forbids it."""
+    def add_row(self, nurse: int, row: NurseWeek, prices: Optional[Prices] = None, places: Sequence[Optional[int]] = ()) -> bool:
+        """Adds a row to those in use, if no hard rule forbids it. Returns whether it was none of them. Without other prices or places it is
+        at those of the best prices."""
         cost = self.pricing.cost(nurse, row)
-        if cost is not None:
-            self._add(nurse, row, cost, self.prices)
-
-    def _add(self, nurse: int, row: NurseWeek, cost: Points, prices: Prices, places: Sequence[Optional[int]] = ()) -> bool:
-        """Adds a row to those in use. Returns whether it was none of them."""
-        return self.program.add(nurse, row, cost, prices, places)[1]
+        return cost is not None and self.program.add(nurse, row, cost, prices or self.prices, places)[1]
 
     # ---- prices and new rows
 
@@ -107,9 +106,20 @@ class RowGeneration:
             self.bound, self.prices = Thousandths(bound), prices
             self._heard()
 
-    def _earned(self, prices: Prices, nurse: int, row: NurseWeek) -> int:
-        crews = self.pricing.crews
-        return sum(max([prices[place] for place in crews.members[table[choice]]], default=0) for table, choice in zip(crews.of[nurse], row))
+    def approach(self, clock: Clock) -> None:
+        """Begins with prices that are found without the linear program, and with the rows of the last rounds on the way to them."""
+        self.prices, rows = first_prices(self.pricing, clock.check)
+        self._earlier = rows[:-BEGINNING]
+        self._add_rounds(rows[-BEGINNING:])
+
+    def add_earlier(self) -> None:
+        """Adds the rows of earlier rounds, too."""
+        self._add_rounds(self._earlier)
+        self._earlier = []
+
+    def _add_rounds(self, rounds: Sequence[Sequence[NurseWeek]]) -> None:
+        for nurse, row in dict.fromkeys((nurse, row) for rows in rounds for nurse, row in enumerate(rows)):
+            self.add_row(nurse, row)
 
     def generate(self, clock: Clock) -> None:
         """Adds rows until none is missing, or the bound is as good as the linear program's value."""
@@ -117,7 +127,7 @@ class RowGeneration:
         found = self._priced(self.prices, everyone, clock)
         self._raise_bound(self.prices, found)
         for nurse, priced in found.items():
-            self._add(nurse, priced.row, priced.cost, self.prices)
+            self.add_row(nurse, priced.row)
         share = 0.0
         while not self.complete:
             now = self.solved = self.program.solve(clock)
@@ -125,10 +135,7 @@ class RowGeneration:
             tried = [round(share * best + (1 - share) * price) for best, price in zip(self.prices, now.prices)] if share else now.prices
             found = self._priced(tried, everyone, clock)
             self._raise_bound(tried, found)
-            new = 0
-            for nurse, priced in found.items():
-                if priced.cost * POINT - self._earned(now.prices, nurse, priced.row) - now.nurses[nurse] < -WORTH:
-                    new += self._add(nurse, priced.row, priced.cost, now.prices)
+            new = sum(self.add_row(nurse, found[nurse].row, now.prices) for nurse in self._better(found, tried, now))
             if self._meets(now.value) or not (new or share):
                 self.misses_minimums = now.missing > EXACT
                 if self.misses_minimums and self.plan.charging and self.program.below < MOST_BELOW:
@@ -137,6 +144,13 @@ class RowGeneration:
                     self.complete = True
             share = SMOOTHING if new else 0.0
         self._heard()
+
+    def _better(self, found: Dict[int, Priced], tried: Prices, now: Solved) -> List[int]:
+        """The nurses whose cheapest rows at the prices that were tried make the solution better."""
+        rows = [priced.row for priced in found.values()]
+        changed = self.pricing.crews.earned(tried, list(found), rows) - self.pricing.crews.earned(now.prices, list(found), rows)
+        values = zip(found.items(), changed.tolist())
+        return [nurse for (nurse, priced), more in values if priced.value + more - now.nurses[nurse] < -WORTH]
 
     def _drop(self, now: Solved) -> None:
         """Drops the most expensive columns, if there are too many. Each nurse keeps one."""

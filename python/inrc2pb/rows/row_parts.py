@@ -20,10 +20,10 @@ from .workers import PAUSE, PartWorker, workers
 
 # The nurses of the first neighborhood of one week, and the fewest of any.
 FIRST_SIZE, LEAST_SIZE = 20.0, 4
-# A neighborhood with less work than this share of its most work is followed by a larger one, and one that did not end by a smaller one.
-# Work is the same on a busy machine. The most seconds of one.
-QUICK_SHARE, MOST_SECONDS = 0.4, 60.0
-GROWTH, SHRINKAGE = 1.15, 0.8
+# A neighborhood with less work than these shares of its most work is followed by a much larger one, or by a larger one, and one that did
+# not end by a smaller one. Work is the same on a busy machine. The most seconds of one.
+LITTLE_SHARE, QUICK_SHARE, MOST_SECONDS = 0.04, 0.4, 60.0
+MUCH_GROWTH, GROWTH, SHRINKAGE = 1.6, 1.15, 0.8
 # The shares of the days that neighborhoods of a week have, and those of a period.
 WEEK_SHARES, PERIOD_SHARES = (0.35, 0.5, 0.75, 1.0), (0.125, 0.25, 0.5, 0.75, 1.0)
 # The share of the neighborhoods in which one or two nurses must have another choice on a day, and the roster may cost as much as before.
@@ -232,7 +232,8 @@ class RowParts:
         with self._lock:
             length = len(part.days)
             self._spent[length] += 0 if done.is_better else done.work
-            factor = SHRINKAGE if not done.ended else GROWTH if done.work < QUICK_SHARE * part.most_work else 1.0
+            growth = MUCH_GROWTH if done.work < LITTLE_SHARE * part.most_work else GROWTH
+            factor = SHRINKAGE if not done.ended else growth if done.work < QUICK_SHARE * part.most_work else 1.0
             self._sizes[length] = min(len(self._search.plan.nurses), max(LEAST_SIZE, self._sizes[length] * factor))
             if is_better:
                 self._closed.clear()

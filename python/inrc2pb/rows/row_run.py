@@ -2,6 +2,7 @@
 
 import concurrent.futures
 import contextlib
+import random
 import threading
 import time
 from typing import Callable, Dict, List, Optional, TypeVar
@@ -19,19 +20,21 @@ from .plan import POINT, STEP, Plan, Points
 from .pricing import Crews, NurseWeek, Priced, Prices, Pricing
 from .row_generation import NoRow, RowGeneration
 from .row_parts import FEW_WEEKS, RowParts, Sweeps
-from .row_search import GIVEN, Offer, RowSearch, WrongBound
+from .row_search import GIVEN, Known, Offer, RowSearch, WrongBound
 from .skills import staffed
 from .week_dives import WeekDives
 from .workers import CaseWorker, workers
 
 # The shares of the time that is left: for new rows before a dive, for the dive, for one when no row is missing, for an integer program
 # over the known rows, and for one over all rows.
-ROWS_SHARE, DIVE_SHARE, LAST_DIVE_SHARE, KNOWN_SHARE, LISTED_SHARE = 0.5, 0.5, 0.8, 0.06, 0.5
+ROWS_SHARE, DIVE_SHARE, LAST_DIVE_SHARE, KNOWN_SHARE, LISTED_SHARE = 0.5, 0.5, 0.8, 0.1, 0.5
 # The most rows of an integer program.
 MOST_LISTED = 6_000
 # Up to this gap, in thousandths, a tree of cases may end soon: in a week nothing else is done for this number of seconds. It is worth its
 # time up to this part of the bound, too, and in a long period, in which plans get better for long, up to the second.
-TREE_GAP, TREE_SECONDS, TREE_PART, LONG_TREE_PART = 4 * STEP * POINT, 1.0, 0.1, 0.015
+TREE_GAP, TREE_SECONDS, TREE_PART, LONG_TREE_PART = 4 * STEP * POINT, 0.5, 0.1, 0.015
+# The shares of the rows that further dives in a week fix at once.
+MORE_DIVES = (0.15, 0.3, 0.0, 0.15, 0.08, 0.15)
 # The share of the time that is left for a tree alone, if the gap is one step.
 LAST_SHARE = 0.5
 # The seconds that a tree has after a solver's claim of the best roster, or more if the search took longer.
@@ -90,7 +93,7 @@ class RowRun:
         self._solver, self._clock, self._offer, self._heard, self._start = solver, clock, offer, heard, start
         self._seed, self._splits, self._is_quick = seed, splits, is_quick
         self.crews = Crews(plan)
-        self.search: Optional[RowSearch] = None
+        self.search: Optional[WholeSearch] = None
         self._tree: Optional[CaseTree] = None
         self._sweeps: Optional[Sweeps] = None
         # Prices that prove that no roster keeps the minimums; or the nurse who has no row.
@@ -136,6 +139,8 @@ class RowRun:
             return
         if penalty is not None and self._dives_beside and len(self.plan.weeks) > FEW_WEEKS:
             self._sweeps = Sweeps(search, self._solver.beside(1), self._clock)
+        if self.plan.charging and len(self.plan.weeks) == 1:
+            self._try(search.approach, ROWS_SHARE)
         while not search.complete:
             self._try(search.generate, ROWS_SHARE)
             if search.complete and search.misses_minimums and (self._keeps_limits or self._no_roster()):
@@ -175,15 +180,17 @@ class RowRun:
             self.minimums = Certificate(len(plan.weeks), generation.pricing.crews.places, Leaf(generation.prices))
         return self.minimums is not None
 
-    def _close_gap(self, search: RowSearch, solver: LinearSolver) -> None:
+    def _close_gap(self, search: WholeSearch, solver: LinearSolver) -> None:
         """Looks for the best roster, with a tree of cases beside that."""
-        if search.penalty is None or not (self._dives_beside or search.is_proved):
+        if search.penalty is None:
             self._try(lambda part: search.choose(search.known_within(), part, "known rows"), KNOWN_SHARE)
         if search.penalty is None or search.is_proved:
             return
-        clock = self._clock.part(self._clock.left())
+        clock, known = self._clock.part(self._clock.left()), search.known()
+        if processors() == 1:  # The same seed gives the same dives.
+            self._dive_again(search, clock)
         with concurrent.futures.ThreadPoolExecutor(1) as pool:
-            tree = pool.submit(self._close_cases, search, solver, clock)
+            tree = pool.submit(self._close_cases, search, known, solver, clock)
             try:
                 self._improve(search, solver, clock, tree)
             except (TimeIsOver, SolverFault):
@@ -195,18 +202,32 @@ class RowRun:
                 solver.end_all()
                 tree.result()
 
-    def _improve(self, search: RowSearch, solver: LinearSolver, clock: Clock, tree: "concurrent.futures.Future[None]") -> None:
-        """Improves the best roster: by an integer program over all rows that a better one can have, or part by part."""
+    def _improve(self, search: WholeSearch, solver: LinearSolver, clock: Clock, tree: "concurrent.futures.Future[None]") -> None:
+        """Improves the best roster: by more dives, by an integer program over all rows that a better one can have, or part by part."""
         if not self._dives_beside:
             concurrent.futures.wait([tree], min(TREE_SECONDS, clock.left()) if search.gap() <= TREE_GAP else 0)
+            if processors() > 1:
+                self._dive_again(search, clock)
+            if not search.is_proved:
+                search.add_earlier()
+                search.choose(search.known_within(), clock.part(clock.left() * KNOWN_SHARE), "known rows")
             if self._choose_among_all(search, solver, clock):
                 concurrent.futures.wait([tree], min(clock.left(), max(PROOF_SECONDS, time.monotonic() - self._clock.began)))
                 return
-            if self._splits and search.gap() <= STEP * POINT:
+            if self._splits and not search.is_proved and search.gap() <= STEP * POINT:
                 concurrent.futures.wait([tree], clock.left() * LAST_SHARE)
                 clock.check()
         if solver.chooses and not search.is_proved:
             RowParts(search, _side_by_side(solver), self._seed, processors() > 1, self._sweeps).run(clock)
+
+    def _dive_again(self, search: WholeSearch, clock: Clock) -> None:
+        """In a week, dives by chance, which take less than the first one: those that cannot end in a better roster end early."""
+        chance = random.Random(self._seed)
+        for share in () if self._dives_beside else MORE_DIVES:
+            clock.check()
+            rows = None if search.is_proved else search.dive(clock, share, chance)
+            if rows:
+                search.keep(rows, "fixing rows")
 
     def _choose_among_all(self, search: RowSearch, solver: LinearSolver, clock: Clock) -> bool:
         """Lets an integer program choose among the rows that a better roster can have. Returns whether the solver claims that there is
@@ -230,7 +251,7 @@ class RowRun:
         part = LONG_TREE_PART if len(self.plan.weeks) > FEW_WEEKS else TREE_PART
         return search.gap() <= max(TREE_GAP, part * search.bound)
 
-    def _close_cases(self, search: RowSearch, solver: LinearSolver, clock: Clock) -> None:
+    def _close_cases(self, search: RowSearch, known: Known, solver: LinearSolver, clock: Clock) -> None:
         """Looks for cases that show that no roster costs less than the best one, and for better rosters, as soon as the gap is small. If
         that ends the search, it ends all solvers."""
         if not self._splits or search.program.names_places:
@@ -239,14 +260,14 @@ class RowRun:
             while not self._is_narrow(search):
                 clock.check()
                 time.sleep(WAIT_SECONDS)
-            self._run_tree(search, solver, clock)
+            self._run_tree(search, known, solver, clock)
             if self._is_proved(search):
                 clock.stop()
                 solver.end_all()
 
-    def _run_tree(self, search: RowSearch, solver: LinearSolver, clock: Clock) -> None:
+    def _run_tree(self, search: RowSearch, known: Known, solver: LinearSolver, clock: Clock) -> None:
         """The tree that goes on from a search. With several processors other processes search cases, too."""
-        count, known = processors(), search.known()
+        count = processors()
         own = CaseSearch.begin(known, search.pricing.crews, solver.beside(count), clock.check)
         others = workers(known, [solver.beside(count + number) for number in range(1, count)])
 

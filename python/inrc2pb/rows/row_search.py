@@ -13,10 +13,10 @@ from ..solvers.linear_solvers import LinearSolver
 from .plan import POINT, STEP, Plan, Points, Thousandths
 from .pricing import NurseWeek, Prices, Pricing
 from .row_generation import RowGeneration
-from .row_program import RowProgram
+from .row_program import RowColumn, RowProgram
 from .skills import staffed
 
-MOST_SWEEPS = 4
+MOST_SWEEPS = 2
 # The name of what found the rows with which a search begins.
 GIVEN = "the given roster"
 
@@ -134,26 +134,28 @@ class RowSearch(RowGeneration):
 
     def costly(self, rows: Sequence[NurseWeek], minimum: Sequence[Thousandths]) -> List[int]:
         """The nurses whose rows cost more at the best prices than these minimums."""
-        costs = [self.pricing.cost(nurse, row) or Points(0) for nurse, row in enumerate(rows)]
-        return [nurse for nurse, row in enumerate(rows) if self._reduced(nurse, row, costs[nurse]) > minimum[nurse]]
+        columns = [RowColumn(nurse, row, self.pricing.cost(nurse, row) or Points(0), 0) for nurse, row in enumerate(rows)]
+        return [nurse for nurse, reduced in enumerate(self._reduced(columns)) if reduced > minimum[nurse]]
 
-    def _reduced(self, nurse: int, row: NurseWeek, cost: Points) -> Thousandths:
-        """What a row costs less what it earns at the best prices."""
-        return Thousandths(cost * POINT - self._earned(self.prices, nurse, row))
+    def _reduced(self, columns: Sequence[RowColumn]) -> List[int]:
+        """What rows cost less what they earn at the best prices, in thousandths."""
+        known = list(columns)
+        earned = self.pricing.crews.earned(self.prices, [column.nurse for column in known], [column.row for column in known])
+        return [column.cost * POINT - less for column, less in zip(known, earned.tolist())]
 
     def known_within(self) -> List[int]:
         """The known columns that a better roster can have."""
         if self.penalty is None or self.bound is None:
             return list(range(len(self.program.columns)))
         found, gap = self._priced(self.prices, range(len(self.plan.nurses)), self.clock), self.gap()
-        columns = enumerate(self.program.columns)
-        return [number for number, (nurse, row, cost, *_) in columns if self._reduced(nurse, row, cost) <= found[nurse].value + gap]
+        columns = zip(self.program.columns, self._reduced(self.program.columns))
+        return [number for number, (column, reduced) in enumerate(columns) if reduced <= found[column.nurse].value + gap]
 
     def known(self) -> Known:
         """What is known now."""
         found: List[Dict[NurseWeek, int]] = [{} for _ in self.plan.nurses]
-        for nurse, row, cost, _ in list(self.program.columns):
-            found[nurse][row] = self._reduced(nurse, row, cost)
+        for column, reduced in zip(self.program.columns, self._reduced(self.program.columns)):
+            found[column.nurse][column.row] = reduced
         return Known(self.plan, self.prices, [sorted(rows, key=lambda row: (rows[row], row)) for rows in found])
 
     def choose(self, use: Sequence[int], clock: Clock, finder: str, nodes: int = 0) -> bool:

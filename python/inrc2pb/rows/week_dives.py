@@ -124,7 +124,7 @@ class WeekDives(RowSearch):
             gains = {nurse: now.nurses[nurse] - priced.value for nurse, priced in found.items()}
             bound = max(bound, now.value - sum(gains.values()) / POINT)
             better = {nurse: priced for nurse, priced in found.items() if gains[nurse] > WORTH}
-            new = sum(self._add(nurse, priced.row, priced.cost, now.prices) for nurse, priced in better.items())
+            new = sum(self.add_row(nurse, priced.row, now.prices) for nurse, priced in better.items())
             if not new or self._is_no_better(bound) or (now.value - bound <= NEAR and not self._is_no_better(now.value)):
                 break
             now = self.program.solve(clock)

@@ -8,10 +8,11 @@ from ..judging.absences import absences_of, working_while_away
 from ..judging.breaches import explained, other_week, read_roster
 from ..judging.limits import exceeded, excess
 from ..judging.rules import Charge
-from ..programs.program import BROKEN_RULE, Report, WeekFiles, decode, extend
+from ..programs.program import BROKEN_RULE, Report, WeekFiles, answer_with, decode, objective_of
 from ..week.faults import FileFault, ProgramFault
-from ..week.files import read_solution, solution_text, write_solution
+from ..week.files import read_solution, solution_text
 from ..week.records import Cell, Solution, Week
+from ..week.writing import write_text
 from .kept_file import KeptFile
 
 # Gets the penalty of a better roster, and the name of what found it.
@@ -19,14 +20,18 @@ Announce = Callable[[int, str], None]
 
 
 class Accepted(NamedTuple):
-    """A roster that keeps the hard rules, its text as a file, its answer and its report. A smaller rank is better: fewer broken absences,
-    less above limits, and then a smaller penalty."""
+    """A roster that keeps the hard rules, its text as a file, and its answer. A smaller rank is better: fewer broken absences, less above
+    limits, and then a smaller penalty."""
 
     cells: Sequence[Cell]
     text: str
     answer: str
-    report: Report
     rank: Tuple[int, int, int]
+
+    @property
+    def penalty(self) -> int:
+        """Its penalty."""
+        return self.rank[2]
 
 
 class BestRoster:
@@ -53,7 +58,7 @@ class BestRoster:
     @property
     def penalty(self) -> Optional[int]:
         """The penalty of the best roster, if there is one."""
-        return self._best.report.penalty if self._best else None
+        return self._best.penalty if self._best else None
 
     def breaks(self) -> List[Cell]:
         """The assignments of the best roster that break an absence."""
@@ -77,28 +82,28 @@ class BestRoster:
         if self._is_better(found) and not self._takes_others(found):
             self._file.write(found.text)
             self._take(found, finder)
-        return found.report.penalty
+        return found.penalty
 
     def _accepted(self, cells: Sequence[Cell], text: str) -> Optional[Accepted]:
-        """The roster with its report; None if it breaks a hard rule."""
+        """The roster of a text with its answer; None if it breaks a hard rule."""
         with tempfile.TemporaryDirectory() as folder:
             path = Path(folder, "found.txt")
-            write_solution(path, Solution(self._week.history.week, self._week.scenario.name, tuple(cells)))
+            write_text(path, text)
             try:
-                answer, report = extend(self._files, path)
+                answer = answer_with(self._files, path)
             except ProgramFault as fault:
                 if fault.status != BROKEN_RULE:
                     raise
                 return None
         above = excess(exceeded(self._week, self._week.data.limits, cells))
-        return Accepted(cells, text, answer, report, (len(working_while_away(self._absences, cells)), above, report.penalty))
+        return Accepted(cells, text, answer, (len(working_while_away(self._absences, cells)), above, objective_of(answer)))
 
     def _is_better(self, found: Accepted) -> bool:
         return self._best is None or found.rank < self._best.rank
 
     def _take(self, found: Accepted, finder: str) -> None:
         self._best = found
-        self._announce(found.report.penalty, finder)
+        self._announce(found.penalty, finder)
 
     def _others(self) -> Optional[Accepted]:
         """The roster that the file has, if it is new to the search, of this week, and keeps the hard rules."""
@@ -116,7 +121,7 @@ class BestRoster:
         others = self._others()
         if others is None or others.rank >= mine.rank:
             return False
-        self._warn(f"{self._file.path} has a better roster than this search, which is kept: its penalty is {others.report.penalty}")
+        self._warn(f"{self._file.path} has a better roster than this search, which is kept: its penalty is {others.penalty}")
         self._take(others, "the file")
         return True
 
@@ -125,7 +130,7 @@ class BestRoster:
         week = self._week
         cells = read_roster(path, week.scenario, week.history).cells
         try:
-            extend(self._files, path)
+            answer_with(self._files, path)
         except ProgramFault as fault:
             found = other_week(path, week.scenario, week.history) if "roster breaks" in fault.message else ""
             said = ProgramFault(fault.status, f"{path} breaks a hard rule; {found}") if found else explained(fault, path, week, held)
@@ -151,6 +156,7 @@ class BestRoster:
 
     def report(self) -> Optional[Report]:
         """The report of the roster in the file, if there is one; its status is OPTIMUM FOUND if it is proved."""
-        if self._best and self.proved:
-            return decode(self._files, self._best.answer.replace("s SATISFIABLE", "s OPTIMUM FOUND", 1))
-        return self._best.report if self._best else None
+        if self._best is None:
+            return None
+        answer = self._best.answer
+        return decode(self._files, answer.replace("s SATISFIABLE", "s OPTIMUM FOUND", 1) if self.proved else answer)

@@ -19,10 +19,10 @@ from ..week.faults import ProgramFault
 from ..week.writing import write_text
 
 PROVER, PLAIN = "inrc2pb-bound", "plain Python, not proved"
-# The option of a certificate; earlier programs have others.
+# The option of a certificate.
 PROOF = "--proof"
-# Seconds for the help of the program, for a proof, and for one after the user has stopped the search.
-HELP_SECONDS, PROOF_SECONDS, STOPPED_SECONDS = 5.0, 60.0, 3.0
+# Seconds for a proof, and for one after the user has stopped the search.
+PROOF_SECONDS, STOPPED_SECONDS = 60.0, 3.0
 EXISTS_NONE = "no roster exists"
 
 
@@ -49,16 +49,7 @@ class Prover:
     """The program that proves bounds. It has no answer if it is not there, and none after a fault, which `warn` gets."""
 
     def __init__(self, warn: Callable[[str], None]) -> None:
-        self._warn, self._processes = warn, Processes()
-        self._program = find_prover()
-        if self._program and not self._reads_certificates(self._program):
-            self._program = None
-
-    def _reads_certificates(self, program: Path) -> bool:
-        try:
-            return f"{PROOF} " in (run_unless_stopped(program, ["--help"], HELP_SECONDS, self._processes) or "")
-        except ProgramFault:
-            return False
+        self._warn, self._processes, self._program = warn, Processes(), find_prover()
 
     def answer(self, options: Sequence[str], name: str, certificate: Certificate, given: Sequence[Claim], seconds: float) -> Optional[str]:
         """What the program prints about the weeks of these options, by a certificate, for the plans that keep the facts."""

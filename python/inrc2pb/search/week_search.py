@@ -63,6 +63,8 @@ class WeekSearch:
         solver = LinearSolver(self._processes, folder, self._progress.warn) if has_solver else None
         runs: List[RowRun] = []
         try:
+            if solver:
+                solver.start()
             self._run_rows(plan, solver, runs, start)
             if not plan.asks or self._best.keeps_all:
                 self.claimed_by = runs[0].claim

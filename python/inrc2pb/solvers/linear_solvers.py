@@ -51,6 +51,10 @@ class LinearSolver:
 
     # ---- programs
 
+    def start(self) -> None:
+        """Starts the process of linear programs, so that it is ready when it is needed."""
+        self._child.start()
+
     def program(self) -> LinearProgram:
         """A linear program without rows and columns, kept by the child."""
         return LinearProgram(self._child)

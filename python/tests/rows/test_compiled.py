@@ -12,11 +12,13 @@ from test_rows import POINT, pricing_of, random_plan
 from ward import HELPERS, HelperTest
 
 from inrc2pb.judging.runs import NEVER
+from inrc2pb.programs.clock import Clock
 from inrc2pb.rows import compiled
 from inrc2pb.rows.case_pricing import CasePricing
 from inrc2pb.rows.compiled import CompiledRows
 from inrc2pb.rows.pricing import Crews
 from inrc2pb.rows.row_arrays import Blocks, Member
+from inrc2pb.rows.row_generation import RowGeneration
 
 SOURCE = HELPERS / "inrc2pb" / "rows" / "cheapest_rows.c"
 COMPILER = shutil.which("cc") or shutil.which("clang")
@@ -36,9 +38,9 @@ class CompiledPricing(unittest.TestCase):
         with tempfile.TemporaryDirectory() as folder:
             cls.library = built(folder)
 
-    def compare(self, members, days, pay, allowed=None):
+    def compare(self, members, days, pay):
         """Both find the same rows of all nurses, and of some, at the same costs."""
-        fast, plain = CompiledRows(members, days, self.library), Blocks(members, days, allowed)
+        fast, plain = CompiledRows(members, days, self.library), Blocks(members, days)
         nurses = [member.nurse for member in members]
         for some in (nurses, nurses[::-2]):
             (costs, rows), (wanted, wanted_rows) = fast.cheapest(pay[some], some), plain.cheapest(pay[some], some)
@@ -62,7 +64,7 @@ class CompiledPricing(unittest.TestCase):
             # In every third plan nurses may have few choices, and reach few nodes; some have no row.
             shape, open_share = numpy.array(pricing.crews.of).shape, (1.0, 0.7, 0.3)[seed % 3]
             allowed = numpy.array([chance.random() < open_share for _ in range(numpy.prod(shape))]).reshape(shape)
-            self.compare(members, range(plan.days), self.pay(chance, pricing, allowed), allowed)
+            self.compare(members, range(plan.days), self.pay(chance, pricing, allowed))
 
     def test_the_same_rows_on_some_days(self):
         for seed in range(40):
@@ -74,7 +76,7 @@ class CompiledPricing(unittest.TestCase):
                 members.append(Member(nurse, graph.arrays, graph.walked(start, row[: days.start])[0], graph.arrays.after(days.stop, row)))
             shape = numpy.array(pricing.crews.of).shape
             allowed = numpy.array([chance.random() < 0.4 + 0.6 * (seed % 2) for _ in range(numpy.prod(shape))]).reshape(shape)
-            self.compare(members, days, self.pay(chance, pricing, allowed), allowed)
+            self.compare(members, days, self.pay(chance, pricing, allowed))
 
     def test_the_same_prices_of_cases(self):
         for seed in range(20):
@@ -89,18 +91,20 @@ class CompiledPricing(unittest.TestCase):
             self.assertEqual(*found)
 
     def test_the_cost_of_a_row_is_walked(self):
-        """A library whose costs are wrong changes no cost of a row."""
-        plan, chance = random_plan(2, nurses=6)
-        pricing, gains = pricing_of(plan), [0] * len(Crews(plan).members)
+        """A library whose costs are wrong changes no cost of a row in a program."""
+        plan, _ = random_plan(2, nurses=6)
 
         class Wrong(CompiledRows):
             def cheapest(self, pay, nurses, run_cost=0):
                 costs, rows = super().cheapest(pay, nurses, run_cost)
                 return costs - 5 * POINT, rows
 
-        wanted = [pricing.cheapest(nurse, gains) for nurse in range(6)]
         with mock.patch.object(compiled, "CompiledRows", Wrong), mock.patch.object(compiled, "library", self.library):
-            self.assertEqual(pricing_of(plan).cheapest_of(range(6), gains), wanted)
+            generation = RowGeneration(pricing_of(plan), None, lambda: None)
+            generation.approach(Clock(60))
+        self.assertTrue(generation.program.columns)
+        for nurse, row, cost, _ in generation.program.columns:
+            self.assertEqual(cost, generation.pricing.cost(nurse, row))
 
 
 class NoLibrary(HelperTest):

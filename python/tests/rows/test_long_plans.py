@@ -89,10 +89,12 @@ class FourWeeks(unittest.TestCase):
         chance, prices = random.Random(2), random_prices(self.pricing, 5)
         gains, crews = self.pricing.crews.gains(prices), self.pricing.crews.of
         for nurse, found in enumerate(cheapest(self.pricing)):
-            self.assertEqual(found.cost, self.pricing.cost(nurse, found.row))
-            for row in (found.row, *(random_row(self.pricing, nurse, chance) for _ in range(20))):
-                earned = sum(gains[crews[nurse][day][choice]] for day, choice in enumerate(row))
-                self.assertLessEqual(found.value, POINT * self.pricing.cost(nurse, row) - earned)
+            rows = [found.row, *(random_row(self.pricing, nurse, chance) for _ in range(20))]
+            earned = [sum(gains[crews[nurse][day][choice]] for day, choice in enumerate(row)) for row in rows]
+            self.assertEqual(self.pricing.crews.earned(prices, [nurse] * len(rows), rows).tolist(), earned)
+            values = [POINT * self.pricing.cost(nurse, row) - less for row, less in zip(rows, earned)]
+            self.assertEqual(found.value, values[0])
+            self.assertEqual(found.value, min(values))
 
     def test_all_nurses_together_have_the_rows_of_each_alone(self):
         gains = self.pricing.crews.gains(random_prices(self.pricing, 5))

@@ -143,7 +143,7 @@ class NextParts(unittest.TestCase):
 
     def test_sizes_follow_the_work(self):
         parts = RowParts(search_of(1), [])
-        for ended, work, size in ((True, 1000, 23.0), (True, 5000, 20.0), (False, 10_000, 16.0)):
+        for ended, work, size in ((True, 300, 30.0), (True, 1000, 23.0), (True, 5000, 20.0), (False, 10_000, 16.0)):
             parts._sizes[7] = 20.0
             parts._learn(Part((0, 1), range(7)), Done(ended, work), False)
             self.assertAlmostEqual(parts._sizes[7], size)

@@ -1,4 +1,4 @@
-"""Tests of lower bounds: `inrc2pb-bound` may prove them, lie, fail, be missing or too old, or not end."""
+"""Tests of lower bounds: `inrc2pb-bound` may prove them, lie, fail, be missing, or not end."""
 
 import json
 import os
@@ -115,7 +115,6 @@ class Proofs(FakeProver):
             ("50", Bound(50, PROVER)),
             ("0", Bound(0, PROVER)),
             (None, Bound(run.lower_bound, PLAIN)),
-            ("old", Bound(run.lower_bound, PLAIN)),
         ):
             self.assertEqual(self.bounds(how).of(run, STRICT, 60.0), found)
         self.assertEqual(self.warnings, [])
@@ -174,7 +173,7 @@ class Proofs(FakeProver):
     def test_no_roster_exists(self):
         certificate = self.certified(self.free).certificate()
         for answer, by in (("no roster exists", PROVER), ("a roster may exist", None)):
-            self.script(PROVER, f'[ "$1" != --help ] || echo "--proof <FILE>"\necho {answer}\n')
+            self.script(PROVER, f"echo {answer}\n")
             with mock.patch.object(bounds, "find_prover", lambda: self.folder / PROVER):
                 found = Bounds(week_options(WEEK_FILES), "ward", None, self.warnings.append)
             self.assertEqual(found.no_roster(self.free, certificate, 60.0), by)
