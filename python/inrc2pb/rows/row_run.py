@@ -35,8 +35,8 @@ MOST_LISTED = 6_000
 TREE_GAP, TREE_SECONDS, TREE_PART, LONG_TREE_PART = 4 * STEP * POINT, 0.5, 0.1, 0.015
 # The shares of the rows that further dives in a week fix at once.
 MORE_DIVES = (0.15, 0.3, 0.0, 0.15, 0.08, 0.15)
-# The share of the time that is left for a tree alone, if the gap is one step.
-LAST_SHARE = 0.5
+# The most seconds for a tree alone, if the gap is one step.
+LAST_SECONDS = 2.0
 # The seconds that a tree has after a solver's claim of the best roster, or more if the search took longer.
 PROOF_SECONDS = 5.0
 # Seconds between two looks whether the gap is small.
@@ -215,7 +215,7 @@ class RowRun:
                 concurrent.futures.wait([tree], min(clock.left(), max(PROOF_SECONDS, time.monotonic() - self._clock.began)))
                 return
             if self._splits and not search.is_proved and search.gap() <= STEP * POINT:
-                concurrent.futures.wait([tree], clock.left() * LAST_SHARE)
+                concurrent.futures.wait([tree], min(LAST_SECONDS, clock.left()))
                 clock.check()
         if solver.chooses and not search.is_proved:
             RowParts(search, _side_by_side(solver), self._seed, processors() > 1, self._sweeps).run(clock)
