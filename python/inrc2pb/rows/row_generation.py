@@ -4,22 +4,24 @@ The program's prices of places find better rows, until none is left; the same pr
 """
 
 import math
-from typing import Callable, Dict, List, Optional, Sequence
+from typing import Callable, Dict, List, Optional, Sequence, Tuple
 
 from ..programs.clock import Clock
 from ..solvers.linear_solvers import LinearSolver
 from ..solvers.resident_program import LinearProgram
-from .first_prices import first_prices
 from .plan import POINT, STEP, Points, Thousandths
+from .price_rounds import FEW, MANY, approach
 from .pricing import Priced, Prices, Pricing, NurseWeek, in_steps
 from ..week.records import Place
 from .row_program import MOST_BELOW, RowProgram, Solved
 from .skills import staffed
 
-# The rounds of the first prices with whose rows the linear program begins.
-BEGINNING = 10
-# The share of the best prices in those that are tried next.
-SMOOTHING = 0.4
+# The rounds of the first prices whose rows are kept, and those with whose rows the linear program begins.
+KEPT_ROUNDS, BEGINNING = 30, 10
+# With more weeks than this prices and dives take long.
+FEW_WEEKS = 4
+# The share of the best prices in those that are tried next, and in a long period, in which a solution of the linear program takes longer.
+SMOOTHING, LONG_SMOOTHING = 0.4, 0.7
 # A row is worth a column if it costs less than the known ones by more than this many thousandths.
 WORTH = 1
 # The columns in use for each nurse: after some are dropped, and at most. Up to the last number in all, none are dropped.
@@ -101,16 +103,16 @@ class RowGeneration:
         return found
 
     def _raise_bound(self, prices: Prices, found: Dict[int, Priced]) -> None:
-        bound = sum(priced.value for priced in found.values()) + self.pricing.places_cost(prices)
+        bound = self._proved(prices, found)
         if self.bound is None or bound > self.bound:
             self.bound, self.prices = Thousandths(bound), prices
             self._heard()
 
     def approach(self, clock: Clock) -> None:
         """Begins with prices that are found without the linear program, and with the rows of the last rounds on the way to them."""
-        self.prices, rows = first_prices(self.pricing, clock.check)
-        self._earlier = rows[:-BEGINNING]
-        self._add_rounds(rows[-BEGINNING:])
+        found = approach(self.pricing, MANY if len(self.plan.weeks) > FEW_WEEKS else FEW, clock.check)
+        self.prices, self._earlier = found.prices, found.rounds[-KEPT_ROUNDS:-BEGINNING]
+        self._add_rounds(found.rounds[-BEGINNING:])
 
     def add_earlier(self) -> None:
         """Adds the rows of earlier rounds, too."""
@@ -123,27 +125,35 @@ class RowGeneration:
 
     def generate(self, clock: Clock) -> None:
         """Adds rows until none is missing, or the bound is as good as the linear program's value."""
-        everyone = range(len(self.plan.nurses))
-        found = self._priced(self.prices, everyone, clock)
+        found = self._priced(self.prices, range(len(self.plan.nurses)), clock)
         self._raise_bound(self.prices, found)
         for nurse, priced in found.items():
             self.add_row(nurse, priced.row)
-        share = 0.0
+        share, smoothing = 0.0, LONG_SMOOTHING if len(self.plan.weeks) > FEW_WEEKS else SMOOTHING
         while not self.complete:
             now = self.solved = self.program.solve(clock)
             self._drop(now)
-            tried = [round(share * best + (1 - share) * price) for best, price in zip(self.prices, now.prices)] if share else now.prices
-            found = self._priced(tried, everyone, clock)
+            tried, found, new = self._round(now, self.prices, share, clock)
             self._raise_bound(tried, found)
-            new = sum(self.add_row(nurse, found[nurse].row, now.prices) for nurse in self._better(found, tried, now))
             if self._meets(now.value) or not (new or share):
                 self.misses_minimums = now.missing > EXACT
                 if self.misses_minimums and self.plan.charging and self.program.below < MOST_BELOW:
                     self.program.raise_below(min(MOST_BELOW, 10 * self.program.below))
                 else:
                     self.complete = True
-            share = SMOOTHING if new else 0.0
+            share = smoothing if new else 0.0
         self._heard()
+
+    def _round(self, now: Solved, best: Prices, share: float, clock: Clock) -> Tuple[Prices, Dict[int, Priced], int]:
+        """Adds the cheapest rows at prices between those of a solution and the best ones, which have this share. Returns these prices, the
+        rows, and how many of them are new and make the solution better."""
+        tried = [round(share * one + (1 - share) * price) for one, price in zip(best, now.prices)] if share else now.prices
+        found = self._priced(tried, range(len(self.plan.nurses)), clock)
+        return tried, found, sum(self.add_row(nurse, found[nurse].row, now.prices) for nurse in self._better(found, tried, now))
+
+    def _proved(self, prices: Prices, found: Dict[int, Priced]) -> int:
+        """What no roster costs less than by these prices and each nurse's cheapest row, in thousandths."""
+        return sum(priced.value for priced in found.values()) + self.pricing.places_cost(prices)
 
     def _better(self, found: Dict[int, Priced], tried: Prices, now: Solved) -> List[int]:
         """The nurses whose cheapest rows at the prices that were tried make the solution better."""

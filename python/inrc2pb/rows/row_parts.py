@@ -15,6 +15,7 @@ from ..week.records import WEEK_DAYS
 from .part_search import MOST_WORK, Dive, Done, Part, PartSearch
 from .plan import POINT, STEP
 from .pricing import NurseWeek
+from .row_generation import FEW_WEEKS
 from .row_search import RowSearch
 from .workers import PAUSE, PartWorker, workers
 
@@ -32,9 +33,9 @@ CHANGED_SHARE, MOST_CHANGED = 0.4, 2
 WIDE_GAP = 6 * STEP * POINT
 # The shares that dives fix at once, and their seeds. After the first ones their work in vain is about this part of that of neighborhoods.
 FIXED_SHARES, MOST_SEED, DIVES = (0.08, 0.06, 0.1), 1 << 30, 0.2
-# With more weeks than this prices and dives take long. So the first plan is made better beside that, in windows of so many weeks, and the
-# first dive fixes this share at once.
-FEW_WEEKS, WINDOW, FIRST_FIXED = 4, 3, 0.3
+# While the prices of a long period are found, its first plan is made better in windows of so many weeks. Its first dive fixes this share at
+# once.
+WINDOW, FIRST_FIXED = 3, 0.3
 # A roster that was not made better by so much work is left for that of a new dive, in a period.
 STUCK_WORK = 20 * MOST_WORK
 # Up to this part of the bound a gap is small. The share of the time that is left for an integer program over the known rows of all

@@ -18,8 +18,8 @@ from .certificate import Certificate, Leaf
 from .first_rows import matched_rows
 from .plan import POINT, STEP, Plan, Points
 from .pricing import Crews, NurseWeek, Priced, Prices, Pricing
-from .row_generation import NoRow, RowGeneration
-from .row_parts import FEW_WEEKS, RowParts, Sweeps
+from .row_generation import FEW_WEEKS, NoRow, RowGeneration
+from .row_parts import RowParts, Sweeps
 from .row_search import GIVEN, Known, Offer, RowSearch, WrongBound
 from .skills import staffed
 from .week_dives import WeekDives
@@ -139,7 +139,7 @@ class RowRun:
             return
         if penalty is not None and self._dives_beside and len(self.plan.weeks) > FEW_WEEKS:
             self._sweeps = Sweeps(search, self._solver.beside(1), self._clock)
-        if self.plan.charging and len(self.plan.weeks) == 1:
+        if self.plan.charging:
             self._try(search.approach, ROWS_SHARE)
         while not search.complete:
             self._try(search.generate, ROWS_SHARE)

@@ -3,22 +3,25 @@ rows with her fixed weeks."""
 
 import math
 import random
-from typing import Dict, List, NamedTuple, Optional, Set
+from typing import Dict, List, NamedTuple, Optional, Tuple
 
 from ..programs.clock import Clock, TimeIsOver
-from ..solvers.resident_program import DUAL, PRIMAL
+from ..solvers.resident_program import DUAL
 from ..week.records import WEEK_DAYS
 from .plan import POINT, STEP
-from .pricing import NurseWeek
-from .row_generation import EXACT, WORTH
+from .price_rounds import AGAIN, approach
+from .pricing import NurseWeek, Prices
+from .row_generation import EXACT, SMOOTHING
 from .row_program import RowProgram, Solved
 from .row_search import RowSearch
 
 # The share of the open weeks that is fixed at once, if a dive has none of its own: at first, at least, and at most.
 FIRST_SHARE, LEAST_SHARE, MOST_SHARE = 0.06, 0.02, 0.5
 # The most rounds of new rows between two fixings, and if the time is short. Before, they end when the value of the program, in points, is
-# as near to what its prices prove.
-MOST_ROUNDS, SHORT_ROUNDS, NEAR = 40, 2, STEP / 2
+# as near to what prices prove, or has fallen by less than this in so many solutions.
+MOST_ROUNDS, SHORT_ROUNDS, NEAR, LITTLE_FALL, TAIL = 40, 2, STEP / 2, 2 * STEP, 2
+# The rounds without a linear program whose rows are kept after each fixing.
+KEPT_AGAIN = 4
 # A dive that fixes more than this share at once fixes no more weeks than lack so much to whole weeks, together.
 LARGE_SHARE, MOST_LACKING = 0.2, 8.0
 # A larger share counts as a whole week. The factors of shares in a dive by chance.
@@ -75,11 +78,11 @@ class WeekDives(RowSearch):
         whole = self.program
         left = [_Week(nurse, number) for nurse in range(len(self.plan.nurses)) for number in range(len(self.plan.weeks))]
         fixed: Dict[_Week, NurseWeek] = {}
+        near: Optional[Prices] = None
         share, last, hurry = fixed_share or FIRST_SHARE, -math.inf, 0.0
         while left:
             before = clock.left()
-            nurses = sorted({week.nurse for week in left}) if fixed else []
-            now = self._relaxed_with(nurses, last, clock, SHORT_ROUNDS if hurry > share else MOST_ROUNDS)
+            now, near = self._relaxed_with(near, last, clock, SHORT_ROUNDS if hurry > share else MOST_ROUNDS)
             if self._is_no_better(now.value):
                 return None
             if not fixed_share:
@@ -92,7 +95,7 @@ class WeekDives(RowSearch):
                 return None
             fixed.update(new)
             left = [week for week in left if week not in new]
-            self._keep_weeks(new, {week.nurse for week in left})
+            self._keep_weeks(new)
             if left and self.program.has_many_shut:
                 # The solver looks at shut columns, too.
                 part = self.program.open_part(self.linear_program())
@@ -112,23 +115,35 @@ class WeekDives(RowSearch):
             self.program.close()
         self.program = whole
 
-    def _relaxed_with(self, nurses: List[int], last: float, clock: Clock, rounds: int) -> Solved:
-        """The linear program with the fixed weeks. While its value is above the last one, and above what its prices prove, these nurses get
-        new rows."""
-        # Fixed weeks take columns away, for which the dual method is made, and new rows add columns.
-        now, bound = self.program.solve(clock, DUAL if nurses else PRIMAL), -math.inf
-        for _ in range(rounds if nurses else 0):
-            if now.value <= last + EXACT:
-                break
-            found = self._priced(now.prices, nurses, clock)
-            gains = {nurse: now.nurses[nurse] - priced.value for nurse, priced in found.items()}
-            bound = max(bound, now.value - sum(gains.values()) / POINT)
-            better = {nurse: priced for nurse, priced in found.items() if gains[nurse] > WORTH}
-            new = sum(self.add_row(nurse, priced.row, now.prices) for nurse, priced in better.items())
-            if not new or self._is_no_better(bound) or (now.value - bound <= NEAR and not self._is_no_better(now.value)):
-                break
+    def _relaxed_with(self, near: Optional[Prices], last: float, clock: Clock, rounds: int) -> Tuple[Solved, Prices]:
+        """The linear program with the fixed weeks, and the prices that prove the most. These are not far from those that did so before the
+        last fixing; without any no week is fixed yet. It gets new rows while its value is above the last one, and above what prices prove,
+        and falls."""
+        if near is None:
             now = self.program.solve(clock)
-        return now
+            return now, now.prices
+        best, bound, share = near, -math.inf, 0.0
+        if len(self.plan.weeks) > 1:
+            found = approach(self.pricing, AGAIN, clock.check, near)
+            self._add_rounds(found.rounds[-KEPT_AGAIN:])
+            best, bound, share = found.prices, found.value / POINT, SMOOTHING
+        # Fixed weeks take columns away, for which the dual method is made, and new rows add columns.
+        now = self.program.solve(clock, DUAL)
+        values = [now.value]
+        for _ in range(rounds):
+            if now.value <= last + EXACT or (len(values) > TAIL and values[-TAIL - 1] - now.value < LITTLE_FALL):
+                break
+            tried, priced, new = self._round(now, best, share, clock)
+            if self._proved(tried, priced) > bound * POINT:
+                best, bound = tried, self._proved(tried, priced) / POINT
+            is_near = now.value - bound <= NEAR and not self._is_no_better(now.value)
+            if not (new or share) or self._is_no_better(bound) or is_near:
+                break
+            if new:
+                now = self.program.solve(clock)
+                values.append(now.value)
+            share = SMOOTHING if new else 0.0
+        return now, best
 
     def _chosen(
         self, now: Solved, left: List[_Week], share: float, chance: Optional[random.Random], lacking: float
@@ -151,10 +166,9 @@ class WeekDives(RowSearch):
                 others[week.nurse], lacking = week, lacking - 1 + shares[week][best[week]]
         return {**new, **{week: best[week] for week in others.values()}}
 
-    def _keep_weeks(self, new: Dict[_Week, NurseWeek], nurses: Set[int]) -> None:
-        """Lets rows have these weeks only. These nurses have open weeks."""
-        kept = [(week.nurse, week.days, choices) for week, choices in new.items() if week.nurse in nurses]
-        self.pricing = self.pricing.keeping(kept) if kept else self.pricing
+    def _keep_weeks(self, new: Dict[_Week, NurseWeek]) -> None:
+        """Lets rows have these weeks only."""
+        self.pricing = self.pricing.keeping([(week.nurse, week.days, choices) for week, choices in new.items()])
         of_nurse: Dict[int, List[_Week]] = {}
         for week in new:
             of_nurse.setdefault(week.nurse, []).append(week)

@@ -1,4 +1,4 @@
-"""Tests of the first prices: they bound rosters, come near to the best ones, and the rows on the way keep the hard rules."""
+"""Tests of prices without a linear program: they bound rosters, come near to the best ones, and the rows on the way keep the hard rules."""
 
 import unittest
 
@@ -8,20 +8,27 @@ from test_rows import POINT, bound_of, pricing_of, random_plan
 from ward import ENOUGH
 
 from inrc2pb.programs.clock import Clock, TimeIsOver
-from inrc2pb.rows import first_prices as module
-from inrc2pb.rows.first_prices import first_prices, priced
 from inrc2pb.rows.plan import Plan
-from inrc2pb.rows.row_generation import BEGINNING, RowGeneration
+from inrc2pb.rows.price_rounds import AGAIN, FEW, approach, priced
+from inrc2pb.rows.row_generation import BEGINNING, KEPT_ROUNDS, RowGeneration
 
 
-class First(unittest.TestCase):
+class Rounds(unittest.TestCase):
     def test_they_prove_nearly_the_best_roster(self):
         for name, best in OPTIMA.items():
             week = week_of(name)
             pricing = pricing_of(Plan.of(week.scenario, week.history, [week.data]))
-            prices, _ = first_prices(pricing, lambda: None)
-            bound = bound_of(pricing, prices)
-            self.assertTrue(0.9 * best * POINT < bound <= best * POINT, (name, bound))
+            found = approach(pricing, FEW, lambda: None)
+            self.assertEqual(found.value, bound_of(pricing, found.prices))
+            self.assertTrue(0.9 * best * POINT < found.value <= best * POINT, (name, found.value))
+
+    def test_they_do_not_prove_less_than_the_prices_with_which_they_begin(self):
+        plan, chance = random_plan(3)
+        pricing = pricing_of(plan)
+        prices = [chance.randrange(60 * POINT) for _ in pricing.crews.places]
+        found = approach(pricing, AGAIN, lambda: None, prices)
+        self.assertGreaterEqual(found.value, bound_of(pricing, prices))
+        self.assertEqual(len(found.rounds), AGAIN.rounds)
 
     def test_what_the_prices_of_a_round_prove(self):
         for seed in range(20):
@@ -38,19 +45,19 @@ class First(unittest.TestCase):
             taken = [pricing.crews.best_place(table[choice], prices) for table, choice in cells]
             self.assertEqual(there.tolist(), [taken.count(place) for place in range(len(prices))])
 
-    def test_the_rows_are_those_of_the_last_rounds(self):
+    def test_each_round_has_a_row_of_each_nurse(self):
         plan, _ = random_plan(3)
         pricing = pricing_of(plan)
-        _, rounds = first_prices(pricing, lambda: None)
+        rounds = approach(pricing, FEW, lambda: None).rounds
         self.assertEqual({len(rows) for rows in rounds}, {4})
-        self.assertEqual(len(rounds), module.KEPT_ROUNDS)
+        self.assertEqual(len(rounds), FEW.rounds)
         self.assertNotIn(None, [pricing.cost(nurse, row) for rows in rounds for nurse, row in enumerate(rows)])
 
     def test_a_program_begins_with_the_last_rows_and_gets_the_others_later(self):
         pricing = pricing_of(random_plan(3)[0])
         generation = RowGeneration(pricing, None, lambda: None)
         generation.approach(Clock(ENOUGH))
-        _, rounds = first_prices(pricing, lambda: None)
+        rounds = approach(pricing, FEW, lambda: None).rounds
 
         def known(rounds):
             return {(nurse, row) for rows in rounds for nurse, row in enumerate(rows)}
@@ -58,14 +65,14 @@ class First(unittest.TestCase):
         self.assertEqual({column[:2] for column in generation.program.columns}, known(rounds[-BEGINNING:]))
         for _ in range(2):
             generation.add_earlier()
-            self.assertEqual({column[:2] for column in generation.program.columns}, known(rounds))
+            self.assertEqual({column[:2] for column in generation.program.columns}, known(rounds[-KEPT_ROUNDS:]))
 
     def test_it_ends_with_its_time(self):
         def over():
             raise TimeIsOver
 
         with self.assertRaises(TimeIsOver):
-            first_prices(pricing_of(random_plan(3)[0]), over)
+            approach(pricing_of(random_plan(3)[0]), FEW, over)
 
 
 if __name__ == "__main__":
