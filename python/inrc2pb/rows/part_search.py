@@ -33,12 +33,14 @@ FIXING_SHARE = 0.9
 
 class Part(NamedTuple):
     """A neighborhood: the nurses who may get new rows, the days on which these may differ from their rows now, and those of the nurses, by
-    their places in it, who must have another choice on a day. If it is not `limited`, only its time ends its search."""
+    their places in it, who must have another choice on a day. If it is not `limited`, only its time ends its search. On many days its dive
+    fixes this share of the open weeks at once."""
 
     nurses: Tuple[int, ...]
     days: range
     changed: Tuple[Tuple[int, int], ...] = ()
     limited: bool = True
+    share: float = WEEKS_SHARE
 
     @property
     def most_work(self) -> float:
@@ -137,7 +139,7 @@ class PartSearch:
         if search.is_proved:
             return True
         if search.penalty is None or search.gap() > DIVE_GAP:
-            found = search.dive(clock, 0.0 if len(part.days) < LONG_DAYS else WEEKS_SHARE)
+            found = search.dive(clock, 0.0 if len(part.days) < LONG_DAYS else part.share)
             if found and search.keep(found, f"{name}, fixing rows"):
                 return True
         if part.limited and search.penalty is not None and search.gap() > CHOOSE_GAP:

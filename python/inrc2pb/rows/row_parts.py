@@ -33,8 +33,8 @@ CHANGED_SHARE, MOST_CHANGED = 0.4, 2
 WIDE_GAP = 6 * STEP * POINT
 # The shares that dives fix at once, and their seeds. After the first ones their work in vain is about this part of that of neighborhoods.
 FIXED_SHARES, MOST_SEED, DIVES = (0.08, 0.06, 0.1), 1 << 30, 0.2
-# While the prices of a long period are found, its first plan is made better in windows of so many weeks. Its first dive fixes this share at
-# once.
+# While the prices of a long period are found, its first plan is made better in windows of so many weeks. The dives of these windows, and the
+# first one of the period, fix this share at once.
 WINDOW, FIRST_FIXED = 3, 0.3
 # A roster that was not made better by so much work is left for that of a new dive, in a period.
 STUCK_WORK = 20 * MOST_WORK
@@ -58,7 +58,7 @@ class Sweeps:
         nurses, firsts = tuple(range(len(search.plan.nurses))), range(len(search.plan.weeks) - WINDOW + 1)
         for first in itertools.cycle(firsts):
             before, rows = search.penalty, list(search.rows or ())
-            part = Part(nurses, range(WEEK_DAYS * first, WEEK_DAYS * (first + WINDOW)))
+            part = Part(nurses, range(WEEK_DAYS * first, WEEK_DAYS * (first + WINDOW)), share=FIRST_FIXED)
             self._worker.do(Done, ("improve", part, rows), self._clock, functools.partial(self._take, part))
             vain = vain + 1 if search.penalty == before else 0
             if vain == len(firsts) or self._clock.left() <= 0:

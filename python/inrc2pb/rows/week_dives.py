@@ -20,8 +20,9 @@ FIRST_SHARE, LEAST_SHARE, MOST_SHARE = 0.06, 0.02, 0.5
 # The most rounds of new rows between two fixings, and if the time is short. Before, they end when the value of the program, in points, is
 # as near to what prices prove, or has fallen by less than this in so many solutions.
 MOST_ROUNDS, SHORT_ROUNDS, NEAR, LITTLE_FALL, TAIL = 40, 2, STEP / 2, 2 * STEP, 2
-# The rounds without a linear program whose rows are kept after each fixing.
-KEPT_AGAIN = 4
+# With more places than this a solution of the program takes longer than rounds of prices without it: after each fixing the rows of the last
+# of these rounds come first.
+MANY_PLACES, KEPT_AGAIN = 400, 4
 # A dive that fixes more than this share at once fixes no more weeks than lack so much to whole weeks, together.
 LARGE_SHARE, MOST_LACKING = 0.2, 8.0
 # A larger share counts as a whole week. The factors of shares in a dive by chance.
@@ -123,7 +124,7 @@ class WeekDives(RowSearch):
             now = self.program.solve(clock)
             return now, now.prices
         best, bound, share = near, -math.inf, 0.0
-        if len(self.plan.weeks) > 1:
+        if len(self.pricing.crews.places) > MANY_PLACES:
             found = approach(self.pricing, AGAIN, clock.check, near)
             self._add_rounds(found.rounds[-KEPT_AGAIN:])
             best, bound, share = found.prices, found.value / POINT, SMOOTHING
