@@ -18,11 +18,12 @@ from .row_search import RowSearch
 # The share of the open weeks that is fixed at once, if a dive has none of its own: at first, at least, and at most.
 FIRST_SHARE, LEAST_SHARE, MOST_SHARE = 0.06, 0.02, 0.5
 # The most rounds of new rows between two fixings, and if the time is short. Before, they end when the value of the program, in points, is
-# as near to what prices prove, or has fallen by less than this in so many solutions.
-MOST_ROUNDS, SHORT_ROUNDS, NEAR, LITTLE_FALL, TAIL = 40, 2, STEP / 2, 2 * STEP, 2
-# With more places than this a solution of the program takes longer than rounds of prices without it: after each fixing the rows of the last
-# of these rounds come first.
-MANY_PLACES, KEPT_AGAIN = 400, 4
+# as near to what prices prove.
+MOST_ROUNDS, SHORT_ROUNDS, NEAR = 40, 2, STEP / 2
+# A plan with more places than this is large: a solution of its program takes longer than rounds of prices without it. So after each fixing
+# the rows of the last of such rounds come first, and the rounds of new rows end, too, if the last solutions made the value, in points, fall by
+# less than this.
+MANY_PLACES, KEPT_AGAIN, TAIL, LITTLE_FALL = 400, 4, 2, 2 * STEP
 # A dive that fixes more than this share at once fixes no more weeks than lack so much to whole weeks, together.
 LARGE_SHARE, MOST_LACKING = 0.2, 8.0
 # A larger share counts as a whole week. The factors of shares in a dive by chance.
@@ -119,20 +120,21 @@ class WeekDives(RowSearch):
     def _relaxed_with(self, near: Optional[Prices], last: float, clock: Clock, rounds: int) -> Tuple[Solved, Prices]:
         """The linear program with the fixed weeks, and the prices that prove the most. These are not far from those that did so before the
         last fixing; without any no week is fixed yet. It gets new rows while its value is above the last one, and above what prices prove,
-        and falls."""
+        and, in a large plan, falls."""
         if near is None:
             now = self.program.solve(clock)
             return now, now.prices
-        best, bound, share = near, -math.inf, 0.0
-        if len(self.pricing.crews.places) > MANY_PLACES:
+        best, bound, is_large = near, -math.inf, len(self.pricing.crews.places) > MANY_PLACES
+        smoothing, tail = (SMOOTHING, TAIL) if is_large else (0.0, rounds)
+        if is_large:
             found = approach(self.pricing, AGAIN, clock.check, near)
             self._add_rounds(found.rounds[-KEPT_AGAIN:])
-            best, bound, share = found.prices, found.value / POINT, SMOOTHING
+            best, bound = found.prices, found.value / POINT
         # Fixed weeks take columns away, for which the dual method is made, and new rows add columns.
-        now = self.program.solve(clock, DUAL)
+        now, share = self.program.solve(clock, DUAL), smoothing
         values = [now.value]
         for _ in range(rounds):
-            if now.value <= last + EXACT or (len(values) > TAIL and values[-TAIL - 1] - now.value < LITTLE_FALL):
+            if now.value <= last + EXACT or (len(values) > tail and values[-tail - 1] - now.value < LITTLE_FALL):
                 break
             tried, priced, new = self._round(now, best, share, clock)
             if self._proved(tried, priced) > bound * POINT:
@@ -143,7 +145,7 @@ class WeekDives(RowSearch):
             if new:
                 now = self.program.solve(clock)
                 values.append(now.value)
-            share = SMOOTHING if new else 0.0
+            share = smoothing if new else 0.0
         return now, best
 
     def _chosen(

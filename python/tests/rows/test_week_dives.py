@@ -11,6 +11,7 @@ from test_row_parts import CHOICES, LONG, DiveTest, search_of
 from ward import HAS_CBC
 
 from inrc2pb.programs.clock import Clock, TimeIsOver
+from inrc2pb.rows import week_dives
 from inrc2pb.rows.first_rows import matched_rows
 from inrc2pb.rows.plan import POINT
 from inrc2pb.rows.part_search import Dive, PartSearch
@@ -118,6 +119,20 @@ class Dives(DiveTest):
         done = parts.dive(search.clock, lambda rows, _finder: offered.append(rows) or True, Dive(0.3, None, None))
         self.assertTrue(done.ended and done.work)
         self.assertLess(search.value_of(offered[-1]), search.lower_bound + 100)
+
+    def test_in_a_large_plan_rounds_of_prices_follow_each_fixing(self):
+        search = self.generated()
+        lower, fixings = search.lower_bound, mock.Mock(side_effect=search._keep_weeks)
+        rounds = mock.Mock(side_effect=week_dives.approach)
+        with mock.patch.object(week_dives, "approach", rounds), mock.patch.object(search, "_keep_weeks", fixings):
+            search.dive(search.clock, 0.3)
+            rounds.assert_not_called()
+            fixings.reset_mock()
+            with mock.patch.object(week_dives, "MANY_PLACES", 0):
+                rows = search.dive(search.clock, 0.3)
+        # After the last fixing there is nothing to solve.
+        self.assertEqual(rounds.call_count, fixings.call_count - 1)
+        self.assertLess(search.value_of(rows), lower + 100)
 
     def test_a_dive_that_cannot_be_better_has_no_rows(self):
         search = self.generated()
