@@ -33,8 +33,8 @@ CHANGED_SHARE, MOST_CHANGED = 0.4, 2
 WIDE_GAP = 6 * STEP * POINT
 # The shares that dives fix at once, and their seeds. After the first ones their work in vain is about this part of that of neighborhoods.
 FIXED_SHARES, MOST_SEED, DIVES = (0.08, 0.06, 0.1), 1 << 30, 0.2
-# While the prices of a long period are found, its first plan is made better in windows of so many weeks. The dives of these windows, and the
-# first one of the period, fix this share at once.
+# While the prices of a long period are found, its first plan is made better in windows of so many weeks. The dives of these windows, and
+# the first one of the period, fix this share at once.
 WINDOW, FIRST_FIXED = 3, 0.3
 # A roster that was not made better by so much work is left for that of a new dive, in a period.
 STUCK_WORK = 20 * MOST_WORK
