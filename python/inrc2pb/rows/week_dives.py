@@ -21,8 +21,8 @@ FIRST_SHARE, LEAST_SHARE, MOST_SHARE = 0.06, 0.02, 0.5
 # as near to what prices prove.
 MOST_ROUNDS, SHORT_ROUNDS, NEAR = 40, 2, STEP / 2
 # A plan with more places than this is large: a solution of its program takes longer than rounds of prices without it. So after each fixing
-# the rows of the last of such rounds come first, and the rounds of new rows end, too, if the last solutions made the value, in points, fall by
-# less than this.
+# the rows of the last of such rounds come first, and the rounds of new rows end, too, if the last solutions made the value, in points,
+# fall by less than this.
 MANY_PLACES, KEPT_AGAIN, TAIL, LITTLE_FALL = 400, 4, 2, 2 * STEP
 # A dive that fixes more than this share at once fixes no more weeks than lack so much to whole weeks, together.
 LARGE_SHARE, MOST_LACKING = 0.2, 8.0
