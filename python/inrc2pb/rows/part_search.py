@@ -33,8 +33,8 @@ FIXING_SHARE = 0.9
 
 class Part(NamedTuple):
     """A neighborhood: the nurses who may get new rows, the days on which these may differ from their rows now, and those of the nurses, by
-    their places in it, who must have another choice on a day. If it is not `limited`, only its time ends its search. On many days its dive
-    fixes this share of the open weeks at once."""
+    their places in it, who must have another choice on a day. If it is not `limited`, only its time ends its search. If it is long, its
+    dive fixes `share` of the open weeks at once."""
 
     nurses: Tuple[int, ...]
     days: range

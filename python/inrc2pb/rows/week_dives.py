@@ -137,8 +137,9 @@ class WeekDives(RowSearch):
             if now.value <= last + EXACT or (len(values) > tail and values[-tail - 1] - now.value < LITTLE_FALL):
                 break
             tried, priced, new = self._round(now, best, share, clock)
-            if self._proved(tried, priced) > bound * POINT:
-                best, bound = tried, self._proved(tried, priced) / POINT
+            proved = self._proved(tried, priced) / POINT
+            if proved > bound:
+                best, bound = tried, proved
             is_near = now.value - bound <= NEAR and not self._is_no_better(now.value)
             if not (new or share) or self._is_no_better(bound) or is_near:
                 break

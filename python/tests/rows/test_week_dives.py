@@ -92,16 +92,16 @@ class Dives(DiveTest):
         solve = RowProgram.solve
 
         def watched(program, clock, how=PRIMAL):
-            solved.append((program, program.has_many_shut))
+            solved.append((program, len(program.columns), program.has_many_shut))
             return solve(program, clock, how)
 
         with mock.patch.object(RowProgram, "solve", watched):
             rows = search.dive(search.clock, 0.3)
         self.assertIsNotNone(rows)
-        # After the first weeks are fixed the program is a part of the whole one, and none that is solved has many shut columns.
+        # After the first weeks are fixed few of the columns are left, and no program that is solved has many that are shut.
         self.assertIs(solved[0][0], whole)
-        self.assertIsNot(solved[1][0], whole)
-        self.assertFalse(any(is_shut for _, is_shut in solved[1:]))
+        self.assertLess(solved[1][1], before / 2)
+        self.assertFalse(any(is_shut for _, _, is_shut in solved[1:]))
         # The rows that the dive found are in the whole program.
         self.assertIs(search.program, whole)
         self.assertGreater(len(whole.columns), before)
