@@ -10,7 +10,7 @@ from ward import HAS_CBC, ROOT, HelperTest, files
 
 from inrc2pb.programs.clock import Clock, TimeIsOver
 from inrc2pb.programs.processes import Processes
-from inrc2pb.rows import row_parts
+from inrc2pb.rows import part_search, row_parts
 from inrc2pb.rows.first_rows import matched_rows
 from inrc2pb.rows.plan import POINT, Plan
 from inrc2pb.rows.pricing import Crews, Pricing
@@ -256,6 +256,24 @@ class Dives(DiveTest):
             part = Part(tuple(range(30)), days)
             parts.improve(Clock(LONG), lambda found, finder: search.keep(part.put(search.rows, found), finder), part, search.rows)
         self.assertEqual(search.penalty, last)
+
+    def test_dives_of_windows_fix_as_much_at_once_as_the_first_one(self):
+        search, windows, shares = search_of(2), [], []
+
+        def seen(_worker, _kind, task, _clock, _take):
+            windows.append(task[1])
+            return Done(True, 0)
+
+        with mock.patch.object(row_parts, "WINDOW", 1), mock.patch.object(Worker, "do", seen):
+            sweeps = Sweeps(search, self.solver, Clock(LONG))
+            sweeps.wait(Clock(LONG))
+            sweeps.end()
+        self.assertEqual([window.share for window in windows], [row_parts.FIRST_FIXED] * 2)
+        parts = PartSearch(search.pricing, search.known(), self.solver)
+        dive = mock.patch.object(WeekDives, "dive", lambda _search, _clock, share: shares.append(share))
+        with mock.patch.object(part_search, "LONG_DAYS", 7), dive:
+            parts.improve(Clock(LONG), lambda *_: False, windows[0], search.rows)
+        self.assertEqual(shares, [row_parts.FIRST_FIXED])
 
     def test_sweeps_that_are_ended_or_fail(self):
         search = search_of(2)
