@@ -19,8 +19,9 @@ from .row_search import Known, RowSearch, Take
 from .skills import staffed
 from .week_dives import WeekDives
 
-# The most work of a neighborhood of two weeks or less, in steps of the simplex method, and the most nodes of an integer program.
-MOST_WORK, MOST_NODES = 10_000, 50
+# The most work of a neighborhood of two weeks or less, in steps of the simplex method, and the most nodes of an integer program. A window
+# has so many times the work.
+MOST_WORK, MOST_NODES, WINDOW_WORK = 10_000, 50, 3
 # From the first of these gaps on, in thousandths, a neighborhood is worth a dive, and up to the second an integer program.
 DIVE_GAP, CHOOSE_GAP = STEP * POINT, 20 * POINT
 # In neighborhoods of at least this number of days, this share of the open weeks is fixed at once.
@@ -40,12 +41,14 @@ class Part(NamedTuple):
     days: range
     changed: Tuple[Tuple[int, int], ...] = ()
     limited: bool = True
-    share: float = WEEKS_SHARE
+    is_window: bool = False
+    seed: Optional[int] = None
 
     @property
     def most_work(self) -> float:
         """The limit of the work, in steps of the simplex method."""
-        return MOST_WORK * max(1.0, len(self.days) / (2 * WEEK_DAYS)) if self.limited else math.inf
+        most = MOST_WORK * max(1.0, len(self.days) / (2 * WEEK_DAYS)) * (WINDOW_WORK if self.is_window else 1)
+        return most if self.limited else math.inf
 
     def put(self, rows: Sequence[NurseWeek], found: Sequence[NurseWeek]) -> List[NurseWeek]:
         """The rows with those of the neighborhood replaced, on its days."""
@@ -94,7 +97,7 @@ class PartSearch:
             part = clock.part(clock.left() * FIXING_SHARE)
             search.generate(part)
             chance = None if task.seed is None else random.Random(task.seed)
-            found = search.dive(part, task.share, chance)
+            found = search.dive(part, task.share, chance, in_order=True)
             if found:
                 search.keep(found, "fixing rows")
                 search.descend(found, "fixing rows")
@@ -139,8 +142,9 @@ class PartSearch:
         if search.is_proved:
             return True
         if search.penalty is None or search.gap() > DIVE_GAP:
-            found = search.dive(clock, 0.0 if len(part.days) < LONG_DAYS else part.share)
-            if found and search.keep(found, f"{name}, fixing rows"):
+            chance = None if part.seed is None else random.Random(part.seed)
+            found = search.dive(clock, 0.0 if len(part.days) < LONG_DAYS else WEEKS_SHARE, chance)
+            if (found and search.keep(found, f"{name}, fixing rows")) or part.is_window:
                 return True
         if part.limited and search.penalty is not None and search.gap() > CHOOSE_GAP:
             return False

@@ -1,8 +1,6 @@
 """Improves the best roster of a search part by part, with several solvers at once: which parts come, and how large they are."""
 
 import concurrent.futures
-import functools
-import itertools
 import math
 import random
 import threading
@@ -17,7 +15,8 @@ from .plan import POINT, STEP
 from .pricing import NurseWeek
 from .row_generation import FEW_WEEKS
 from .row_search import RowSearch
-from .workers import PAUSE, PartWorker, workers
+from .windows import MOST_SEED, Windows
+from .workers import PartWorker, workers
 
 # The nurses of the first neighborhood of one week, and the fewest of any.
 FIRST_SIZE, LEAST_SIZE = 20.0, 4
@@ -32,10 +31,9 @@ CHANGED_SHARE, MOST_CHANGED = 0.4, 2
 # Above this gap, in thousandths, dives are made in a week, too.
 WIDE_GAP = 6 * STEP * POINT
 # The shares that dives fix at once, and their seeds. After the first ones their work in vain is about this part of that of neighborhoods.
-FIXED_SHARES, MOST_SEED, DIVES = (0.08, 0.06, 0.1), 1 << 30, 0.2
-# While the prices of a long period are found, its first plan is made better in windows of so many weeks. The dives of these windows, and
-# the first one of the period, fix this share at once.
-WINDOW, FIRST_FIXED = 3, 0.3
+FIXED_SHARES, DIVES = (0.3, 0.2, 0.4), 0.2
+# The length of windows among those of neighborhoods, and the part of their work in vain that counts.
+WINDOW, WINDOW_LESS = 0, 5
 # A roster that was not made better by so much work is left for that of a new dive, in a period.
 STUCK_WORK = 20 * MOST_WORK
 # Up to this part of the bound a gap is small. The share of the time that is left for an integer program over the known rows of all
@@ -43,51 +41,11 @@ STUCK_WORK = 20 * MOST_WORK
 SMALL_GAP, WHOLE_SHARE = 0.03, 0.3
 
 
-class Sweeps:
-    """Makes the first plan of a long period better while its prices are not known yet, in a process of its own: all nurses get new rows in
-    a window of some weeks, one window after another, until all of them are in vain."""
-
-    def __init__(self, search: RowSearch, solver: LinearSolver, clock: Clock) -> None:
-        self._search, self._clock = search, clock.part(clock.left())
-        [self._worker] = workers(search.known(), [solver])
-        self._pool = concurrent.futures.ThreadPoolExecutor(1)
-        self._done = self._pool.submit(self._run)
-
-    def _run(self) -> None:
-        search, vain = self._search, 0
-        nurses, firsts = tuple(range(len(search.plan.nurses))), range(len(search.plan.weeks) - WINDOW + 1)
-        for first in itertools.cycle(firsts):
-            before, rows = search.penalty, list(search.rows or ())
-            part = Part(nurses, range(WEEK_DAYS * first, WEEK_DAYS * (first + WINDOW)), share=FIRST_FIXED)
-            self._worker.do(Done, ("improve", part, rows), self._clock, functools.partial(self._take, part))
-            vain = vain + 1 if search.penalty == before else 0
-            if vain == len(firsts) or self._clock.left() <= 0:
-                return
-
-    def _take(self, part: Part, found: List[NurseWeek], finder: str) -> bool:
-        rows = self._search.rows
-        return rows is not None and self._search.keep(part.put(rows, found), finder)
-
-    def wait(self, clock: Clock) -> None:
-        """Waits until they have ended."""
-        while not concurrent.futures.wait([self._done], PAUSE).done:
-            clock.check()
-        self._done.result()
-
-    def end(self) -> None:
-        """Ends them."""
-        self._clock.stop()
-        self._pool.shutdown()
-        self._worker.end()
-
-
 class RowParts:
     """Improves the best roster of a search part by part, with each of the solvers at once, `apart` in a process of its own. Each solver has
-    files of its own. The last one waits for the end of `sweeps`."""
+    files of its own."""
 
-    def __init__(
-        self, search: RowSearch, solvers: Sequence[LinearSolver], seed: int = 1, apart: bool = False, sweeps: Optional[Sweeps] = None
-    ) -> None:
+    def __init__(self, search: RowSearch, solvers: Sequence[LinearSolver], seed: int = 1, apart: bool = False) -> None:
         self._search, self._solvers = search, solvers
         self._chance = random.Random(seed)
         self._minimums = search.minimum_values()
@@ -101,10 +59,12 @@ class RowParts:
         lengths = dict.fromkeys(math.ceil(share * search.plan.days) for share in shares)
         # For each number of days the number of nurses of the next neighborhood, and the work of those that were in vain; that of dives.
         self._sizes = {length: min(len(search.plan.nurses), FIRST_SIZE * (WEEK_DAYS / length) ** 0.5) for length in lengths}
-        self._spent, self._dived = dict.fromkeys(lengths, 0), 0.0
-        # How many dives have begun, and how many run. In a period each solver begins with one.
-        self._begun, self._diving, self._sweeps = 0, 0, sweeps
-        self._firsts = len(solvers) if len(search.plan.weeks) > 1 else 1
+        self._spent, self._dived = dict.fromkeys((*lengths, WINDOW), 0), 0.0
+        # How many dives have begun, and how many run. In a period each solver begins with one, in a long one half of them.
+        self._begun, self._diving = 0, 0
+        self._is_long = len(search.plan.weeks) > FEW_WEEKS
+        self._firsts = max(1, len(solvers) // 2) if self._is_long else len(solvers) if len(search.plan.weeks) > 1 else 1
+        self._windows = self._new_windows()
         # The days on which new choices of all nurses do not make the best roster better.
         self._closed: Set[range] = set()
         # Guards all that the threads share: the search, the chance and the lines above.
@@ -142,12 +102,10 @@ class RowParts:
         """One thread: neighborhoods of sizes that its time allows, and dives if no other thread makes one. In a week with a small gap the
         first thread begins with all nurses."""
         search = self._search
-        if self._sweeps and number + 1 == len(self._solvers):
-            self._sweeps.wait(clock)
         if number == 0 and not self._dives and search.bound is not None and search.gap() < SMALL_GAP * search.bound:
             everything = Part(tuple(range(len(search.plan.nurses))), range(search.plan.days), limited=False)
             self.improve(everything, solver, clock.part(clock.left() * WHOLE_SHARE), search)
-        roster, vain = search, 0
+        roster, windows, vain = search, self._windows, 0
         while not search.is_proved:
             clock.check()
             dive = self._next_dive()
@@ -156,13 +114,20 @@ class RowParts:
                 continue
             if vain > STUCK_WORK and self._restarts(number):
                 roster, vain = (self._restarted(solver, clock) if roster is search or number else None) or search, 0
+                windows = self._windows if roster is search else self._new_windows()
             penalty, best = roster.penalty, search.penalty
-            part = self._next(roster)
+            part = self._next(roster, windows)
             done = self.improve(part, solver, clock.part(MOST_SECONDS), roster)
             vain = 0 if roster.penalty != penalty else vain + done.work
+            if done.is_better:
+                windows.open()
             self._learn(part, done, search.penalty != best, roster is search)
         clock.stop()
         solver.end_all()
+
+    def _new_windows(self) -> Windows:
+        """The windows of a roster, if the period is long."""
+        return Windows(len(self._search.plan.weeks) if self._is_long else 0, self._chance)
 
     def _restarts(self, number: int) -> bool:
         """Whether the thread of this number leaves a roster that is stuck. If there are several, the first one stays with the best one."""
@@ -182,15 +147,16 @@ class RowParts:
         return len(self._search.plan.weeks) > 1 or (self._search.bound is not None and self._search.gap() > WIDE_GAP)
 
     def _next_dive(self) -> Optional[Dive]:
-        """The next dive, if it is time for one. The first one is without chance; one that its time ends in vain is the last."""
+        """The next dive of the best roster, if it is time for one. The first one is without chance; one that its time ends in vain is the
+        last. In a long period windows of all nurses take their place."""
         with self._lock:
-            is_next = self._begun < self._firsts or not (self._diving or self._dived > DIVES * sum(self._spent.values()))
-            if not (self._dives and is_next):
+            is_late = self._is_long or self._diving or self._dived > DIVES * sum(self._spent.values())
+            if not self._dives or (is_late and self._begun >= self._firsts):
                 return None
             self._begun, self._diving = self._begun + 1, self._diving + 1
-            share, seed = self._chance.choice(FIXED_SHARES), self._chance.randrange(MOST_SEED)
-            first = FIRST_FIXED if len(self._search.plan.weeks) > FEW_WEEKS else FIXED_SHARES[0]
-            return Dive(share, seed, self._search.penalty) if self._begun > 1 else Dive(first, None, self._search.penalty)
+            if self._begun == 1:
+                return Dive(FIXED_SHARES[0], None, self._search.penalty)
+            return Dive(self._chance.choice(FIXED_SHARES), self._chance.randrange(MOST_SEED), self._search.penalty)
 
     def _dive(self, solver: LinearSolver, clock: Clock, dive: Dive) -> List[List[NurseWeek]]:
         """A dive over all nurses and days. Returns the rows that it found, the best last."""
@@ -231,22 +197,32 @@ class RowParts:
         """Counts the work of a neighborhood, and changes the number of nurses of later ones of this length. `is_better` says whether the
         best roster is another one now, and `is_of_best` whether it is one of the best roster."""
         with self._lock:
+            if is_better:
+                self._closed.clear()
+            if is_better and done.is_better:
+                self._windows.open()
+            if part.is_window:
+                self._spent[WINDOW] += done.work // WINDOW_LESS
+                return
             length = len(part.days)
             self._spent[length] += 0 if done.is_better else done.work
             growth = MUCH_GROWTH if done.work < LITTLE_SHARE * part.most_work else GROWTH
             factor = SHRINKAGE if not done.ended else growth if done.work < QUICK_SHARE * part.most_work else 1.0
             self._sizes[length] = min(len(self._search.plan.nurses), max(LEAST_SIZE, self._sizes[length] * factor))
-            if is_better:
-                self._closed.clear()
-            elif is_of_best and done.ended and len(part.nurses) == len(self._search.plan.nurses) and not part.changed:
+            if not is_better and is_of_best and done.ended and len(part.nurses) == len(self._search.plan.nurses) and not part.changed:
                 self._closed.add(part.days)
 
-    def _next(self, roster: RowSearch) -> Part:
-        """The next neighborhood of a roster. The lengths share the work that is in vain, and days that are closed for all nurses come
-        last."""
+    def _next(self, roster: RowSearch, windows: Windows) -> Part:
+        """The next neighborhood of a roster: a window, if one is left. The lengths of others share the work that is in vain, and days that
+        are closed for all nurses come last."""
         with self._lock:
             nurses, days = len(self._search.plan.nurses), self._search.plan.days
             for length in sorted(self._spent, key=self._spent.__getitem__):
+                window = windows.next() if length == WINDOW or windows.are_new else None
+                if window:
+                    return Part(tuple(range(nurses)), window[0], is_window=True, seed=window[1])
+                if length == WINDOW:
+                    continue
                 size = int(self._sizes[length])
                 stretches = [range(first, first + length) for first in range(days - length + 1)]
                 left = [stretch for stretch in stretches if size < nurses or stretch not in self._closed]

@@ -112,17 +112,21 @@ class RowProgram:
         self._dropped.update(dict.fromkeys(new))
         self._program.bound_columns({self.columns[column].number: _OUT for column in new})
 
-    def shut(self, columns: Iterable[int]) -> None:
-        """Lets no nurse have these rows."""
+    def shut(self, columns: Iterable[int]) -> List[int]:
+        """Lets no nurse have these rows. Returns those that were not shut before."""
         new = [column for column in columns if column not in self._shut]
         self._shut.update(dict.fromkeys(new))
         self._program.bound_columns({self.columns[column].number: _OUT for column in new})
+        return new
 
-    def free(self) -> None:
+    def free(self, columns: Iterable[int]) -> None:
+        """Lets nurses have these rows again."""
+        back = [column for column in columns if self._shut.pop(column, 0) is None]
+        self._program.bound_columns({self.columns[column].number: _FREE for column in back if column not in self._dropped})
+
+    def free_all(self) -> None:
         """Lets all nurses have any row in use again."""
-        back = (column for column in self._shut if column not in self._dropped)
-        self._program.bound_columns({self.columns[column].number: _FREE for column in back})
-        self._shut.clear()
+        self.free(list(self._shut))
 
     @property
     def has_many_shut(self) -> bool:

@@ -19,10 +19,11 @@ from .first_rows import matched_rows
 from .plan import POINT, STEP, Plan, Points
 from .pricing import Crews, NurseWeek, Priced, Prices, Pricing
 from .row_generation import FEW_WEEKS, NoRow, RowGeneration
-from .row_parts import RowParts, Sweeps
+from .row_parts import RowParts
 from .row_search import GIVEN, Known, Offer, RowSearch, WrongBound
 from .skills import staffed
 from .week_dives import WeekDives
+from .windows import Sweeps
 from .workers import CaseWorker, workers
 
 # The shares of the time that is left: for new rows before a dive, for the dive, for one when no row is missing, for an integer program
@@ -217,8 +218,10 @@ class RowRun:
             if self._splits and not search.is_proved and search.gap() <= STEP * POINT:
                 concurrent.futures.wait([tree], min(LAST_SECONDS, clock.left()))
                 clock.check()
+        if self._sweeps:
+            self._sweeps.end()
         if solver.chooses and not search.is_proved:
-            RowParts(search, _side_by_side(solver), self._seed, processors() > 1, self._sweeps).run(clock)
+            RowParts(search, _side_by_side(solver), self._seed, processors() > 1).run(clock)
 
     def _dive_again(self, search: WholeSearch, clock: Clock) -> None:
         """In a week, dives by chance, which take less than the first one: those that cannot end in a better roster end early."""

@@ -1,22 +1,27 @@
-"""Dives: the weeks of nurses are fixed a few at a time, those first that most shares of a solution have in common. A nurse still gets new
-rows with her fixed weeks."""
+"""Dives: the weeks of nurses are fixed a few at a time, one week after another, those first that most shares of a solution have in common.
+A fixing that makes the solution much worse is undone, and half of it is fixed. A nurse still gets new rows with her fixed weeks.
+"""
 
+import collections
 import math
 import random
-from typing import Dict, List, NamedTuple, Optional, Tuple
+from typing import Dict, List, NamedTuple, Optional, Sequence, Tuple
 
 from ..programs.clock import Clock, TimeIsOver
 from ..solvers.resident_program import DUAL
 from ..week.records import WEEK_DAYS
 from .plan import POINT, STEP
 from .price_rounds import AGAIN, approach
-from .pricing import NurseWeek, Prices
+from .pricing import NurseWeek, Prices, Pricing
 from .row_generation import EXACT, SMOOTHING
 from .row_program import RowProgram, Solved
 from .row_search import RowSearch
 
 # The share of the open weeks that is fixed at once, if a dive has none of its own: at first, at least, and at most.
 FIRST_SHARE, LEAST_SHARE, MOST_SHARE = 0.06, 0.02, 0.5
+# A fixing of several weeks that makes the value, in points, rise by more than this is undone. After one with less than the second number
+# more are fixed at once.
+MOST_RISE, LITTLE_RISE = 6 * STEP, 1.5 * STEP
 # The most rounds of new rows between two fixings, and if the time is short. Before, they end when the value of the program, in points, is
 # as near to what prices prove.
 MOST_ROUNDS, SHORT_ROUNDS, NEAR = 40, 2, STEP / 2
@@ -24,8 +29,6 @@ MOST_ROUNDS, SHORT_ROUNDS, NEAR = 40, 2, STEP / 2
 # the rows of the last of such rounds come first, and the rounds of new rows end, too, if the last solutions made the value, in points,
 # fall by less than this.
 MANY_PLACES, KEPT_AGAIN, TAIL, LITTLE_FALL = 400, 4, 2, 2 * STEP
-# A dive that fixes more than this share at once fixes no more weeks than lack so much to whole weeks, together.
-LARGE_SHARE, MOST_LACKING = 0.2, 8.0
 # A larger share counts as a whole week. The factors of shares in a dive by chance.
 WHOLE, BY_CHANCE = 0.999, (0.8, 1.0)
 # How many times the part of the time that a step takes is fixed in it, if the time is short. The later ones take less.
@@ -48,18 +51,32 @@ class _Week(NamedTuple):
         return row[WEEK_DAYS * self.number : WEEK_DAYS * (self.number + 1)]
 
 
+class _Fixing(NamedTuple):
+    """Weeks of nurses that are fixed at once: first those that had no other choices, and then so many others, those of the greatest shares
+    first; with the pricing before, and the columns that they shut."""
+
+    weeks: Dict[_Week, NurseWeek]
+    others: int
+    pricing: Pricing
+    shut: List[int]
+
+
 class WeekDives(RowSearch):
     """A search that also dives."""
 
-    def dive(self, clock: Clock, share: float = 0.0, chance: Optional[random.Random] = None) -> Optional[List[NurseWeek]]:
-        """Fixes this share of the open weeks of nurses at once, without one as many as the solutions allow, and by chance not only those of
-        the greatest shares. Returns a row of each nurse, None if they cannot be better than the best. At the end of the time the rows are
-        those of the greatest shares, made better one after another."""
+    def dive(
+        self, clock: Clock, share: float = 0.0, chance: Optional[random.Random] = None, in_order: bool = False
+    ) -> Optional[List[NurseWeek]]:
+        """Fixes at most this share of the open weeks of nurses at once, without one as many as the solutions allow, and by chance not only
+        those of the greatest shares; `in_order` only some of the first open weeks, as many as there are nurses.
+
+        Returns a row of each nurse, None if they cannot be better than the best. At the end of the time the rows are those of the greatest
+        shares, made better one after another."""
         pricing, program = self.pricing, self.program
         # The rows of the greatest shares in the last solution.
         self._last = self._greatest(self.solved)
         try:
-            return self._dive(clock, share, chance)
+            return self._dive(clock, share, chance, in_order)
         except TimeIsOver:
             self.pricing = pricing
             self.clock.check()
@@ -69,42 +86,65 @@ class WeekDives(RowSearch):
         finally:
             self._leave(program)
             self.pricing = pricing
-            program.free()
+            program.free_all()
 
     def _greatest(self, solved: Optional[Solved]) -> Dict[int, NurseWeek]:
         """The row of each nurse that has the greatest share in a solution."""
         shares, columns = solved.shares if solved else {}, self.program.columns
         return {columns[number].nurse: columns[number].row for number in sorted(shares, key=shares.__getitem__)}
 
-    def _dive(self, clock: Clock, fixed_share: float, chance: Optional[random.Random]) -> Optional[List[NurseWeek]]:
-        whole = self.program
-        left = [_Week(nurse, number) for nurse in range(len(self.plan.nurses)) for number in range(len(self.plan.weeks))]
+    def _dive(self, clock: Clock, most_share: float, chance: Optional[random.Random], in_order: bool) -> Optional[List[NurseWeek]]:
+        whole, nurses, weeks = self.program, range(len(self.plan.nurses)), range(len(self.plan.weeks))
+        left = [_Week(nurse, number) for number in weeks for nurse in nurses]
         fixed: Dict[_Week, NurseWeek] = {}
-        near: Optional[Prices] = None
-        share, last, hurry = fixed_share or FIRST_SHARE, -math.inf, 0.0
-        while left:
+        fixing, near, last = _Fixing({}, 0, self.pricing, []), None, -math.inf
+        share, hurry = most_share or FIRST_SHARE, 0.0
+        while True:
             before = clock.left()
-            now, near = self._relaxed_with(near, last, clock, SHORT_ROUNDS if hurry > share else MOST_ROUNDS)
+            found = self._relaxed_with(near, last, clock, SHORT_ROUNDS if hurry > share else MOST_ROUNDS, fixing.others > 1)
+            if found is None:
+                fixing, share = self._halved(fixing), share / 2
+                continue
+            now, near = found
             if self._is_no_better(now.value):
                 return None
-            if not fixed_share:
-                share = min(MOST_SHARE, share * 1.5) if now.value <= last + EXACT else max(LEAST_SHARE, share * 0.7)
+            share, last = _next_share(share, most_share, now.value - last), now.value
             self._last = self._greatest(now)
+            fixed.update(fixing.weeks)
+            left = [week for week in left if week not in fixing.weeks]
+            if not left:
+                return [b"".join(fixed[_Week(nurse, number)] for number in weeks) for nurse in nurses]
             # So many at once that the time is enough.
-            last, hurry = now.value, HURRY * (before - clock.left()) / max(EXACT, clock.left())
-            new = self._chosen(now, left, max(share, hurry), chance, MOST_LACKING if fixed_share > max(LARGE_SHARE, hurry) else math.inf)
+            hurry = HURRY * (before - clock.left()) / max(EXACT, clock.left())
+            new, others = self._chosen(now, left, share, hurry, chance, in_order)
             if not new:
                 return None
-            fixed.update(new)
-            left = [week for week in left if week not in new]
-            self._keep_weeks(new)
-            if left and self.program.has_many_shut:
-                # The solver looks at shut columns, too.
-                part = self.program.open_part(self.linear_program())
-                self._leave(whole)
-                self.program = part
-        weeks = range(len(self.plan.weeks))
-        return [b"".join(fixed[_Week(nurse, number)] for number in weeks) for nurse in range(len(self.plan.nurses))]
+            self._shrink(whole)
+            fixing = self._fix(new, others)
+
+    def _fix(self, weeks: Dict[_Week, NurseWeek], others: int) -> _Fixing:
+        """Lets rows have these weeks only, of which the last ones, so many, have others in the solution."""
+        before, of_nurse = self.pricing, collections.defaultdict(list)
+        self.pricing = before.keeping([(week.nurse, week.days, choices) for week, choices in weeks.items()])
+        for week in weeks:
+            of_nurse[week.nurse].append(week)
+        columns = enumerate(self.program.columns)
+        out = [number for number, (nurse, row, *_) in columns if any(week.of(row) != weeks[week] for week in of_nurse.get(nurse, ()))]
+        return _Fixing(weeks, others, before, self.program.shut(out))
+
+    def _halved(self, fixing: _Fixing) -> _Fixing:
+        """Undoes a fixing, and fixes its weeks again without the last half of those that had other choices."""
+        self.pricing = fixing.pricing
+        self.program.free(fixing.shut)
+        undone = fixing.others - fixing.others // 2
+        return self._fix(dict(list(fixing.weeks.items())[:-undone]), fixing.others - undone)
+
+    def _shrink(self, whole: RowProgram) -> None:
+        """Goes on with a program without shut columns, if there are many: the solver looks at them, too."""
+        if self.program.has_many_shut:
+            part = self.program.open_part(self.linear_program())
+            self._leave(whole)
+            self.program = part
 
     def _is_no_better(self, value: float) -> bool:
         """Whether rosters of at least this value, in points, are not better than the best one."""
@@ -117,19 +157,24 @@ class WeekDives(RowSearch):
             self.program.close()
         self.program = whole
 
-    def _relaxed_with(self, near: Optional[Prices], last: float, clock: Clock, rounds: int) -> Tuple[Solved, Prices]:
+    def _relaxed_with(
+        self, near: Optional[Prices], last: float, clock: Clock, rounds: int, can_undo: bool
+    ) -> Optional[Tuple[Solved, Prices]]:
         """The linear program with the fixed weeks, and the prices that prove the most. These are not far from those that did so before the
         last fixing; without any no week is fixed yet. It gets new rows while its value is above the last one, and above what prices prove,
-        and, in a large plan, falls."""
+        and, in a large plan, falls. None if the last fixing should be undone."""
         if near is None:
             now = self.program.solve(clock)
             return now, now.prices
         best, bound, is_large = near, -math.inf, len(self.pricing.crews.places) > MANY_PLACES
         smoothing, tail = (SMOOTHING, TAIL) if is_large else (0.0, rounds)
+        limit = last + MOST_RISE if can_undo else math.inf
         if is_large:
             found = approach(self.pricing, AGAIN, clock.check, near)
             self._add_rounds(found.rounds[-KEPT_AGAIN:])
             best, bound = found.prices, found.value / POINT
+            if bound > limit:
+                return None
         # Fixed weeks take columns away, for which the dual method is made, and new rows add columns.
         now, share = self.program.solve(clock, DUAL), smoothing
         values = [now.value]
@@ -141,42 +186,49 @@ class WeekDives(RowSearch):
             if proved > bound:
                 best, bound = tried, proved
             is_near = now.value - bound <= NEAR and not self._is_no_better(now.value)
-            if not (new or share) or self._is_no_better(bound) or is_near:
+            if not (new or share) or bound > limit or self._is_no_better(bound) or is_near:
                 break
             if new:
                 now = self.program.solve(clock)
                 values.append(now.value)
             share = smoothing if new else 0.0
-        return now, best
+        return (now, best) if now.value <= limit else None
 
     def _chosen(
-        self, now: Solved, left: List[_Week], share: float, chance: Optional[random.Random], lacking: float
-    ) -> Dict[_Week, NurseWeek]:
-        """The weeks to fix: all that have no other choices in the solution, and this share of the others, of different nurses, but no more
-        than lack so much to whole weeks. At least one is fixed."""
-        shares: Dict[_Week, Dict[NurseWeek, float]] = {week: {} for week in left}
+        self, now: Solved, left: Sequence[_Week], share: float, hurry: float, chance: Optional[random.Random], in_order: bool
+    ) -> Tuple[Dict[_Week, NurseWeek], int]:
+        """The weeks to fix, and the number of those that have other choices in the solution. These are this share of such weeks, of
+        different nurses, those of the greatest shares first; at least one, and if the time is short, `hurry` of all. `in_order` they are
+        among the first ones, as many as there are nurses. The weeks before them that have no other choices are fixed, too."""
+        shares = self._shares(now, left)
+        best = {week: max(of_week, key=of_week.__getitem__) for week, of_week in shares.items() if of_week}
+        whole = {week for week, choices in best.items() if shares[week][choices] > WHOLE}
+        others = [week for week in left if week in best and week not in whole]
+        first = others[: len(self.plan.nurses)] if in_order else others
+        most = max(1, int(share * len(first)), int(hurry * len(others)))
+        weights = {
+            week: shares[week][best[week]] * (chance.uniform(*BY_CHANCE) if chance else 1) for week in others[: max(most, len(first))]
+        }
+        taken: Dict[int, _Week] = {}
+        for week in sorted(weights, key=weights.__getitem__, reverse=True):
+            if len(taken) < most:
+                taken.setdefault(week.nurse, week)
+        last = left.index(first[-1]) if in_order and first else len(left)
+        return {week: best[week] for week in (*(week for week in left[:last] if week in whole), *taken.values())}, len(taken)
+
+    def _shares(self, now: Solved, weeks: Sequence[_Week]) -> Dict[_Week, Dict[NurseWeek, float]]:
+        """The share of each choice of these weeks in a solution."""
+        shares: Dict[_Week, Dict[NurseWeek, float]] = {week: {} for week in weeks}
         for column, taken in now.shares.items():
             nurse, row, *_ = self.program.columns[column]
             for week in (_Week(nurse, number) for number in range(len(self.plan.weeks))):
                 if week in shares:
                     shares[week][week.of(row)] = shares[week].get(week.of(row), 0.0) + taken
-        best = {week: max(of_week, key=of_week.__getitem__) for week, of_week in shares.items() if of_week}
-        weights = {week: shares[week][choices] * (chance.uniform(*BY_CHANCE) if chance else 1) for week, choices in best.items()}
-        new = {week: choices for week, choices in best.items() if shares[week][choices] > WHOLE}
-        others: Dict[int, _Week] = {}
-        most = max(1, int(share * (len(best) - len(new))))
-        for week in sorted((week for week in best if week not in new), key=weights.__getitem__, reverse=True):
-            if len(others) < most and week.nurse not in others and (lacking > 0 or not others):
-                others[week.nurse], lacking = week, lacking - 1 + shares[week][best[week]]
-        return {**new, **{week: best[week] for week in others.values()}}
+        return shares
 
-    def _keep_weeks(self, new: Dict[_Week, NurseWeek]) -> None:
-        """Lets rows have these weeks only."""
-        self.pricing = self.pricing.keeping([(week.nurse, week.days, choices) for week, choices in new.items()])
-        of_nurse: Dict[int, List[_Week]] = {}
-        for week in new:
-            of_nurse.setdefault(week.nurse, []).append(week)
-        columns = enumerate(self.program.columns)
-        self.program.shut(
-            [number for number, (nurse, row, *_) in columns if any(week.of(row) != new[week] for week in of_nurse.get(nurse, ()))]
-        )
+
+def _next_share(share: float, most: float, rise: float) -> float:
+    """The share of the open weeks to fix at once, after a fixing with which the value, in points, rose so much."""
+    if most:
+        return min(most, 2 * share) if rise < LITTLE_RISE else share
+    return min(MOST_SHARE, 1.5 * share) if rise <= EXACT else max(LEAST_SHARE, 0.7 * share)

@@ -2,7 +2,6 @@
 
 import itertools
 import random
-import threading
 import unittest
 from unittest import mock
 
@@ -10,17 +9,15 @@ from ward import HAS_CBC, ROOT, HelperTest, files
 
 from inrc2pb.programs.clock import Clock, TimeIsOver
 from inrc2pb.programs.processes import Processes
-from inrc2pb.rows import part_search, row_parts
+from inrc2pb.rows import row_parts
 from inrc2pb.rows.first_rows import matched_rows
 from inrc2pb.rows.plan import POINT, Plan
 from inrc2pb.rows.pricing import Crews, Pricing
 from inrc2pb.rows.part_search import Dive, Done, Part, PartSearch
 from inrc2pb.rows.row_arrays import Arrays
-from inrc2pb.rows.row_parts import STUCK_WORK, RowParts, Sweeps
+from inrc2pb.rows.row_parts import STUCK_WORK, RowParts
 from inrc2pb.rows.row_search import RowSearch
 from inrc2pb.rows.week_dives import WeekDives
-from inrc2pb.rows.workers import Worker
-from inrc2pb.solvers.answers import SolverFault
 from inrc2pb.solvers.linear_solvers import LinearSolver
 
 MONTH = ROOT / "examples" / "month"
@@ -123,7 +120,7 @@ class NextParts(unittest.TestCase):
         seen = []
         # There are 13, 11, 8, 4 and 1 of these lengths.
         for _ in range(37):
-            part = parts._next(parts._search)
+            part = parts._next(parts._search, parts._windows)
             self.assertEqual(part.nurses, tuple(range(30)))
             seen.append(part.days)
             parts._learn(part._replace(changed=()), Done(True, 1000), False)
@@ -131,15 +128,15 @@ class NextParts(unittest.TestCase):
         self.assertEqual({len(days) for days in seen[:5]}, {2, 4, 7, 11, 14})
         # The only one of 14 days has had less work than the others, and is open again.
         parts._learn(part, Done(True, 1000, True), True)
-        self.assertEqual(len(parts._next(parts._search).days), 14)
+        self.assertEqual(len(parts._next(parts._search, parts._windows).days), 14)
 
     def test_lengths_share_the_work(self):
         parts = RowParts(search_of(1), [])
         for days, work in ((3, 2000), (4, 5000), (6, 1000), (7, 3000)):
             parts._learn(Part((0, 1), range(days)), Done(True, work), False)
-        self.assertEqual(len(parts._next(parts._search).days), 6)
+        self.assertEqual(len(parts._next(parts._search, parts._windows).days), 6)
         parts._learn(Part((0, 1), range(6)), Done(False, 1500), False)
-        self.assertEqual(len(parts._next(parts._search).days), 3)
+        self.assertEqual(len(parts._next(parts._search, parts._windows).days), 3)
 
     def test_sizes_follow_the_work(self):
         parts = RowParts(search_of(1), [])
@@ -150,17 +147,22 @@ class NextParts(unittest.TestCase):
 
 
 class NextDives(unittest.TestCase):
-    def test_the_first_dive_of_many_weeks_fixes_much_and_has_no_chance(self):
-        first = RowParts(search_of(2), [None])._next_dive()
-        self.assertEqual((first.share, first.seed), (0.08, None))
+    def test_the_first_dive_has_no_chance(self):
         parts = RowParts(search_of(2), [None, None])
-        with mock.patch.object(row_parts, "FEW_WEEKS", 1):
-            first, second = parts._next_dive(), parts._next_dive()
-        self.assertEqual((first.share, first.seed), (0.3, None))
-        self.assertIn(second.share, (0.08, 0.06, 0.1))
-        self.assertIsNotNone(second.seed)
+        dives = [parts._next_dive() for _ in range(3)]
+        self.assertEqual((dives[0].share, dives[0].seed), (0.3, None))
+        self.assertIn(dives[1].share, (0.3, 0.2, 0.4))
+        self.assertIsNotNone(dives[1].seed)
         # Two solvers have two first dives.
-        self.assertIsNone(parts._next_dive())
+        self.assertIsNone(dives[2])
+
+    def test_windows_take_the_place_of_later_dives_in_a_long_period(self):
+        for few, later in ((4, True), (1, False)):
+            with mock.patch.object(row_parts, "FEW_WEEKS", few):
+                parts = RowParts(search_of(2), [None])
+            self.assertIsNotNone(parts._next_dive())
+            parts._diving = 0
+            self.assertEqual(parts._next_dive() is not None, later)
 
 
 class Restarts(unittest.TestCase):
@@ -239,63 +241,6 @@ class Dives(DiveTest):
         self.assertFalse(parts._dives)
         week.bound -= 31 * POINT
         self.assertTrue(parts._dives)
-
-    def test_windows_of_all_nurses_until_all_are_in_vain(self):
-        search, finders = search_of(2), []
-        before, keep = search.penalty, search.keep
-        with mock.patch.object(row_parts, "WINDOW", 1):
-            with mock.patch.object(search, "keep", lambda rows, finder: finders.append(finder) or keep(rows, finder)):
-                sweeps = Sweeps(search, self.solver, Clock(LONG))
-                sweeps.wait(Clock(LONG))
-                sweeps.end()
-        self.assertLess(search.penalty, before)
-        self.assertEqual({finder.split(",")[1] for finder in finders}, {" 7 days"})
-        # Each window is in vain now.
-        parts, last = PartSearch(search.pricing, search.known(), self.solver), search.penalty
-        for days in (range(7), range(7, 14)):
-            part = Part(tuple(range(30)), days)
-            parts.improve(Clock(LONG), lambda found, finder: search.keep(part.put(search.rows, found), finder), part, search.rows)
-        self.assertEqual(search.penalty, last)
-
-    def test_dives_of_windows_fix_as_much_at_once_as_the_first_one(self):
-        search, windows, shares = search_of(2), [], []
-
-        def seen(_worker, _kind, task, _clock, _take):
-            windows.append(task[1])
-            return Done(True, 0)
-
-        with mock.patch.object(row_parts, "WINDOW", 1), mock.patch.object(Worker, "do", seen):
-            sweeps = Sweeps(search, self.solver, Clock(LONG))
-            sweeps.wait(Clock(LONG))
-            sweeps.end()
-        self.assertEqual([window.share for window in windows], [row_parts.FIRST_FIXED] * 2)
-        parts = PartSearch(search.pricing, search.known(), self.solver)
-        dive = mock.patch.object(WeekDives, "dive", lambda _search, _clock, share: shares.append(share))
-        with mock.patch.object(part_search, "LONG_DAYS", 7), dive:
-            parts.improve(Clock(LONG), lambda *_: False, windows[0], search.rows)
-        self.assertEqual(shares, [row_parts.FIRST_FIXED])
-
-    def test_sweeps_that_are_ended_or_fail(self):
-        search = search_of(2)
-        with mock.patch.object(row_parts, "WINDOW", 1):
-            sweeps = Sweeps(search, self.solver, Clock(LONG))
-            with self.assertRaises(TimeIsOver):
-                sweeps.wait(Clock(0.0))
-            sweeps.end()
-            self.assertTrue(sweeps._done.done())
-            with mock.patch.object(Worker, "do", side_effect=SolverFault("cbc is broken")):
-                sweeps = Sweeps(search, self.solver, Clock(LONG))
-                with self.assertRaises(SolverFault):
-                    sweeps.wait(Clock(LONG))
-                sweeps.end()
-
-    def test_the_last_thread_waits_for_sweeps(self):
-        search, waited = search_of(2), []
-        sweeps = mock.Mock(wait=lambda clock: waited.append(threading.current_thread()))
-        parts, search.bound = RowParts(search, [self.solver, self.solver.beside(1)], sweeps=sweeps), 0
-        search.penalty = search.lower_bound
-        parts.run(search.clock)
-        self.assertEqual(len(waited), 1)
 
     def test_a_solver_has_the_steps_that_are_left(self):
         search = self.generated()

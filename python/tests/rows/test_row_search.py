@@ -163,7 +163,7 @@ class RowSearches(HelperTest):
     @unittest.skipUnless(HAS_CBC, "needs cbc")
     def test_a_cbc_that_fails_or_lies(self):
         for how in ("crash", "hang", "nan", "unknown", "takes_none", "denies"):
-            with self.subTest(how), self.fake(how), mock.patch.object(WeekDives, "dive", lambda *_: None):
+            with self.subTest(how), self.fake(how), mock.patch.object(WeekDives, "dive", lambda *_, **__: None):
                 search = self.run_rows(week_of("last12"), seconds=4.0).search
                 self.assertGreaterEqual(min(self.penalties), 435)
                 self.assertLessEqual(search.lower_bound or 0, 435)

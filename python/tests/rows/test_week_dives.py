@@ -1,7 +1,6 @@
 """Tests of dives that fix the weeks of nurses."""
 
 import itertools
-import math
 import pickle
 import random
 import unittest
@@ -11,7 +10,7 @@ from test_row_parts import CHOICES, LONG, DiveTest, search_of
 from ward import HAS_CBC
 
 from inrc2pb.programs.clock import Clock, TimeIsOver
-from inrc2pb.rows import week_dives
+from inrc2pb.rows import row_parts, week_dives
 from inrc2pb.rows.first_rows import matched_rows
 from inrc2pb.rows.plan import POINT
 from inrc2pb.rows.part_search import Dive, PartSearch
@@ -65,12 +64,11 @@ class Dives(DiveTest):
             asked.append(how)
             return solve(program, clock, how)
 
-        fixings = mock.Mock(side_effect=search._keep_weeks)
-        with mock.patch.object(RowProgram, "solve", watched), mock.patch.object(search, "_keep_weeks", fixings):
+        fixings = mock.Mock(side_effect=search._fix)
+        with mock.patch.object(RowProgram, "solve", watched), mock.patch.object(search, "_fix", fixings):
             self.assertIsNotNone(search.dive(search.clock))
         self.assertEqual(asked[0], PRIMAL)
-        # After the last fixing there is nothing to solve.
-        self.assertEqual(asked.count(DUAL), fixings.call_count - 1)
+        self.assertEqual(asked.count(DUAL), fixings.call_count)
 
     def test_a_program_that_the_dual_method_does_not_solve(self):
         search, asked = self.generated(1), []
@@ -92,16 +90,16 @@ class Dives(DiveTest):
         solve = RowProgram.solve
 
         def watched(program, clock, how=PRIMAL):
-            solved.append((program, len(program.columns), program.has_many_shut))
+            solved.append((program, len(program.columns)))
             return solve(program, clock, how)
 
         with mock.patch.object(RowProgram, "solve", watched):
             rows = search.dive(search.clock, 0.3)
         self.assertIsNotNone(rows)
-        # After the first weeks are fixed few of the columns are left, and no program that is solved has many that are shut.
+        # When weeks are fixed few of the columns are left. Only those that the last fixing shuts are in a program that is solved.
         self.assertIs(solved[0][0], whole)
-        self.assertLess(solved[1][1], before / 2)
-        self.assertFalse(any(is_shut for _, _, is_shut in solved[1:]))
+        self.assertLess(solved[-1][1], before / 2)
+        self.assertGreater(len({id(program) for program, _ in solved}), 2)
         # The rows that the dive found are in the whole program.
         self.assertIs(search.program, whole)
         self.assertGreater(len(whole.columns), before)
@@ -122,16 +120,15 @@ class Dives(DiveTest):
 
     def test_in_a_large_plan_rounds_of_prices_follow_each_fixing(self):
         search = self.generated()
-        lower, fixings = search.lower_bound, mock.Mock(side_effect=search._keep_weeks)
+        lower, fixings = search.lower_bound, mock.Mock(side_effect=search._fix)
         rounds = mock.Mock(side_effect=week_dives.approach)
-        with mock.patch.object(week_dives, "approach", rounds), mock.patch.object(search, "_keep_weeks", fixings):
+        with mock.patch.object(week_dives, "approach", rounds), mock.patch.object(search, "_fix", fixings):
             search.dive(search.clock, 0.3)
             rounds.assert_not_called()
             fixings.reset_mock()
             with mock.patch.object(week_dives, "MANY_PLACES", 0):
                 rows = search.dive(search.clock, 0.3)
-        # After the last fixing there is nothing to solve.
-        self.assertEqual(rounds.call_count, fixings.call_count - 1)
+        self.assertEqual(rounds.call_count, fixings.call_count)
         self.assertLess(search.value_of(rows), lower + 100)
 
     def test_a_dive_that_cannot_be_better_has_no_rows(self):
@@ -142,54 +139,100 @@ class Dives(DiveTest):
     def test_a_dive_that_its_time_ends(self):
         search = self.generated()
         search.begin(matched_rows(search.plan, search.pricing.crews, lambda: None), None)
-        before, pricing, fix = search.penalty, search.pricing, search._keep_weeks
+        before, pricing, fix = search.penalty, search.pricing, search._fix
 
         def end(*words):
             fix(*words)
             raise TimeIsOver
 
-        with mock.patch.object(search, "_keep_weeks", end):
+        with mock.patch.object(search, "_fix", end):
             self.assertIsNone(search.dive(Clock(LONG), 0.2))
         self.assertLess(search.penalty, before)
         self.assertEqual(search.penalty, search.value_of(search.rows))
         self.assertIs(search.pricing, pricing)
 
-    def test_weeks_that_lack_much_are_fixed_one_after_another(self):
+    def test_weeks_in_order(self):
         search = self.generated()
-        left = [_Week(nurse, number) for nurse in range(30) for number in range(2)]
-        whole, few, all_of_them = (search._chosen(search.solved, left, 1.0, None, lacking) for lacking in (0.0, 1.0, math.inf))
-        # One week more than those that are whole, in any case.
-        self.assertLess(len(whole), len(few))
-        self.assertLess(len(few), len(all_of_them))
-        self.assertLessEqual(whole.items(), few.items())
-        self.assertLessEqual(few.items(), all_of_them.items())
+        left = [_Week(nurse, number) for number in range(2) for nurse in range(30)]
+        (ordered, some), (free, more) = (search._chosen(search.solved, left, 0.5, 0.0, None, in_order) for in_order in (True, False))
+        shares = search._shares(search.solved, left)
+        whole = {week for week in left if max(shares[week].values()) > week_dives.WHOLE}
+        others = [week for week in left if week not in whole]
+        self.assertEqual((some, more), (min(len(others), 30) // 2, len(others) // 2))
+        # In order these are of the first open weeks, as many as there are nurses; without order all that have no other choices are fixed, too.
+        self.assertLessEqual(set(ordered) - whole, set(others[:30]))
+        self.assertLessEqual(whole, set(free))
+        self.assertEqual(len({week.nurse for week in set(free) - whole}), more)
+        # The greatest shares come first, behind the weeks that have no other choices.
+        weights = [max(shares[week].values()) for week in free][-more:]
+        self.assertEqual(weights, sorted(weights, reverse=True))
+
+    def test_in_a_short_time_more_weeks_are_fixed_at_once(self):
+        search = self.generated()
+        left = [_Week(nurse, number) for number in range(2) for nurse in range(30)]
+        counts = [search._chosen(search.solved, left, 0.01, hurry, None, True)[1] for hurry in (0.0, 0.2, 0.4)]
+        self.assertEqual(counts, sorted(set(counts)))
+
+    def test_a_fixing_that_costs_too_much_is_undone_and_half_of_it_fixed(self):
+        search, fixings = self.generated(), []
+        fix, before = search._fix, search.pricing
+        left = [_Week(nurse, number) for number in range(2) for nurse in range(30)]
+
+        def see(weeks, others):
+            fixings.append((list(weeks), others))
+            return fix(weeks, others)
+
+        with mock.patch.object(search, "_fix", see):
+            weeks, others = search._chosen(search.solved, left, 0.5, 0.0, None, False)
+            fixing = search._fix(weeks, others)
+            self.assertIsNot(search.pricing, before)
+            halved = search._halved(fixing)
+        self.assertEqual(fixings[1], (fixings[0][0][: len(weeks) - others + others // 2], others // 2))
+        self.assertIs(halved.pricing, before)
+        search.pricing = before
+        search.program.free_all()
+        # No rise is allowed: each fixing of several weeks with other choices is undone, until one is left.
+        with mock.patch.object(week_dives, "MOST_RISE", -1e6), mock.patch.object(search, "_fix", see):
+            del fixings[:]
+            rows = search.dive(search.clock, 0.1)
+        self.assertTrue(all(others // 2 == after for (_, others), (_, after) in zip(fixings, fixings[1:]) if others > 1))
+        self.assertLess(search.value_of(rows), search.lower_bound + 100)
+
+    def test_the_next_share(self):
+        steady, rising = 0.0, week_dives.LITTLE_RISE
+        self.assertEqual([week_dives._next_share(0.1, most, steady) for most in (0.3, 0.15)], [0.2, 0.15])
+        self.assertEqual(week_dives._next_share(0.1, 0.3, rising), 0.1)
+        self.assertAlmostEqual(week_dives._next_share(0.1, 0.0, steady), 0.15)
+        self.assertAlmostEqual(week_dives._next_share(0.1, 0.0, rising), 0.07)
+        self.assertEqual([week_dives._next_share(share, 0.0, rise) for share, rise in ((0.4, steady), (0.02, rising))], [0.5, 0.02])
 
     def test_no_row_without_the_fixed_weeks(self):
         search, fixed = self.generated(), {}
-        keep = search._keep_weeks
+        keep = search._fix
 
-        def see(weeks):
-            keep(weeks)
+        def see(weeks, others):
+            found = keep(weeks, others)
             fixed.update(weeks)
             for number in search.program.solve(search.clock).shares:
                 column = search.program.columns[number]
                 for week, choices in fixed.items():
                     self.assertTrue(week.nurse != column.nurse or week.of(column.row) == choices)
+            return found
 
-        with mock.patch.object(search, "_keep_weeks", see):
+        with mock.patch.object(search, "_fix", see):
             rows = search.dive(search.clock, 0.2)
         self.assertEqual(len(fixed), 60)
         self.assertTrue(all(week.of(rows[week.nurse]) == choices for week, choices in fixed.items()))
 
 
 class FirstDives(unittest.TestCase):
-    def test_each_solver_begins_a_period_with_a_dive(self):
-        for weeks, firsts in ((2, 2), (1, 1)):
+    def test_each_solver_begins_a_period_with_a_dive_and_half_of_them_a_long_one(self):
+        for weeks, few, firsts in ((2, 4, 2), (2, 1, 1), (1, 4, 1)):
             search = search_of(weeks)
             search.bound = 0
-            parts = RowParts(search, [])
-            self.assertEqual(parts._firsts, 0 if weeks == 2 else 1)
-            parts._firsts = firsts
+            with mock.patch.object(row_parts, "FEW_WEEKS", few):
+                parts = RowParts(search, [None, None])
+            self.assertEqual(parts._firsts, firsts)
             dives = [parts._next_dive() for _ in range(3)]
             self.assertEqual([dive is None for dive in dives], [number >= firsts for number in range(3)])
             self.assertEqual([dive.seed is None for dive in dives if dive], [True, False][:firsts])

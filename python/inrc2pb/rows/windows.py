@@ -1,0 +1,88 @@
+"""Windows: all nurses of a long period get new rows in some weeks beside what they have in the others. Which windows come next; and windows
+in a process of their own, while the prices of the period are not known yet."""
+
+import concurrent.futures
+import functools
+import itertools
+import random
+from typing import List, Optional, Tuple
+
+from ..programs.clock import Clock
+from ..solvers.linear_solvers import LinearSolver
+from ..week.records import WEEK_DAYS
+from .part_search import Done, Part
+from .pricing import NurseWeek
+from .row_search import RowSearch
+from .workers import workers
+
+# The weeks of windows before prices are known; and after that, in one round after another. From the second round on dives are by chance.
+FIRST_WINDOW, ROUNDS = 3, (4, 4, 5, 4, 6, 4, 5)
+MOST_SEED = 1 << 30
+
+
+def windows(weeks: int, length: int) -> List[range]:
+    """The days of all windows of so many weeks."""
+    return [range(WEEK_DAYS * first, WEEK_DAYS * (first + length)) for first in range(weeks - length + 1)]
+
+
+class Windows:
+    """The windows of a roster in the order in which they are tried. Each comes once in a round until the roster is better."""
+
+    def __init__(self, weeks: int, chance: random.Random) -> None:
+        self._weeks, self._chance = weeks, chance
+        self._round, self._left = 0, [range(0)] * 0
+        self.open()
+
+    def open(self) -> None:
+        """Begins again: the roster is another one."""
+        self._round, self._left = 0, self._windows(0)
+
+    def _windows(self, number: int) -> List[range]:
+        """The windows of the round of this number, by chance."""
+        found = windows(self._weeks, ROUNDS[number]) if ROUNDS[number] < self._weeks else []
+        return self._chance.sample(found, len(found))
+
+    @property
+    def are_new(self) -> bool:
+        """Whether the first round has windows left."""
+        return self._round == 0 and bool(self._left)
+
+    def next(self) -> Optional[Tuple[range, Optional[int]]]:
+        """The days of the next window, and the seed of its dive, if that is by chance; None if all rounds are in vain."""
+        while not self._left and self._round + 1 < len(ROUNDS):
+            self._round += 1
+            self._left = self._windows(self._round)
+        if not self._left:
+            return None
+        return self._left.pop(0), self._chance.randrange(MOST_SEED) if self._round else None
+
+
+class Sweeps:
+    """Makes the first plan of a long period better, window after window, until all of them are in vain or it is ended."""
+
+    def __init__(self, search: RowSearch, solver: LinearSolver, clock: Clock) -> None:
+        self._search, self._clock = search, clock.part(clock.left())
+        [self._worker] = workers(search.known(), [solver])
+        self._pool = concurrent.futures.ThreadPoolExecutor(1)
+        self._done = self._pool.submit(self._run)
+
+    def _run(self) -> None:
+        search, vain = self._search, 0
+        nurses: Tuple[int, ...] = tuple(range(len(search.plan.nurses)))
+        every = windows(len(search.plan.weeks), FIRST_WINDOW)
+        for days in itertools.cycle(every):
+            if vain == len(every) or self._clock.left() <= 0:
+                return
+            before, rows, part = search.penalty, list(search.rows or ()), Part(nurses, days, is_window=True)
+            self._worker.do(Done, ("improve", part, rows), self._clock, functools.partial(self._take, part))
+            vain = vain + 1 if search.penalty == before else 0
+
+    def _take(self, part: Part, found: List[NurseWeek], finder: str) -> bool:
+        rows = self._search.rows
+        return rows is not None and self._search.keep(part.put(rows, found), finder)
+
+    def end(self) -> None:
+        """Ends them."""
+        self._clock.stop()
+        self._pool.shutdown()
+        self._worker.end()
