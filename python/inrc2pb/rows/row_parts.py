@@ -32,8 +32,8 @@ CHANGED_SHARE, MOST_CHANGED = 0.4, 2
 WIDE_GAP = 6 * STEP * POINT
 # The shares that dives fix at once, and their seeds. After the first ones their work in vain is about this part of that of neighborhoods.
 FIXED_SHARES, DIVES = (0.3, 0.2, 0.4), 0.2
-# The length of windows among those of neighborhoods, and the part of their work in vain that counts.
-WINDOW, WINDOW_LESS = 0, 5
+# In the first thread windows by chance have so many times the work in vain of neighborhoods of each length.
+WINDOW_WORTH = 5
 # A roster that was not made better by so much work is left for that of a new dive, in a period.
 STUCK_WORK = 20 * MOST_WORK
 # Up to this part of the bound a gap is small. The share of the time that is left for an integer program over the known rows of all
@@ -57,9 +57,10 @@ class RowParts:
             self._searches[solver] = PartWorker(self._workers[number], own) if apart else own
         shares = PERIOD_SHARES if len(search.plan.weeks) > 1 else WEEK_SHARES
         lengths = dict.fromkeys(math.ceil(share * search.plan.days) for share in shares)
-        # For each number of days the number of nurses of the next neighborhood, and the work of those that were in vain; that of dives.
+        # For each number of days the number of nurses of the next neighborhood, and the work of those that were in vain; that of dives, and
+        # of windows by chance.
         self._sizes = {length: min(len(search.plan.nurses), FIRST_SIZE * (WEEK_DAYS / length) ** 0.5) for length in lengths}
-        self._spent, self._dived = dict.fromkeys((*lengths, WINDOW), 0), 0.0
+        self._spent, self._dived, self._in_windows = dict.fromkeys(lengths, 0), 0.0, 0
         # How many dives have begun, and how many run. In a period each solver begins with one, in a long one half of them.
         self._begun, self._diving = 0, 0
         self._is_long = len(search.plan.weeks) > FEW_WEEKS
@@ -112,16 +113,14 @@ class RowParts:
             if dive:
                 self._dive(solver, clock, dive)
                 continue
-            if vain > STUCK_WORK and self._restarts(number):
+            if vain > STUCK_WORK and windows.are_over and self._restarts(number):
                 roster, vain = (self._restarted(solver, clock) if roster is search or number else None) or search, 0
                 windows = self._windows if roster is search else self._new_windows()
             penalty, best = roster.penalty, search.penalty
-            part = self._next(roster, windows)
+            part = self._next(roster, windows, number)
             done = self.improve(part, solver, clock.part(MOST_SECONDS), roster)
             vain = 0 if roster.penalty != penalty else vain + done.work
-            if done.is_better:
-                windows.open()
-            self._learn(part, done, search.penalty != best, roster is search)
+            self._learn(part, done, windows, search.penalty != best, roster is search)
         clock.stop()
         solver.end_all()
 
@@ -193,16 +192,19 @@ class RowParts:
 
         return self._searches[solver].improve(clock, take, part, rows)
 
-    def _learn(self, part: Part, done: Done, is_better: bool, is_of_best: bool = True) -> None:
+    def _learn(self, part: Part, done: Done, windows: Windows, is_better: bool, is_of_best: bool = True) -> None:
         """Counts the work of a neighborhood, and changes the number of nurses of later ones of this length. `is_better` says whether the
         best roster is another one now, and `is_of_best` whether it is one of the best roster."""
         with self._lock:
             if is_better:
                 self._closed.clear()
-            if is_better and done.is_better:
+            if done.is_better:
+                windows.open()
+            if done.is_better and is_better:
                 self._windows.open()
             if part.is_window:
-                self._spent[WINDOW] += done.work // WINDOW_LESS
+                # The first ones count nothing: they come before all others.
+                self._in_windows += 0 if part.seed is None else done.work
                 return
             length = len(part.days)
             self._spent[length] += 0 if done.is_better else done.work
@@ -212,17 +214,16 @@ class RowParts:
             if not is_better and is_of_best and done.ended and len(part.nurses) == len(self._search.plan.nurses) and not part.changed:
                 self._closed.add(part.days)
 
-    def _next(self, roster: RowSearch, windows: Windows) -> Part:
-        """The next neighborhood of a roster: a window, if one is left. The lengths of others share the work that is in vain, and days that
-        are closed for all nurses come last."""
+    def _next(self, roster: RowSearch, windows: Windows, number: int) -> Part:
+        """The next neighborhood of a roster for the thread of this number: a window, if one is left. In the first thread later windows
+        share the work that is in vain with other lengths. Days that are closed for all nurses come last."""
         with self._lock:
             nurses, days = len(self._search.plan.nurses), self._search.plan.days
+            is_turn = number > 0 or windows.are_new or self._in_windows <= WINDOW_WORTH * min(self._spent.values())
+            window = windows.next() if is_turn else None
+            if window:
+                return Part(tuple(range(nurses)), window[0], is_window=True, seed=window[1])
             for length in sorted(self._spent, key=self._spent.__getitem__):
-                window = windows.next() if length == WINDOW or windows.are_new else None
-                if window:
-                    return Part(tuple(range(nurses)), window[0], is_window=True, seed=window[1])
-                if length == WINDOW:
-                    continue
                 size = int(self._sizes[length])
                 stretches = [range(first, first + length) for first in range(days - length + 1)]
                 left = [stretch for stretch in stretches if size < nurses or stretch not in self._closed]

@@ -16,7 +16,7 @@ from .row_search import RowSearch
 from .workers import workers
 
 # The weeks of windows before prices are known; and after that, in one round after another. From the second round on dives are by chance.
-FIRST_WINDOW, ROUNDS = 3, (4, 4, 5, 4, 6, 4, 5)
+FIRST_WINDOW, ROUNDS = 3, (4, 4, 5)
 MOST_SEED = 1 << 30
 
 
@@ -30,31 +30,29 @@ class Windows:
 
     def __init__(self, weeks: int, chance: random.Random) -> None:
         self._weeks, self._chance = weeks, chance
-        self._round, self._left = 0, [range(0)] * 0
+        # The days of those that are left, and the seeds of their dives, which those of the first round do not have.
+        self._left: List[Tuple[range, Optional[int]]] = []
         self.open()
 
     def open(self) -> None:
         """Begins again: the roster is another one."""
-        self._round, self._left = 0, self._windows(0)
-
-    def _windows(self, number: int) -> List[range]:
-        """The windows of the round of this number, by chance."""
-        found = windows(self._weeks, ROUNDS[number]) if ROUNDS[number] < self._weeks else []
-        return self._chance.sample(found, len(found))
+        rounds = [windows(self._weeks, length) if length < self._weeks else [] for length in ROUNDS]
+        shuffled = [(number, days) for number, some in enumerate(rounds) for days in self._chance.sample(some, len(some))]
+        self._left = [(days, self._chance.randrange(MOST_SEED) if number else None) for number, days in shuffled]
 
     @property
     def are_new(self) -> bool:
         """Whether the first round has windows left."""
-        return self._round == 0 and bool(self._left)
+        return bool(self._left) and self._left[0][1] is None
+
+    @property
+    def are_over(self) -> bool:
+        """Whether no round has windows left."""
+        return not self._left
 
     def next(self) -> Optional[Tuple[range, Optional[int]]]:
         """The days of the next window, and the seed of its dive, if that is by chance; None if all rounds are in vain."""
-        while not self._left and self._round + 1 < len(ROUNDS):
-            self._round += 1
-            self._left = self._windows(self._round)
-        if not self._left:
-            return None
-        return self._left.pop(0), self._chance.randrange(MOST_SEED) if self._round else None
+        return self._left.pop(0) if self._left else None
 
 
 class Sweeps:

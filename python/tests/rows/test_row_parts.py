@@ -120,29 +120,29 @@ class NextParts(unittest.TestCase):
         seen = []
         # There are 13, 11, 8, 4 and 1 of these lengths.
         for _ in range(37):
-            part = parts._next(parts._search, parts._windows)
+            part = parts._next(parts._search, parts._windows, 0)
             self.assertEqual(part.nurses, tuple(range(30)))
             seen.append(part.days)
-            parts._learn(part._replace(changed=()), Done(True, 1000), False)
+            parts._learn(part._replace(changed=()), Done(True, 1000), parts._windows, False)
         self.assertEqual(len(set(seen)), 37)
         self.assertEqual({len(days) for days in seen[:5]}, {2, 4, 7, 11, 14})
         # The only one of 14 days has had less work than the others, and is open again.
-        parts._learn(part, Done(True, 1000, True), True)
-        self.assertEqual(len(parts._next(parts._search, parts._windows).days), 14)
+        parts._learn(part, Done(True, 1000, True), parts._windows, True)
+        self.assertEqual(len(parts._next(parts._search, parts._windows, 0).days), 14)
 
     def test_lengths_share_the_work(self):
         parts = RowParts(search_of(1), [])
         for days, work in ((3, 2000), (4, 5000), (6, 1000), (7, 3000)):
-            parts._learn(Part((0, 1), range(days)), Done(True, work), False)
-        self.assertEqual(len(parts._next(parts._search, parts._windows).days), 6)
-        parts._learn(Part((0, 1), range(6)), Done(False, 1500), False)
-        self.assertEqual(len(parts._next(parts._search, parts._windows).days), 3)
+            parts._learn(Part((0, 1), range(days)), Done(True, work), parts._windows, False)
+        self.assertEqual(len(parts._next(parts._search, parts._windows, 0).days), 6)
+        parts._learn(Part((0, 1), range(6)), Done(False, 1500), parts._windows, False)
+        self.assertEqual(len(parts._next(parts._search, parts._windows, 0).days), 3)
 
     def test_sizes_follow_the_work(self):
         parts = RowParts(search_of(1), [])
         for ended, work, size in ((True, 300, 30.0), (True, 1000, 23.0), (True, 5000, 20.0), (False, 10_000, 16.0)):
             parts._sizes[7] = 20.0
-            parts._learn(Part((0, 1), range(7)), Done(ended, work), False)
+            parts._learn(Part((0, 1), range(7)), Done(ended, work), parts._windows, False)
             self.assertAlmostEqual(parts._sizes[7], size)
 
 

@@ -37,12 +37,14 @@ class Order(unittest.TestCase):
         self.assertTrue(some.are_new)
         found = all_of(some)
         self.assertFalse(some.are_new)
-        # There are three windows of four weeks, and two of five; no window has all six weeks. The first round is without chance.
-        self.assertEqual([len(days) // 7 for days, _ in found], [4] * 3 + [4] * 3 + [5] * 2 + [4] * 3 + [4] * 3 + [5] * 2)
-        self.assertEqual([by_chance for _, by_chance in found], [False] * 3 + [True] * 13)
+        # There are three windows of four weeks, and two of five. The first round is without chance.
+        self.assertEqual([len(days) // 7 for days, _ in found], [4] * 6 + [5] * 2)
+        self.assertEqual([by_chance for _, by_chance in found], [False] * 3 + [True] * 5)
         self.assertEqual({days.start for days, _ in found[:3]}, {0, 7, 14})
+        self.assertTrue(some.are_over)
         some.open()
-        self.assertEqual(len(all_of(some)), 16)
+        self.assertFalse(some.are_over)
+        self.assertEqual(len(all_of(some)), 8)
 
     def test_a_period_of_few_weeks_has_none(self):
         for weeks in (0, 4):
@@ -57,32 +59,46 @@ class AmongParts(unittest.TestCase):
             self.addCleanup(patch.stop)
         self.parts = RowParts(search_of(2), [])
 
-    def next(self):
-        return self.parts._next(self.parts._search, self.parts._windows)
+    def next(self, number=0):
+        return self.parts._next(self.parts._search, self.parts._windows, number)
+
+    def learn(self, part, done, is_better):
+        self.parts._learn(part, done, self.parts._windows, is_better)
 
     def test_the_first_round_comes_before_other_neighborhoods(self):
         first = [self.next() for _ in range(2)]
         self.assertEqual({part.days for part in first}, {range(7), range(7, 14)})
         self.assertEqual({(part.nurses, part.is_window, part.seed) for part in first}, {(EVERYONE, True, None)})
-        # After it a fifth of the work of windows counts.
+        # After it windows have five times the work of each length.
         self.parts._spent = dict.fromkeys(self.parts._spent, 1000)
-        self.parts._learn(first[0], Done(True, 6000), False)
-        self.assertEqual(self.parts._spent[row_parts.WINDOW], 2200)
-        self.assertFalse(self.next().is_window)
-        self.parts._spent[row_parts.WINDOW] = 900
+        self.learn(first[0], Done(True, 9000), False)
         later = self.next()
         self.assertTrue(later.is_window)
         self.assertIsNotNone(later.seed)
+        self.learn(later, Done(True, 5001), False)
+        self.assertFalse(self.next().is_window)
+        # Only the first thread has other neighborhoods while a window is left.
+        self.assertTrue(self.next(1).is_window)
+        self.assertFalse(self.next(1).is_window)
 
     def test_windows_come_again_after_a_better_roster(self):
-        part = self.next()
+        part, other = self.next(), Windows(2, random.Random(1))
         self.next()
-        self.assertFalse(self.parts._windows.are_new)
+        all_of(other)
         # Another thread has found it.
-        self.parts._learn(part, Done(True, 100, False), True)
+        self.learn(part, Done(True, 100, False), True)
         self.assertFalse(self.parts._windows.are_new)
-        self.parts._learn(part, Done(True, 100, True), True)
-        self.assertTrue(self.parts._windows.are_new)
+        # It is better than the roster beside the best one only.
+        self.parts._learn(part, Done(True, 100, True), other, False)
+        self.assertEqual((other.are_new, self.parts._windows.are_new), (True, False))
+        all_of(other)
+        self.parts._learn(part, Done(True, 100, True), other, True)
+        self.assertEqual((other.are_new, self.parts._windows.are_new), (True, True))
+
+    def test_a_roster_is_not_stuck_while_windows_are_left(self):
+        for few, left in ((1, True), (4, False)):
+            with mock.patch.object(row_parts, "FEW_WEEKS", few):
+                self.assertEqual(not RowParts(search_of(2), [])._windows.are_over, left)
 
     def test_the_work_of_a_window(self):
         self.assertEqual(Part(EVERYONE, range(28)).most_work, 2 * MOST_WORK)
