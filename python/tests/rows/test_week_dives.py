@@ -189,14 +189,37 @@ class Dives(DiveTest):
             halved = search._halved(fixing)
         self.assertEqual(fixings[1], (fixings[0][0][: len(weeks) - others + others // 2], others // 2))
         self.assertIs(halved.pricing, before)
+        self.assertEqual(set(search.program._shut), set(halved.shut))
+        self.assertLess(set(halved.shut), set(fixing.shut))
         search.pricing = before
         search.program.free_all()
-        # No rise is allowed: each fixing of several weeks with other choices is undone, until one is left.
-        with mock.patch.object(week_dives, "MOST_RISE", -1e6), mock.patch.object(search, "_fix", see):
-            del fixings[:]
-            rows = search.dive(search.clock, 0.1)
-        self.assertTrue(all(others // 2 == after for (_, others), (_, after) in zip(fixings, fixings[1:]) if others > 1))
-        self.assertLess(search.value_of(rows), search.lower_bound + 100)
+        # No rise is allowed: each fixing of several weeks with other choices is undone, until one is left. In a large plan rounds of prices
+        # show that before the linear program is solved.
+        solve, asked = RowProgram.solve, []
+
+        def watched(program, clock, how=PRIMAL):
+            asked.append(how)
+            return solve(program, clock, how)
+
+        for places in (400, 0):
+            del fixings[:], asked[:]
+            with mock.patch.multiple(week_dives, MOST_RISE=-1e6, MANY_PLACES=places), mock.patch.object(search, "_fix", see):
+                with mock.patch.object(RowProgram, "solve", watched):
+                    rows = search.dive(search.clock, 0.2)
+            numbers = [others for _, others in fixings]
+            self.assertTrue(all(others // 2 == after for others, after in zip(numbers, numbers[1:]) if others > 1))
+            self.assertEqual(asked.count(DUAL), len(numbers) if places else sum(others < 2 for others in numbers))
+            # Later fewer are fixed at once.
+            self.assertLess(max(numbers[numbers.index(1) :]), numbers[0] // 2)
+            self.assertLess(search.value_of(rows), search.lower_bound + 100)
+
+    def test_a_dropped_column_stays_out(self):
+        search = self.generated(1)
+        column = max(search.solved.shares, key=search.solved.shares.__getitem__)
+        search.program.drop([column])
+        search.program.shut([column])
+        search.program.free_all()
+        self.assertNotIn(column, search.program.solve(search.clock).shares)
 
     def test_the_next_share(self):
         steady, rising = 0.0, week_dives.LITTLE_RISE
