@@ -109,6 +109,15 @@ class RowSearches(HelperTest):
                     run.run()
             self.assertEqual([sweeps.call_count, sweeps.return_value.end.call_count], [2 - few] * 2)
 
+    def test_sweeps_end_before_the_best_plan_is_improved_part_by_part(self):
+        week, order = week_of("n005w4"), []
+        plan, solver = Plan.of(week.scenario, week.history, [week.data, week.data]), mock.Mock(chooses=True)
+        run = RowRun(plan, solver, Clock(600.0), lambda rows, _finder: None, lambda: None)
+        run._sweeps = mock.Mock(end=lambda: order.append("sweeps"))
+        with mock.patch.object(row_run, "RowParts", return_value=mock.Mock(run=lambda clock: order.append("parts"))):
+            run._improve(mock.Mock(is_proved=False), solver, Clock(600.0), mock.Mock())
+        self.assertEqual(order, ["sweeps", "parts"])
+
     def test_a_tree_of_a_long_period_begins_at_a_small_gap(self):
         week = week_of("n005w4")
         run = RowRun(

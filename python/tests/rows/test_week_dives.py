@@ -16,7 +16,7 @@ from inrc2pb.rows.plan import POINT
 from inrc2pb.rows.part_search import Dive, PartSearch
 from inrc2pb.rows.row_parts import RowParts
 from inrc2pb.rows.row_program import RowProgram
-from inrc2pb.rows.week_dives import _Week
+from inrc2pb.rows.week_dives import WeekDives, _Week
 from inrc2pb.solvers.resident_program import DUAL, INFEASIBLE, PRIMAL
 
 
@@ -114,8 +114,17 @@ class Dives(DiveTest):
         found = parts._program.solve(search.clock)
         self.assertAlmostEqual(found.value, search.solved.value, 6)
         self.assertEqual(parts._program.iterations - known.program.iterations, 0)
-        done = parts.dive(search.clock, lambda rows, _finder: offered.append(rows) or True, Dive(0.3, None, None))
+        fixed, fix = [], WeekDives._fix
+
+        def see(dive, weeks, others):
+            fixed.append([week.number for week in weeks])
+            return fix(dive, weeks, others)
+
+        with mock.patch.object(WeekDives, "_fix", see):
+            done = parts.dive(search.clock, lambda rows, _finder: offered.append(rows) or True, Dive(0.3, None, None))
         self.assertTrue(done.ended and done.work)
+        # It fixes weeks in order.
+        self.assertEqual(set(fixed[0]), {0})
         self.assertLess(search.value_of(offered[-1]), search.lower_bound + 100)
 
     def test_in_a_large_plan_rounds_of_prices_follow_each_fixing(self):

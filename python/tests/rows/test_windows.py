@@ -7,10 +7,10 @@ from unittest import mock
 from test_row_parts import LONG, SCENARIO, DiveTest, search_of
 from ward import HAS_CBC
 
-from inrc2pb.programs.clock import Clock
+from inrc2pb.programs.clock import Clock, TimeIsOver
 from inrc2pb.rows import part_search, row_parts, windows
 from inrc2pb.rows.part_search import MOST_WORK, Done, Part, PartSearch
-from inrc2pb.rows.row_parts import RowParts
+from inrc2pb.rows.row_parts import STUCK_WORK, RowParts
 from inrc2pb.rows.week_dives import WeekDives
 from inrc2pb.rows.windows import Sweeps, Windows
 from inrc2pb.rows.workers import Worker
@@ -95,10 +95,25 @@ class AmongParts(unittest.TestCase):
         self.parts._learn(part, Done(True, 100, True), other, True)
         self.assertEqual((other.are_new, self.parts._windows.are_new), (True, True))
 
-    def test_a_roster_is_not_stuck_while_windows_are_left(self):
-        for few, left in ((1, True), (4, False)):
-            with mock.patch.object(row_parts, "FEW_WEEKS", few):
-                self.assertEqual(not RowParts(search_of(2), [])._windows.are_over, left)
+    def test_a_roster_is_left_for_a_new_one_after_its_windows(self):
+        search, seen, clock = search_of(2), [], Clock(LONG)
+        parts = RowParts(search, [None, None])
+        parts._begun = 2
+
+        def improve(part, _solver, _clock, roster):
+            seen.append((roster is search, part.is_window))
+            if len(seen) == 7:
+                clock.stop()
+            return Done(True, STUCK_WORK + 1)
+
+        with mock.patch.object(parts, "improve", improve), self.assertRaises(TimeIsOver):
+            with mock.patch.object(parts, "_restarted", lambda *_: search.restart(search.rows)):
+                parts._work(None, clock, 1)
+        self.assertEqual(seen, [(True, True)] * 4 + [(False, True)] * 3)
+
+    def test_a_short_period_has_no_windows(self):
+        with mock.patch.object(row_parts, "FEW_WEEKS", 2):
+            self.assertTrue(RowParts(search_of(2), [])._windows.are_over)
 
     def test_the_work_of_a_window(self):
         self.assertEqual(Part(EVERYONE, range(28)).most_work, 2 * MOST_WORK)
@@ -139,6 +154,20 @@ class Searched(DiveTest):
             part = Part(EVERYONE, days, is_window=True)
             parts.improve(Clock(LONG), lambda found, finder: search.keep(part.put(search.rows, found), finder), part, search.rows)
         self.assertEqual(search.penalty, last)
+
+    def test_sweeps_go_on_after_a_better_roster(self):
+        search, seen = search_of(2), []
+
+        def do(_worker, _kind, task, _clock, _take):
+            seen.append(task[1].days)
+            search.penalty -= 5 if len(seen) in (2, 3) else 0
+            return Done(True, 0)
+
+        with mock.patch.object(windows, "FIRST_WINDOW", 1), mock.patch.object(Worker, "do", do):
+            sweeps = Sweeps(search, self.solver, Clock(LONG))
+            sweeps._done.result()
+            sweeps.end()
+        self.assertEqual(seen, [range(7), range(7, 14)] * 2 + [range(7)])
 
     def test_sweeps_that_are_ended_or_fail(self):
         search = search_of(2)
