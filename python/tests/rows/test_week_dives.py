@@ -114,17 +114,10 @@ class Dives(DiveTest):
         found = parts._program.solve(search.clock)
         self.assertAlmostEqual(found.value, search.solved.value, 6)
         self.assertEqual(parts._program.iterations - known.program.iterations, 0)
-        fixed, fix = [], WeekDives._fix
-
-        def see(dive, weeks, others):
-            fixed.append([week.number for week in weeks])
-            return fix(dive, weeks, others)
-
-        with mock.patch.object(WeekDives, "_fix", see):
+        with mock.patch.object(WeekDives, "dive", autospec=True, side_effect=WeekDives.dive) as dive:
             done = parts.dive(search.clock, lambda rows, _finder: offered.append(rows) or True, Dive(0.3, None, None))
         self.assertTrue(done.ended and done.work)
-        # It fixes weeks in order.
-        self.assertEqual(set(fixed[0]), {0})
+        self.assertEqual(dive.call_args[1], {"in_order": True})
         self.assertLess(search.value_of(offered[-1]), search.lower_bound + 100)
 
     def test_in_a_large_plan_rounds_of_prices_follow_each_fixing(self):
