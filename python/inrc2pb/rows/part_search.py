@@ -19,8 +19,8 @@ from .row_search import Known, RowSearch, Take
 from .skills import staffed
 from .week_dives import WeekDives
 
-# The most work of a neighborhood of two weeks or less, in steps of the simplex method, and the most nodes of an integer program. A window
-# has so many times the work.
+# The most work of a neighborhood of two weeks or less, in steps of the simplex method, and the most nodes of an integer program. The work
+# of a window may be this many times that of another neighborhood of its days.
 MOST_WORK, MOST_NODES, WINDOW_WORK = 10_000, 50, 3
 # From the first of these gaps on, in thousandths, a neighborhood is worth a dive, and up to the second an integer program.
 DIVE_GAP, CHOOSE_GAP = STEP * POINT, 20 * POINT
@@ -34,8 +34,8 @@ FIXING_SHARE = 0.9
 
 class Part(NamedTuple):
     """A neighborhood: the nurses who may get new rows, the days on which these may differ from their rows now, and those of the nurses, by
-    their places in it, who must have another choice on a day. If it is not `limited`, only its time ends its search. If it is long, its
-    dive fixes `share` of the open weeks at once."""
+    their places in it, who must have another choice on a day. If it is not `limited`, only its time ends its search. A window has whole
+    weeks of all nurses, which are too many for an integer program. With a `seed` its dive is by chance."""
 
     nurses: Tuple[int, ...]
     days: range

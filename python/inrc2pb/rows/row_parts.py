@@ -30,7 +30,7 @@ WEEK_SHARES, PERIOD_SHARES = (0.35, 0.5, 0.75, 1.0), (0.125, 0.25, 0.5, 0.75, 1.
 CHANGED_SHARE, MOST_CHANGED = 0.4, 2
 # Above this gap, in thousandths, dives are made in a week, too.
 WIDE_GAP = 6 * STEP * POINT
-# The shares that dives fix at once, and their seeds. After the first ones their work in vain is about this part of that of neighborhoods.
+# The shares that dives fix at once. After the first ones their work in vain is about this part of that of neighborhoods.
 FIXED_SHARES, DIVES = (0.3, 0.2, 0.4), 0.2
 # In the first thread windows by chance have so many times the work in vain of neighborhoods of each length.
 WINDOW_WORTH = 5
@@ -147,7 +147,7 @@ class RowParts:
 
     def _next_dive(self) -> Optional[Dive]:
         """The next dive of the best roster, if it is time for one. The first one is without chance; one that its time ends in vain is the
-        last. In a long period windows of all nurses take their place."""
+        last. In a long period windows take the place of all but the first ones."""
         with self._lock:
             is_late = self._is_long or self._diving or self._dived > DIVES * sum(self._spent.values())
             if not self._dives or (is_late and self._begun >= self._firsts):
@@ -200,8 +200,8 @@ class RowParts:
                 self._closed.clear()
             if done.is_better:
                 windows.open()
-            if done.is_better and is_better:
-                self._windows.open()
+                if is_better:
+                    self._windows.open()
             if part.is_window:
                 # The first ones count nothing: they come before all others.
                 self._in_windows += 0 if part.seed is None else done.work

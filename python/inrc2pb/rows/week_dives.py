@@ -1,5 +1,6 @@
-"""Dives: the weeks of nurses are fixed a few at a time, one week after another, those first that most shares of a solution have in common.
-A fixing that makes the solution much worse is undone, and half of it is fixed. A nurse still gets new rows with her fixed weeks.
+"""Dives: the weeks of nurses are fixed a few at a time, those first that most shares of a solution have in common. A dive over a whole
+period fixes one week after another. A fixing that makes the solution much worse is undone, and half of it is fixed. A nurse still gets new
+rows with her fixed weeks.
 """
 
 import collections
@@ -19,8 +20,8 @@ from .row_search import RowSearch
 
 # The share of the open weeks that is fixed at once, if a dive has none of its own: at first, at least, and at most.
 FIRST_SHARE, LEAST_SHARE, MOST_SHARE = 0.06, 0.02, 0.5
-# A fixing of several weeks that makes the value, in points, rise by more than this is undone. After one with less than the second number
-# more are fixed at once.
+# A fixing of several weeks is undone if the value, in points, rises by more than the first number. If it rises by less than the second one,
+# more weeks are fixed at once.
 MOST_RISE, LITTLE_RISE = 6 * STEP, 1.5 * STEP
 # The most rounds of new rows between two fixings, and if the time is short. Before, they end when the value of the program, in points, is
 # as near to what prices prove.
@@ -52,8 +53,8 @@ class _Week(NamedTuple):
 
 
 class _Fixing(NamedTuple):
-    """Weeks of nurses that are fixed at once: first those that had no other choices, and then so many others, those of the greatest shares
-    first; with the pricing before, and the columns that they shut."""
+    """Weeks of nurses that are fixed at once. Those that have no other choices in the solution come first, and then `others` further ones,
+    in the order of their shares. The pricing is the one before the fixing, and `shut` has the columns that it shut."""
 
     weeks: Dict[_Week, NurseWeek]
     others: int
@@ -123,7 +124,7 @@ class WeekDives(RowSearch):
             fixing = self._fix(new, others)
 
     def _fix(self, weeks: Dict[_Week, NurseWeek], others: int) -> _Fixing:
-        """Lets rows have these weeks only, of which the last ones, so many, have others in the solution."""
+        """Lets nurses have rows with these weeks only. The last `others` of them have other choices in the solution."""
         before, of_nurse = self.pricing, collections.defaultdict(list)
         self.pricing = before.keeping([(week.nurse, week.days, choices) for week, choices in weeks.items()])
         for week in weeks:
@@ -197,9 +198,10 @@ class WeekDives(RowSearch):
     def _chosen(
         self, now: Solved, left: Sequence[_Week], share: float, hurry: float, chance: Optional[random.Random], in_order: bool
     ) -> Tuple[Dict[_Week, NurseWeek], int]:
-        """The weeks to fix, and the number of those that have other choices in the solution. These are this share of such weeks, of
-        different nurses, those of the greatest shares first; at least one, and if the time is short, `hurry` of all. `in_order` they are
-        among the first ones, as many as there are nurses. The weeks before them that have no other choices are fixed, too."""
+        """The weeks to fix, and the number of those that have other choices in the solution. Of such weeks this share is fixed, of
+        different nurses and the greatest shares first; at least one, and `hurry` of all if the time is short. `in_order` these are among
+        the first ones, as many as there are nurses. Weeks without other choices are fixed, too, `in_order` only if they come before
+        these."""
         shares = self._shares(now, left)
         best = {week: max(of_week, key=of_week.__getitem__) for week, of_week in shares.items() if of_week}
         whole = {week for week, choices in best.items() if shares[week][choices] > WHOLE}

@@ -1,5 +1,5 @@
-"""Windows: all nurses of a long period get new rows in some weeks beside what they have in the others. Which windows come next; and windows
-in a process of their own, while the prices of the period are not known yet."""
+"""Windows: in a long period all nurses get new rows in some weeks, and keep their rows in the others. This module says which window comes
+next, and tries windows in a process of their own while the prices of the period are not known yet."""
 
 import concurrent.futures
 import functools
@@ -15,9 +15,9 @@ from .pricing import NurseWeek
 from .row_search import RowSearch
 from .workers import workers
 
-# The weeks of windows before prices are known; and after that, in one round after another. From the second round on dives are by chance.
-FIRST_WINDOW, ROUNDS = 3, (4, 4, 5)
-MOST_SEED = 1 << 30
+# The number of weeks of a window before prices are known, and after that in each round. From the second round on dives are by chance, with
+# seeds below the last number.
+FIRST_WINDOW, ROUNDS, MOST_SEED = 3, (4, 4, 5), 1 << 30
 
 
 def windows(weeks: int, length: int) -> List[range]:
@@ -35,7 +35,7 @@ class Windows:
         self.open()
 
     def open(self) -> None:
-        """Begins again: the roster is another one."""
+        """Begins again with the first round, because the roster is another one."""
         rounds = [windows(self._weeks, length) if length < self._weeks else [] for length in ROUNDS]
         shuffled = [(number, days) for number, some in enumerate(rounds) for days in self._chance.sample(some, len(some))]
         self._left = [(days, self._chance.randrange(MOST_SEED) if number else None) for number, days in shuffled]
@@ -80,7 +80,7 @@ class Sweeps:
         return rows is not None and self._search.keep(part.put(rows, found), finder)
 
     def end(self) -> None:
-        """Ends them."""
+        """Ends the search and its process."""
         self._clock.stop()
         self._pool.shutdown()
         self._worker.end()
