@@ -219,8 +219,8 @@ def run(main: Callable[[], Optional[int]]) -> None:
         _catch_signals()
         with own_folder():
             status = _status_of(main)
-        sys.stdout.flush()
-        _ignore_signals()
+            sys.stdout.flush()
+            _ignore_signals()
     except BrokenPipeError:
         os.dup2(os.open(os.devnull, os.O_WRONLY), 1)
         status = BROKEN_PIPE
@@ -267,7 +267,7 @@ def _catch_signals() -> None:
 
 
 def _ignore_signals() -> None:
-    """All is done: a signal that comes while Python ends does not change the status."""
+    """All is done: a signal that comes while the own folder is removed, or while Python ends, does not change the status."""
     for number in (signal.SIGINT, signal.SIGTERM, signal.SIGHUP):
         signal.signal(number, signal.SIG_IGN)
 
