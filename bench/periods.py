@@ -33,10 +33,11 @@ class Goal(NamedTuple):
     seconds: float
 
 
-# The best known numbers when this was written; those of eight weeks are parts of their bounds.
+# What most seeds reached on two processors when this was written.
 GOALS = {
-    "60 nurses, 4 weeks": Goal(2170, 2170, 60), "40 nurses, 4 weeks": Goal(3150, 3110, 120), "20 nurses, 4 weeks": Goal(890, 775, 120),
-    "12 nurses, 4 weeks": Goal(1240, 1185, 120), "16 nurses, 8 weeks": Goal(2525, 2020, 600), "30 nurses, 8 weeks": Goal(1650, 1575, 600),
+    "12 nurses, 4 weeks": Goal(1235, 1195, 120), "20 nurses, 4 weeks": Goal(845, 780, 120), "40 nurses, 4 weeks": Goal(3110, 3110, 60),
+    "60 nurses, 4 weeks": Goal(2170, 2170, 60), "16 nurses, 8 weeks": Goal(2165, 2020, 300), "30 nurses, 8 weeks": Goal(1660, 1575, 300),
+    "40 nurses, 8 weeks": Goal(2860, 2780, 300), "60 nurses, 8 weeks": Goal(4070, 4070, 240),
 }  # fmt: skip
 MONTH_GOAL = Goal(1820, 1820, 300)
 

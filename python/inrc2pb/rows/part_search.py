@@ -33,13 +33,12 @@ FIXING_SHARE = 0.9
 
 
 class Part(NamedTuple):
-    """A neighborhood: the nurses who may get new rows, the days on which these may differ from their rows now, and those of the nurses, by
-    their places in it, who must have another choice on a day. If it is not `limited`, only its time ends its search. A window has whole
-    weeks of all nurses, which are too many for an integer program. With a `seed` its dive is by chance."""
+    """A neighborhood: the nurses who may get new rows, and the days on which these may differ from their rows now. If it is not `limited`,
+    only its time ends its search. A window has whole weeks of all nurses, which are too many for an integer program. With a `seed` its dive
+    is by chance."""
 
     nurses: Tuple[int, ...]
     days: range
-    changed: Tuple[Tuple[int, int], ...] = ()
     limited: bool = True
     is_window: bool = False
     seed: Optional[int] = None
@@ -144,8 +143,10 @@ class PartSearch:
         if search.penalty is None or search.gap() > DIVE_GAP:
             chance = None if part.seed is None else random.Random(part.seed)
             found = search.dive(clock, 0.0 if len(part.days) < LONG_DAYS else WEEKS_SHARE, chance)
-            if (found and search.keep(found, f"{name}, fixing rows")) or part.is_window:
+            if found and search.keep(found, f"{name}, fixing rows"):
                 return True
+            if part.is_window:
+                return False
         if part.limited and search.penalty is not None and search.gap() > CHOOSE_GAP:
             return False
         return search.choose(search.known_within(), clock, name, MOST_NODES if part.limited else 0)
@@ -153,10 +154,6 @@ class PartSearch:
     def _begin(self, search: RowSearch, part: Part, own: List[NurseWeek]) -> None:
         """Adds the rows with which a neighborhood begins."""
         search.rows, search.penalty = own, search.value_of(own)
-        for number, day in part.changed:
-            search.pricing.forbid(number, day, own[number][day])
-        if part.changed and search.penalty is not None:
-            search.penalty = Points(search.penalty + STEP)
         search.add_roster(own)
         first, stop = part.days.start, part.days.stop
         for number, nurse in enumerate(part.nurses):

@@ -155,12 +155,6 @@ class Pricing:
         costs = self.wishes[nurse].get(day, [0] * len(self.crews.of[nurse][day]))
         return [cost if choice == kept else NEVER for choice, cost in enumerate(costs)]
 
-    def forbid(self, nurse: int, day: int, choice: int) -> None:
-        """Forbids a nurse a choice on a day, before any pricing."""
-        costs = list(self.wishes[nurse].get(day, [0] * len(self.crews.of[nurse][day])))
-        costs[choice] = NEVER
-        self.wishes[nurse] = {**self.wishes[nurse], day: costs}
-
     def cheapest(self, nurse: int, gains: Gains) -> Optional[Priced]:
         """The nurse's cheapest row if the crews earn this; None if she has no row."""
         return self.cheapest_of([nurse], gains)[0]
@@ -199,13 +193,6 @@ class Pricing:
         wishes = sum(costs[row[day]] for day, costs in self.wishes[nurse].items())
         cost = self.graphs[nurse].walked(self.starts[nurse], row)[1] + wishes + self.base[nurse]
         return None if cost >= NEVER // 2 else Points(cost // POINT)
-
-    def within(self, nurse: int, gains: Gains, gap: int, most: int) -> List[NurseWeek]:
-        """The nurse's rows that cost at most this gap more than her cheapest one, but no more than `most` + 1."""
-        pay = [[-gains[crew] for crew in crews] for crews in self.crews.of[nurse]]
-        for day, wishes in self.wishes[nurse].items():
-            pay[day] = [wish + paid for wish, paid in zip(wishes, pay[day])]
-        return self.graphs[nurse].within(self.starts[nurse], pay, gap, most)
 
     def places_cost(self, prices: Prices) -> Thousandths:
         """What all places cost at least, if they pay these prices to their nurses."""

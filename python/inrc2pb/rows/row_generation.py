@@ -14,18 +14,15 @@ from .price_rounds import FEW, MANY, approach
 from .pricing import Priced, Prices, Pricing, NurseWeek, in_steps
 from ..week.records import Place
 from .row_program import MOST_BELOW, RowProgram, Solved
-from .skills import staffed
 
-# The rounds of the first prices whose rows are kept, and those with whose rows the linear program begins.
-KEPT_ROUNDS, BEGINNING = 30, 10
+# The rounds of the first prices with whose rows the linear program begins.
+BEGINNING = 10
 # With more weeks than this prices and dives take long.
 FEW_WEEKS = 4
 # The share of the best prices in those that are tried next, and in a long period, in which a solution of the linear program takes longer.
 SMOOTHING, LONG_SMOOTHING = 0.4, 0.7
 # A row is worth a column if it costs less than the known ones by more than this many thousandths.
 WORTH = 1
-# The columns in use for each nurse: after some are dropped, and at most. Up to the last number in all, none are dropped.
-KEPT, MOST_USED, LEAST_USED = 4, 6, 3000
 # Numbers that differ by no more than this are equal in a solution.
 EXACT = 1e-6
 
@@ -54,8 +51,6 @@ class RowGeneration:
         self.solved: Optional[Solved] = None
         # Whether nurses are missing below minimums even so.
         self.misses_minimums = False
-        # The rows of earlier rounds of the first prices.
-        self._earlier: List[List[NurseWeek]] = []
 
     def linear_program(self) -> LinearProgram:
         """An empty program of its solver."""
@@ -69,26 +64,19 @@ class RowGeneration:
     # ---- known rows
 
     def add_roster(self, rows: Sequence[NurseWeek]) -> None:
-        """Adds the rows of a roster, with the places at which its nurses are."""
-        crews = self.pricing.crews
-        numbers = {place: index for index, place in enumerate(crews.places)}
-        names = {nurse: index for index, nurse in enumerate(self.plan.nurses)}
-        places: List[List[Optional[int]]] = [[None] * self.plan.days for _ in rows]
-        for nurse, day, shift, skill in staffed(self.plan, crews, rows).cells:
-            places[names[nurse]][day] = numbers.get(Place(day, shift, skill))
-        for nurse_number, row in enumerate(rows):
-            self.add_row(nurse_number, row, places=places[nurse_number])
+        """Adds the rows of a roster."""
+        for nurse, row in enumerate(rows):
+            self.add_row(nurse, row)
 
     def begin_at(self, places: Sequence[Place], prices: Prices) -> None:
         """Begins with the prices of these places."""
         known = dict(zip(places, prices))
         self.prices = [known.get(place, 0) for place in self.pricing.crews.places]
 
-    def add_row(self, nurse: int, row: NurseWeek, prices: Optional[Prices] = None, places: Sequence[Optional[int]] = ()) -> bool:
-        """Adds a row to those in use, if no hard rule forbids it. Returns whether it was none of them. Without other prices or places it is
-        at those of the best prices."""
+    def add_row(self, nurse: int, row: NurseWeek) -> bool:
+        """Adds a row, if no hard rule forbids it. Returns whether it is new."""
         cost = self.pricing.cost(nurse, row)
-        return cost is not None and self.program.add(nurse, row, cost, prices or self.prices, places)[1]
+        return cost is not None and self.program.add(nurse, row, cost)
 
     # ---- prices and new rows
 
@@ -111,13 +99,8 @@ class RowGeneration:
     def approach(self, clock: Clock) -> None:
         """Begins with prices that are found without the linear program, and with the rows of the last rounds on the way to them."""
         found = approach(self.pricing, MANY if len(self.plan.weeks) > FEW_WEEKS else FEW, clock.check)
-        self.prices, self._earlier = found.prices, found.rounds[-KEPT_ROUNDS:-BEGINNING]
+        self.prices = found.prices
         self._add_rounds(found.rounds[-BEGINNING:])
-
-    def add_earlier(self) -> None:
-        """Adds the rows of earlier rounds, too."""
-        self._add_rounds(self._earlier)
-        self._earlier = []
 
     def _add_rounds(self, rounds: Sequence[Sequence[NurseWeek]]) -> None:
         for nurse, row in dict.fromkeys((nurse, row) for rows in rounds for nurse, row in enumerate(rows)):
@@ -132,7 +115,6 @@ class RowGeneration:
         share, smoothing = 0.0, LONG_SMOOTHING if len(self.plan.weeks) > FEW_WEEKS else SMOOTHING
         while not self.complete:
             now = self.solved = self.program.solve(clock)
-            self._drop(now)
             tried, found, new = self._round(now, self.prices, share, clock)
             self._raise_bound(tried, found)
             if self._meets(now.value) or not (new or share):
@@ -149,7 +131,7 @@ class RowGeneration:
         rows, and how many of them are new and make the solution better."""
         tried = [round(share * one + (1 - share) * price) for one, price in zip(best, now.prices)] if share else now.prices
         found = self._priced(tried, range(len(self.plan.nurses)), clock)
-        return tried, found, sum(self.add_row(nurse, found[nurse].row, now.prices) for nurse in self._better(found, tried, now))
+        return tried, found, sum(self.add_row(nurse, found[nurse].row) for nurse in self._better(found, tried, now))
 
     def _proved(self, prices: Prices, found: Dict[int, Priced]) -> int:
         """What no roster costs less than by these prices and each nurse's cheapest row, in thousandths."""
@@ -161,14 +143,6 @@ class RowGeneration:
         changed = self.pricing.crews.earned(tried, list(found), rows) - self.pricing.crews.earned(now.prices, list(found), rows)
         values = zip(found.items(), changed.tolist())
         return [nurse for (nurse, priced), more in values if priced.value + more - now.nurses[nurse] < -WORTH]
-
-    def _drop(self, now: Solved) -> None:
-        """Drops the most expensive columns, if there are too many. Each nurse keeps one."""
-        nurses, used = len(self.plan.nurses), self.program.used
-        keep = max(LEAST_USED, KEPT * nurses) - len(now.shares)
-        if len(used) > max(LEAST_USED, MOST_USED * nurses) and len({self.program.columns[column].nurse for column in now.shares}) == nurses:
-            cheap = sorted((column for column in used if column not in now.shares), key=lambda column: now.rises[column])
-            self.program.drop(cheap[max(0, keep) :])
 
     def _meets(self, value: float) -> bool:
         """Whether the bound is as good as this value of the program."""

@@ -5,7 +5,6 @@ are open, and what more assignments and weekends would cost. Nodes with the same
 """
 
 import numpy
-from operator import add, itemgetter
 from typing import Any, Callable, Dict, Iterable, Iterator, List, NamedTuple, Optional, Sequence, Tuple
 
 from ..judging.runs import NEVER, RunState, Runs
@@ -17,7 +16,6 @@ from .row_arrays import Arrays, merged
 
 # From here on a cost in points has NEVER in it, perhaps less what it saves.
 FORBIDDEN = NEVER // 2
-Gather = Callable[[Sequence[int]], Tuple[int, ...]]
 Check = Callable[[], None]
 
 
@@ -63,18 +61,11 @@ def _first_with(futures: Sequence[Tuple[int, ...]]) -> List[int]:
     return [first.setdefault(future, index) for index, future in enumerate(futures)]
 
 
-def _gather(indices: Sequence[int]) -> Gather:
-    """Takes the values at these indices; at least two are taken."""
-    return itemgetter(*indices) if len(indices) > 1 else itemgetter(indices[0], indices[0])
-
-
 class _Day(NamedTuple):
-    """A day of a graph: by choice and node the cost in thousandths and the node that is reached, and the choice by which a node
-    of the next day is reached."""
+    """A day of a graph: by choice and node the cost in thousandths, and the node of the next day that is reached."""
 
     costs: List[List[int]]
     heads: List[List[int]]
-    entered: List[int]
 
 
 class Graph:
@@ -83,11 +74,10 @@ class Graph:
     def __init__(self, runs: Runs, totals: Totals, states: Iterable[RunState], check: Check) -> None:
         self._runs, self._totals, self._check = runs, totals, check
         firsts = list(dict.fromkeys(states))
-        self._arcs: List[Tuple[Gather, List[Tuple[Gather, List[int]]]]] = []
         days = list(self._reached(firsts))
         classes = merged(days, self._check)
         self.arrays = Arrays(days)
-        self.days = [_Day(*(array.tolist() for array in day)) for day in days]
+        self.days = [_Day(costs.tolist(), heads.tolist()) for costs, heads, _ in days]
         self.starts = {state: int(classes[index]) for index, state in enumerate(firsts)}
 
     def _same(self, day: int) -> Tuple[List[int], List[int]]:
@@ -123,19 +113,6 @@ class Graph:
             before = numpy.array([now.choice for now in states])[state]
             yield numpy.where(never, NEVER, POINT * costs), heads, before
 
-    def values(self, pay: Sequence[Sequence[int]]) -> Tuple[List[int], List[List[int]]]:
-        """The minimum cost from each first node on, and for each day that from each node that it reaches on, with the cost of
-        reaching it, if a choice costs this pay beside its own costs."""
-        if not self._arcs:
-            for costs, heads, reached_by in self.days:
-                self._arcs.append((_gather(reached_by), [(_gather(nodes), cost) for nodes, cost in zip(heads, costs)]))
-        minimum, paid = [0] * len(self.days[-1].entered), []
-        for (entered, arcs), today in zip(reversed(self._arcs), reversed(pay)):
-            reached = list(map(add, minimum, entered(today)))
-            paid.append(reached)
-            minimum = list(map(min, *[map(add, gather(reached), costs) for gather, costs in arcs]))
-        return minimum, paid[::-1]
-
     def walked(self, start: int, row: Sequence[int]) -> Tuple[int, int]:
         """The node at which these first choices of a row end, and what they cost without any pay; NEVER or more if a hard rule forbids
         them."""
@@ -144,20 +121,3 @@ class Graph:
             total += day.costs[choice][node]
             node = day.heads[choice][node]
         return node, total
-
-    def within(self, start: int, pay: Sequence[Sequence[int]], gap: int, most: int) -> List[bytes]:
-        """All rows that cost at most this gap more than the cheapest one, but no more than `most` + 1 of them."""
-        minimum, paid = self.values(pay)
-        found: List[bytes] = []
-        limit = minimum[start] + gap
-        open_rows = [(start, 0, b"")]
-        while open_rows and len(found) <= most:
-            node, spent, row = open_rows.pop()
-            if len(row) == len(paid):
-                found.append(row)
-                continue
-            day, reached, today = self.days[len(row)], paid[len(row)], pay[len(row)]
-            for choice, (costs, heads) in enumerate(zip(day.costs, day.heads)):
-                if spent + costs[node] + reached[heads[node]] <= limit:
-                    open_rows.append((heads[node], spent + costs[node] + today[choice], row + bytes([choice])))
-        return found

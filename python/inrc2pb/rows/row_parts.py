@@ -4,19 +4,19 @@ import concurrent.futures
 import math
 import random
 import threading
-from typing import Callable, Dict, List, Optional, Sequence, Set, Tuple, Union
+from typing import Callable, Dict, List, Optional, Sequence, Tuple, Union
 
 from ..programs.clock import Clock, TimeIsOver
 from ..solvers.answers import SolverFault
 from ..solvers.linear_solvers import LinearSolver
 from ..week.records import WEEK_DAYS
 from .part_search import MOST_WORK, Dive, Done, Part, PartSearch
-from .plan import POINT, STEP
+from .plan import POINT, STEP, Points
 from .pricing import NurseWeek
 from .row_generation import FEW_WEEKS
 from .row_search import RowSearch
 from .windows import MOST_SEED, Windows
-from .workers import PartWorker, workers
+from .workers import Worker, workers
 
 # The nurses of the first neighborhood of one week, and the fewest of any.
 FIRST_SIZE, LEAST_SIZE = 20.0, 4
@@ -26,16 +26,11 @@ LITTLE_SHARE, QUICK_SHARE, MOST_SECONDS = 0.04, 0.4, 60.0
 MUCH_GROWTH, GROWTH, SHRINKAGE = 1.6, 1.15, 0.8
 # The shares of the days that neighborhoods of a week have, and those of a period.
 WEEK_SHARES, PERIOD_SHARES = (0.35, 0.5, 0.75, 1.0), (0.125, 0.25, 0.5, 0.75, 1.0)
-# The share of the neighborhoods in which one or two nurses must have another choice on a day, and the roster may cost as much as before.
-CHANGED_SHARE, MOST_CHANGED = 0.4, 2
-# Above this gap, in thousandths, dives are made in a week, too.
-WIDE_GAP = 6 * STEP * POINT
-# The shares that dives fix at once. After the first ones their work in vain is about this part of that of neighborhoods.
-FIXED_SHARES, DIVES = (0.3, 0.2, 0.4), 0.2
-# In the first thread windows by chance have so many times the work in vain of neighborhoods of each length.
-WINDOW_WORTH = 5
-# A roster that was not made better by so much work is left for that of a new dive, in a period.
-STUCK_WORK = 20 * MOST_WORK
+# Above this gap, in thousandths, dives are made in a week, too. The shares that they fix at once, and the part of the work of neighborhoods
+# that they have.
+WIDE_GAP, FIXED_SHARES, DIVES = 6 * STEP * POINT, (0.3, 0.2, 0.4), 0.2
+# A roster that was not made better by so much work, and in a long period by so much, is left for that of a new dive.
+STUCK_WORK, LONG_STUCK_WORK = 20 * MOST_WORK, 10 * MOST_WORK
 # Up to this part of the bound a gap is small. The share of the time that is left for an integer program over the known rows of all
 # nurses then.
 SMALL_GAP, WHOLE_SHARE = 0.03, 0.3
@@ -51,23 +46,15 @@ class RowParts:
         self._minimums = search.minimum_values()
         known = search.known()._replace(program=search.program)
         self._workers = workers(known, solvers) if apart else []
-        self._searches: Dict[LinearSolver, Union[PartSearch, PartWorker]] = {}
-        for number, solver in enumerate(solvers):
-            own = PartSearch(search.pricing, known, solver)
-            self._searches[solver] = PartWorker(self._workers[number], own) if apart else own
+        own = [PartSearch(search.pricing, known, solver) for solver in solvers]
+        self._searches: Dict[LinearSolver, Union[PartSearch, Worker]] = dict(zip(solvers, self._workers or own))
         shares = PERIOD_SHARES if len(search.plan.weeks) > 1 else WEEK_SHARES
         lengths = dict.fromkeys(math.ceil(share * search.plan.days) for share in shares)
-        # For each number of days the number of nurses of the next neighborhood, and the work of those that were in vain; that of dives, and
-        # of windows by chance.
+        # For each number of days the number of nurses of the next neighborhood, and the work of those that were in vain.
         self._sizes = {length: min(len(search.plan.nurses), FIRST_SIZE * (WEEK_DAYS / length) ** 0.5) for length in lengths}
-        self._spent, self._dived, self._in_windows = dict.fromkeys(lengths, 0), 0.0, 0
-        # How many dives have begun, and how many run. In a period each solver begins with one, in a long one half of them.
-        self._begun, self._diving = 0, 0
+        self._spent = dict.fromkeys(lengths, 0)
         self._is_long = len(search.plan.weeks) > FEW_WEEKS
-        self._firsts = max(1, len(solvers) // 2) if self._is_long else len(solvers) if len(search.plan.weeks) > 1 else 1
         self._windows = self._new_windows()
-        # The days on which new choices of all nurses do not make the best roster better.
-        self._closed: Set[range] = set()
         # Guards all that the threads share: the search, the chance and the lines above.
         self._lock = threading.Lock()
 
@@ -100,27 +87,28 @@ class RowParts:
                 shared.stop()
 
     def _work(self, solver: LinearSolver, clock: Clock, number: int) -> None:
-        """One thread: neighborhoods of sizes that its time allows, and dives if no other thread makes one. In a week with a small gap the
-        first thread begins with all nurses."""
+        """One thread: dives, if they are worth their time, and neighborhoods of sizes that its time allows. In a week with a small gap the
+        first thread begins with all nurses. A stuck roster is left for that of a new dive, and in the first thread that for the best one.
+        """
         search = self._search
-        if number == 0 and not self._dives and search.bound is not None and search.gap() < SMALL_GAP * search.bound:
+        if number == 0 and not self._dives and search.bound and search.gap() < SMALL_GAP * search.bound:
             everything = Part(tuple(range(len(search.plan.nurses))), range(search.plan.days), limited=False)
             self.improve(everything, solver, clock.part(clock.left() * WHOLE_SHARE), search)
-        roster, windows, vain = search, self._windows, 0
+        roster, windows, vain, dived, spent = search, self._windows, 0, 0.0, 0
         while not search.is_proved:
             clock.check()
-            dive = self._next_dive()
-            if dive:
-                self._dive(solver, clock, dive)
+            if self._is_due(number, dived, spent):
+                dived += self._dive(solver, clock, self._dive_of(not (number or dived), search.penalty))[1]
                 continue
-            if vain > STUCK_WORK and windows.are_over and self._restarts(number):
-                roster, vain = (self._restarted(solver, clock) if roster is search or number else None) or search, 0
+            if vain > (LONG_STUCK_WORK if self._is_long else STUCK_WORK) and windows.are_over and self._dives:
+                found = self._dive(solver, clock, self._dive_of(False, None))[0] if roster is search or number else None
+                roster, vain = search.restart(found[-1]) if found else search, 0
                 windows = self._windows if roster is search else self._new_windows()
             penalty, best = roster.penalty, search.penalty
-            part = self._next(roster, windows, number)
+            part = self._next(roster, windows)
             done = self.improve(part, solver, clock.part(MOST_SECONDS), roster)
-            vain = 0 if roster.penalty != penalty else vain + done.work
-            self._learn(part, done, windows, search.penalty != best, roster is search)
+            vain, spent = 0 if roster.penalty != penalty else vain + done.work, spent + done.work
+            self._learn(part, done, windows, search.penalty != best)
         clock.stop()
         solver.end_all()
 
@@ -128,53 +116,37 @@ class RowParts:
         """The windows of a roster, if the period is long."""
         return Windows(len(self._search.plan.weeks) if self._is_long else 0, self._chance)
 
-    def _restarts(self, number: int) -> bool:
-        """Whether the thread of this number leaves a roster that is stuck. If there are several, the first one stays with the best one."""
-        return len(self._search.plan.weeks) > 1 and (number > 0 or len(self._solvers) == 1)
-
-    def _restarted(self, solver: LinearSolver, clock: Clock) -> Optional[RowSearch]:
-        """A search from the roster of a new dive, which may be worse than the best one."""
-        with self._lock:
-            self._diving += 1
-            dive = Dive(self._chance.choice(FIXED_SHARES), self._chance.randrange(MOST_SEED), None)
-        found = self._dive(solver, clock, dive)
-        return self._search.restart(found[-1]) if found else None
-
     @property
     def _dives(self) -> bool:
         """Whether more dives are worth their time: in a period, or if the gap is wide."""
         return len(self._search.plan.weeks) > 1 or (self._search.bound is not None and self._search.gap() > WIDE_GAP)
 
-    def _next_dive(self) -> Optional[Dive]:
-        """The next dive of the best roster, if it is time for one. The first one is without chance; one that its time ends in vain is the
-        last. In a long period windows take the place of all but the first ones."""
-        with self._lock:
-            is_late = self._is_long or self._diving or self._dived > DIVES * sum(self._spent.values())
-            if not self._dives or (is_late and self._begun >= self._firsts):
-                return None
-            self._begun, self._diving = self._begun + 1, self._diving + 1
-            if self._begun == 1:
-                return Dive(FIXED_SHARES[0], None, self._search.penalty)
-            return Dive(self._chance.choice(FIXED_SHARES), self._chance.randrange(MOST_SEED), self._search.penalty)
+    def _is_due(self, number: int, dived: float, spent: int) -> bool:
+        """Whether the thread of this number is to dive after so much work of its dives and of its neighborhoods. In a long period, in which
+        windows take the place of later dives, half of the threads begin with one."""
+        if self._is_long:
+            return not dived and number < max(1, len(self._solvers) // 2)
+        return self._dives and dived <= DIVES * spent
 
-    def _dive(self, solver: LinearSolver, clock: Clock, dive: Dive) -> List[List[NurseWeek]]:
-        """A dive over all nurses and days. Returns the rows that it found, the best last."""
+    def _dive_of(self, is_first: bool, penalty: Optional[Points]) -> Dive:
+        """A dive whose roster is to cost less than this penalty. The first one is without chance."""
+        with self._lock:
+            if is_first:
+                return Dive(FIXED_SHARES[0], None, penalty)
+            return Dive(self._chance.choice(FIXED_SHARES), self._chance.randrange(MOST_SEED), penalty)
+
+    def _dive(self, solver: LinearSolver, clock: Clock, dive: Dive) -> Tuple[List[List[NurseWeek]], float]:
+        """A dive over all nurses and days. Returns the rows that it found, the best last, and its work. That is infinite if its time ended
+        it, so that it is the last one."""
         found: List[List[NurseWeek]] = []
-        is_better = False
 
         def take(rows: List[NurseWeek], finder: str) -> bool:
-            nonlocal is_better
             found.append(rows)
-            is_better = self._search.keep(rows, finder) or is_better
-            return is_better or dive.penalty is None
+            return self._search.keep(rows, finder) or dive.penalty is None
 
         done = self._searches[solver].dive(clock, take, dive)
-        with self._lock:
-            self._diving -= 1
-            if not is_better and dive.penalty is not None:
-                # Some end before the first step.
-                self._dived += max(1, done.work) if done.ended else math.inf
-        return found
+        # Some end before the first step.
+        return found, max(1, done.work) if done.ended else math.inf
 
     def improve(self, part: Part, solver: LinearSolver, clock: Clock, roster: RowSearch) -> Done:
         """Looks for better rows of a neighborhood of a roster."""
@@ -186,54 +158,42 @@ class RowParts:
             # Meanwhile another thread may have found better rows of other nurses, or on other days.
             with self._lock:
                 assert roster.rows is not None
-                if part.changed and roster.rows == rows and roster.swap(part.put(rows, found)):
-                    return True
                 return roster.keep(part.put(roster.rows, found), finder) or roster.keep(part.put(rows, found), finder)
 
         return self._searches[solver].improve(clock, take, part, rows)
 
-    def _learn(self, part: Part, done: Done, windows: Windows, is_better: bool, is_of_best: bool = True) -> None:
-        """Counts the work of a neighborhood, and changes the number of nurses of later ones of this length. `is_better` says whether the
-        best roster is another one now, and `is_of_best` whether it is one of the best roster."""
+    def _learn(self, part: Part, done: Done, windows: Windows, is_better: bool) -> None:
+        """Counts the work of a neighborhood of the roster of these windows, and changes the number of nurses of later ones of this length.
+        `is_better` says whether the best roster is another one now."""
         with self._lock:
-            if is_better:
-                self._closed.clear()
             if done.is_better:
                 windows.open()
                 if is_better:
                     self._windows.open()
+            if done.ended and not (is_better or done.is_better) and len(part.nurses) == len(self._search.plan.nurses):
+                windows.closed.add(part.days)
             if part.is_window:
-                # The first ones count nothing: they come before all others.
-                self._in_windows += 0 if part.seed is None else done.work
                 return
             length = len(part.days)
             self._spent[length] += 0 if done.is_better else done.work
             growth = MUCH_GROWTH if done.work < LITTLE_SHARE * part.most_work else GROWTH
             factor = SHRINKAGE if not done.ended else growth if done.work < QUICK_SHARE * part.most_work else 1.0
             self._sizes[length] = min(len(self._search.plan.nurses), max(LEAST_SIZE, self._sizes[length] * factor))
-            if not is_better and is_of_best and done.ended and len(part.nurses) == len(self._search.plan.nurses) and not part.changed:
-                self._closed.add(part.days)
 
-    def _next(self, roster: RowSearch, windows: Windows, number: int) -> Part:
-        """The next neighborhood of a roster for the thread of this number: a window, if one is left. In the first thread later windows
-        share the work that is in vain with other lengths. Days that are closed for all nurses come last."""
+    def _next(self, roster: RowSearch, windows: Windows) -> Part:
+        """The next neighborhood of a roster: a window, if one is left. Days that are closed for all nurses come last."""
         with self._lock:
             nurses, days = len(self._search.plan.nurses), self._search.plan.days
-            is_turn = number > 0 or windows.are_new or self._in_windows <= WINDOW_WORTH * min(self._spent.values())
-            window = windows.next() if is_turn else None
+            window = windows.next()
             if window:
                 return Part(tuple(range(nurses)), window[0], is_window=True, seed=window[1])
             for length in sorted(self._spent, key=self._spent.__getitem__):
                 size = int(self._sizes[length])
                 stretches = [range(first, first + length) for first in range(days - length + 1)]
-                left = [stretch for stretch in stretches if size < nurses or stretch not in self._closed]
+                left = [stretch for stretch in stretches if size < nurses or stretch not in windows.closed]
                 if left:
                     break
-            part = Part(self._nurses(size, roster.rows), self._chance.choice(left or stretches))
-            if self._chance.random() >= CHANGED_SHARE:
-                return part
-            numbers = self._chance.sample(range(len(part.nurses)), min(len(part.nurses), self._chance.randint(1, MOST_CHANGED)))
-            return part._replace(changed=tuple((number, self._chance.choice(part.days)) for number in numbers))
+            return Part(self._nurses(size, roster.rows), self._chance.choice(left or stretches))
 
     def _nurses(self, size: int, rows: Optional[Sequence[NurseWeek]]) -> Tuple[int, ...]:
         """Nurses for a neighborhood: half of them have rows that cost more at the best prices than their cheapest ones. In every second

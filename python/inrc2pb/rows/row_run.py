@@ -15,7 +15,7 @@ from ..solvers.linear_solvers import LinearSolver
 from .case_search import CaseSearch
 from .case_tree import CaseTree
 from .certificate import Certificate, Leaf
-from .first_rows import matched_rows
+from .descent import all_off
 from .plan import POINT, STEP, Plan, Points
 from .pricing import Crews, NurseWeek, Priced, Prices, Pricing
 from .row_generation import FEW_WEEKS, NoRow, RowGeneration
@@ -24,22 +24,16 @@ from .row_search import GIVEN, Known, Offer, RowSearch, WrongBound
 from .skills import staffed
 from .week_dives import WeekDives
 from .windows import Sweeps
-from .workers import CaseWorker, workers
+from .workers import workers
 
-# The shares of the time that is left: for new rows before a dive, for the dive, for one when no row is missing, for an integer program
-# over the known rows, and for one over all rows.
-ROWS_SHARE, DIVE_SHARE, LAST_DIVE_SHARE, KNOWN_SHARE, LISTED_SHARE = 0.5, 0.5, 0.8, 0.1, 0.5
-# The most rows of an integer program.
-MOST_LISTED = 6_000
-# Up to this gap, in thousandths, a tree of cases may end soon: in a week nothing else is done for this number of seconds. It is worth its
-# time up to this part of the bound, too, and in a long period, in which plans get better for long, up to the second.
-TREE_GAP, TREE_SECONDS, TREE_PART, LONG_TREE_PART = 4 * STEP * POINT, 0.5, 0.1, 0.015
+# The shares of the time that is left: for new rows before a dive, for the dive, for one when no row is missing, and for an integer program
+# over the known rows.
+ROWS_SHARE, DIVE_SHARE, LAST_DIVE_SHARE, KNOWN_SHARE = 0.5, 0.5, 0.8, 0.1
 # The shares of the rows that further dives in a week fix at once.
 MORE_DIVES = (0.15, 0.3, 0.0, 0.15, 0.08, 0.15)
-# The most seconds for a tree alone, if the gap is one step.
-LAST_SECONDS = 2.0
-# The seconds that a tree has after a solver's claim of the best roster, or more if the search took longer.
-PROOF_SECONDS = 5.0
+# Up to this gap, in thousandths, a tree of cases is worth its time, or up to this part of the bound, and in a long period, in which plans
+# get better for long, up to the second.
+TREE_GAP, TREE_PART, LONG_TREE_PART = 4 * STEP * POINT, 0.1, 0.015
 # Seconds between two looks whether the gap is small.
 WAIT_SECONDS = 0.2
 Found = TypeVar("Found")
@@ -58,11 +52,6 @@ class WholeSearch(WeekDives):
             is_better = super().keep(rows, finder)
             self._check_bound()
             return is_better
-
-    def swap(self, rows: List[NurseWeek]) -> bool:
-        """Takes other rows that cost as much as those of the best roster. Returns whether they do."""
-        with self._lock:
-            return super().swap(rows)
 
     def _raise_bound(self, prices: Prices, found: Dict[int, Priced]) -> None:
         super()._raise_bound(prices, found)
@@ -100,8 +89,6 @@ class RowRun:
         # Prices that prove that no roster keeps the minimums; or the nurse who has no row.
         self.minimums: Optional[Certificate] = None
         self.without_row: Optional[str] = None
-        # The solver that claims, from all rows that such a roster can have, that no roster costs less.
-        self.claim = ""
 
     @property
     def lower_bound(self) -> Optional[Points]:
@@ -131,14 +118,15 @@ class RowRun:
                 self._sweeps.end()
 
     def _run(self) -> None:
-        first, finder = self._start or matched_rows(self.plan, self.crews, self._clock.check), GIVEN if self._start else "matching"
-        penalty = None if staffed(self.plan, self.crews, first).below else self._offer(first, finder)
+        first, penalty = self._start or all_off(self.plan), None
+        if self._start and not staffed(self.plan, self.crews, first).below:
+            penalty = self._offer(first, GIVEN)
         pricing = Pricing(self.plan, self.crews, self._clock.check)
         search = self.search = WholeSearch(pricing, self._solver, self._clock, self._offer, self._heard)
         search.begin(first, penalty)
         if self._solver is None:
             return
-        if penalty is not None and self._dives_beside and len(self.plan.weeks) > FEW_WEEKS:
+        if search.penalty is not None and len(self.plan.weeks) > FEW_WEEKS:
             self._sweeps = Sweeps(search, self._solver.beside(1), self._clock)
         if self.plan.charging:
             self._try(search.approach, ROWS_SHARE)
@@ -146,7 +134,7 @@ class RowRun:
             self._try(search.generate, ROWS_SHARE)
             if search.complete and search.misses_minimums and (self._keeps_limits or self._no_roster()):
                 return
-            if search.complete and self._dives_beside and search.penalty is not None:
+            if search.complete and self._is_period and search.penalty is not None:
                 break
             rows = self._try(search.dive, LAST_DIVE_SHARE if search.complete else DIVE_SHARE)
             if rows:
@@ -163,9 +151,9 @@ class RowRun:
             return None
 
     @property
-    def _dives_beside(self) -> bool:
-        """Whether several dives are made at once. They are long in a period, and each ends elsewhere."""
-        return len(self.plan.weeks) > 1 and self._solver is not None and self._solver.chooses
+    def _is_period(self) -> bool:
+        """Whether there are several weeks. Dives take long then, and each ends elsewhere, so several are made at once."""
+        return len(self.plan.weeks) > 1
 
     @property
     def _keeps_limits(self) -> bool:
@@ -184,16 +172,14 @@ class RowRun:
     def _close_gap(self, search: WholeSearch, solver: LinearSolver) -> None:
         """Looks for the best roster, with a tree of cases beside that."""
         if search.penalty is None:
-            self._try(lambda part: search.choose(search.known_within(), part, "known rows"), KNOWN_SHARE)
+            self._choose_known(search, self._clock)
         if search.penalty is None or search.is_proved:
             return
         clock, known = self._clock.part(self._clock.left()), search.known()
-        if processors() == 1:  # The same seed gives the same dives.
-            self._dive_again(search, clock)
         with concurrent.futures.ThreadPoolExecutor(1) as pool:
             tree = pool.submit(self._close_cases, search, known, solver, clock)
             try:
-                self._improve(search, solver, clock, tree)
+                self._improve(search, solver, clock)
             except (TimeIsOver, SolverFault):
                 self._clock.check()
                 if not self._is_proved(search):
@@ -203,61 +189,40 @@ class RowRun:
                 solver.end_all()
                 tree.result()
 
-    def _improve(self, search: WholeSearch, solver: LinearSolver, clock: Clock, tree: "concurrent.futures.Future[None]") -> None:
-        """Improves the best roster: by more dives, by an integer program over all rows that a better one can have, or part by part."""
-        if not self._dives_beside:
-            concurrent.futures.wait([tree], min(TREE_SECONDS, clock.left()) if search.gap() <= TREE_GAP else 0)
-            if processors() > 1:
-                self._dive_again(search, clock)
-            if not search.is_proved:
-                search.add_earlier()
-                search.choose(search.known_within(), clock.part(clock.left() * KNOWN_SHARE), "known rows")
-            if self._choose_among_all(search, solver, clock):
-                concurrent.futures.wait([tree], min(clock.left(), max(PROOF_SECONDS, time.monotonic() - self._clock.began)))
-                return
-            if self._splits and not search.is_proved and search.gap() <= STEP * POINT:
-                concurrent.futures.wait([tree], min(LAST_SECONDS, clock.left()))
-                clock.check()
+    def _improve(self, search: WholeSearch, solver: LinearSolver, clock: Clock) -> None:
+        """Improves the best roster: in a week by more dives, which take less than the first one, and by an integer program over the known
+        rows; and then part by part."""
+        if not self._is_period:
+            self._dive_again(search, clock)
+            self._choose_known(search, clock)
         if self._sweeps:
             self._sweeps.end()
-        if solver.chooses and not search.is_proved:
+        if not search.is_proved:
             RowParts(search, _side_by_side(solver), self._seed, processors() > 1).run(clock)
 
     def _dive_again(self, search: WholeSearch, clock: Clock) -> None:
-        """In a week, dives by chance, which take less than the first one: those that cannot end in a better roster end early."""
+        """Dives by chance. Those that cannot end in a better roster end early."""
         chance = random.Random(self._seed)
-        for share in () if self._dives_beside else MORE_DIVES:
+        for share in MORE_DIVES:
             clock.check()
             rows = None if search.is_proved else search.dive(clock, share, chance)
             if rows:
                 search.keep(rows, "fixing rows")
 
-    def _choose_among_all(self, search: RowSearch, solver: LinearSolver, clock: Clock) -> bool:
-        """Lets an integer program choose among the rows that a better roster can have. Returns whether the solver claims that there is
-        none."""
-        before: Optional[int] = None
-        while not search.is_proved and solver.chooses and search.penalty != before:
-            before, listed = search.penalty, search.list_within(MOST_LISTED, clock)
-            if listed is None:
-                return False
-            with contextlib.suppress(TimeIsOver):
-                if search.choose(listed, clock.part(clock.left() * LISTED_SHARE), f"{len(listed)} rows"):
-                    self.claim = f"{solver.name}, over the rows that Python lists"
-                    return True
-            clock.check()
-        return False
+    def _choose_known(self, search: WholeSearch, clock: Clock) -> None:
+        """Lets an integer program choose among the known rows."""
+        if not search.is_proved:
+            search.choose(search.known_within(), clock.part(clock.left() * KNOWN_SHARE), "known rows")
 
     def _is_narrow(self, search: RowSearch) -> bool:
         """Whether the gap is small enough for a tree of cases."""
-        if not self._splits or search.penalty is None or search.bound is None:
-            return False
         part = LONG_TREE_PART if len(self.plan.weeks) > FEW_WEEKS else TREE_PART
-        return search.gap() <= max(TREE_GAP, part * search.bound)
+        return search.bound is not None and search.gap() <= max(TREE_GAP, part * search.bound)
 
     def _close_cases(self, search: RowSearch, known: Known, solver: LinearSolver, clock: Clock) -> None:
         """Looks for cases that show that no roster costs less than the best one, and for better rosters, as soon as the gap is small. If
         that ends the search, it ends all solvers."""
-        if not self._splits or search.program.names_places:
+        if not self._splits:
             return
         with contextlib.suppress(SolverFault, TimeIsOver):
             while not self._is_narrow(search):
@@ -280,7 +245,7 @@ class RowRun:
 
         self._tree = CaseTree(own.pricing, search.prices, best, search.keep, self._heard)
         try:
-            self._tree.run(clock, [own.close, *(CaseWorker(worker).close for worker in others)])
+            self._tree.run(clock, [own.close, *(worker.close for worker in others)])
         finally:
             for worker in others:
                 worker.end()

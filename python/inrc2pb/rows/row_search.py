@@ -1,6 +1,6 @@
 """The search for rosters over rows: each nurse's whole week, or whole period, is one column of a linear program.
 
-If a roster is above the bound, an integer program chooses among all rows that a better roster can have.
+If a roster is above the bound, an integer program chooses among the known rows that a better roster can have.
 """
 
 import copy
@@ -8,7 +8,7 @@ from typing import Callable, Dict, List, NamedTuple, Optional, Sequence
 
 from ..programs.clock import Clock
 from ..week.faults import Misuse
-from .first_rows import Descent
+from .descent import Descent
 from ..solvers.linear_solvers import LinearSolver
 from .plan import POINT, STEP, Plan, Points, Thousandths
 from .pricing import NurseWeek, Prices, Pricing
@@ -16,7 +16,8 @@ from .row_generation import RowGeneration
 from .row_program import RowColumn, RowProgram
 from .skills import staffed
 
-MOST_SWEEPS = 2
+# The most times that all nurses get new rows without a solver.
+MOST_SWEEPS = 3
 # The name of what found the rows with which a search begins.
 GIVEN = "the given roster"
 
@@ -74,13 +75,6 @@ class RowSearch(RowGeneration):
         self.rows, self.penalty = rows, penalty
         return True
 
-    def swap(self, rows: List[NurseWeek]) -> bool:
-        """Takes other rows that cost as much as those of the best roster. Returns whether they do."""
-        if rows == self.rows or self.value_of(rows) != self.penalty:
-            return False
-        self.rows = rows
-        return True
-
     def restart(self, rows: List[NurseWeek]) -> "RowSearch":
         """A search from this roster, which is made better beside the best one. When it is better, it is the best one here, too."""
 
@@ -116,6 +110,8 @@ class RowSearch(RowGeneration):
             for _ in range(MOST_SWEEPS):
                 if not descent.sweep(self.clock.check):
                     break
+                # The nurses get skills anew.
+                descent = Descent(self.pricing, descent.rows)
         finally:
             self.keep(descent.rows, finder)
             self.add_roster(descent.rows)
@@ -171,18 +167,4 @@ class RowSearch(RowGeneration):
             self.keep(rows, finder)
         # An answer with nurses below minimums is no roster, and says nothing of the rosters that cost more than it.
         is_roster = columns is not None and self.value_of(rows) is not None
-        return found.proved and (found.names is None or is_roster) and not self.program.names_places
-
-    def list_within(self, most: int, clock: Clock) -> Optional[List[int]]:
-        """All columns that a better roster can have; None if there are more than `most`."""
-        gains, gap, found = self.pricing.crews.gains(self.prices), self.gap(), []
-        for nurse in range(len(self.plan.nurses)):
-            clock.check()
-            found += [(nurse, row) for row in self.pricing.within(nurse, gains, gap, most)]
-            if len(found) > most:
-                return None
-        for nurse, row in found:
-            clock.check()
-            self.add_row(nurse, row)
-        wanted = set(found)
-        return [number for number, column in enumerate(self.program.columns) if (column.nurse, column.row) in wanted]
+        return found.proved and (found.names is None or is_roster)

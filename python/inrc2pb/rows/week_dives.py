@@ -23,17 +23,15 @@ FIRST_SHARE, LEAST_SHARE, MOST_SHARE = 0.06, 0.02, 0.5
 # A fixing of several weeks is undone if the value, in points, rises by more than the first number. If it rises by less than the second one,
 # more weeks are fixed at once.
 MOST_RISE, LITTLE_RISE = 6 * STEP, 1.5 * STEP
-# The most rounds of new rows between two fixings, and if the time is short. Before, they end when the value of the program, in points, is
-# as near to what prices prove.
-MOST_ROUNDS, SHORT_ROUNDS, NEAR = 40, 2, STEP / 2
+# The most rounds of new rows between two fixings. They end sooner if the value of the program, in points, is so near to what prices prove.
+MOST_ROUNDS, NEAR = 40, STEP / 2
 # A plan with more places than this is large: a solution of its program takes longer than rounds of prices without it. So after each fixing
 # the rows of the last of such rounds come first, and the rounds of new rows end, too, if the last solutions made the value, in points,
 # fall by less than this.
 MANY_PLACES, KEPT_AGAIN, TAIL, LITTLE_FALL = 400, 4, 2, 2 * STEP
-# A larger share counts as a whole week. The factors of shares in a dive by chance.
-WHOLE, BY_CHANCE = 0.999, (0.8, 1.0)
-# How many times the part of the time that a step takes is fixed in it, if the time is short. The later ones take less.
-HURRY = 0.8
+# A larger share counts as a whole week. The factors of shares in a dive by chance, and in a period of those of choices that the best roster
+# has.
+WHOLE, BY_CHANCE, GUIDED = 0.999, (0.8, 1.0), 1.5
 
 
 class _Week(NamedTuple):
@@ -99,10 +97,9 @@ class WeekDives(RowSearch):
         left = [_Week(nurse, number) for number in weeks for nurse in nurses]
         fixed: Dict[_Week, NurseWeek] = {}
         fixing, near, last = _Fixing({}, 0, self.pricing, []), None, -math.inf
-        share, hurry = most_share or FIRST_SHARE, 0.0
+        share = most_share or FIRST_SHARE
         while True:
-            before = clock.left()
-            found = self._relaxed_with(near, last, clock, SHORT_ROUNDS if hurry > share else MOST_ROUNDS, fixing.others > 1)
+            found = self._relaxed_with(near, last, clock, fixing.others > 1)
             if found is None:
                 fixing, share = self._halved(fixing), share / 2
                 continue
@@ -115,9 +112,7 @@ class WeekDives(RowSearch):
             left = [week for week in left if week not in fixing.weeks]
             if not left:
                 return [b"".join(fixed[_Week(nurse, number)] for number in weeks) for nurse in nurses]
-            # So many at once that the time is enough.
-            hurry = HURRY * (before - clock.left()) / max(EXACT, clock.left())
-            new, others = self._chosen(now, left, share, hurry, chance, in_order)
+            new, others = self._chosen(now, left, share, chance, in_order)
             if not new:
                 return None
             self._shrink(whole)
@@ -158,9 +153,7 @@ class WeekDives(RowSearch):
             self.program.close()
         self.program = whole
 
-    def _relaxed_with(
-        self, near: Optional[Prices], last: float, clock: Clock, rounds: int, can_undo: bool
-    ) -> Optional[Tuple[Solved, Prices]]:
+    def _relaxed_with(self, near: Optional[Prices], last: float, clock: Clock, can_undo: bool) -> Optional[Tuple[Solved, Prices]]:
         """The linear program with the fixed weeks, and the prices that prove the most. These are not far from those that did so before the
         last fixing; without any no week is fixed yet. It gets new rows while its value is above the last one, and above what prices prove,
         and, in a large plan, falls. None if the last fixing should be undone."""
@@ -168,7 +161,7 @@ class WeekDives(RowSearch):
             now = self.program.solve(clock)
             return now, now.prices
         best, bound, is_large = near, -math.inf, len(self.pricing.crews.places) > MANY_PLACES
-        smoothing, tail = (SMOOTHING, TAIL) if is_large else (0.0, rounds)
+        smoothing, tail = (SMOOTHING, TAIL) if is_large else (0.0, MOST_ROUNDS)
         limit = last + MOST_RISE if can_undo else math.inf
         if is_large:
             found = approach(self.pricing, AGAIN, clock.check, near)
@@ -179,7 +172,7 @@ class WeekDives(RowSearch):
         # Fixed weeks take columns away, for which the dual method is made, and new rows add columns.
         now, share = self.program.solve(clock, DUAL), smoothing
         values = [now.value]
-        for _ in range(rounds):
+        for _ in range(MOST_ROUNDS):
             if now.value <= last + EXACT or (len(values) > tail and values[-tail - 1] - now.value < LITTLE_FALL):
                 break
             tried, priced, new = self._round(now, best, share, clock)
@@ -196,27 +189,31 @@ class WeekDives(RowSearch):
         return (now, best) if now.value <= limit else None
 
     def _chosen(
-        self, now: Solved, left: Sequence[_Week], share: float, hurry: float, chance: Optional[random.Random], in_order: bool
+        self, now: Solved, left: Sequence[_Week], share: float, chance: Optional[random.Random], in_order: bool
     ) -> Tuple[Dict[_Week, NurseWeek], int]:
         """The weeks to fix, and the number of those that have other choices in the solution. Of such weeks this share is fixed, of
-        different nurses and the greatest shares first; at least one, and `hurry` of all if the time is short. `in_order` these are among
-        the first ones, as many as there are nurses. Weeks without other choices are fixed, too, `in_order` only if they come before
-        these."""
+        different nurses and the greatest shares first; at least one. `in_order` these are among the first ones, as many as there are
+        nurses. Weeks without other choices are fixed, too, `in_order` only if they come before these."""
         shares = self._shares(now, left)
+        whole = {week for week, of_week in shares.items() if max(of_week.values(), default=0.0) > WHOLE}
+        if chance and len(self.plan.weeks) > 1:
+            shares = {week: self._guided(week, of_week) for week, of_week in shares.items()}
         best = {week: max(of_week, key=of_week.__getitem__) for week, of_week in shares.items() if of_week}
-        whole = {week for week, choices in best.items() if shares[week][choices] > WHOLE}
         others = [week for week in left if week in best and week not in whole]
         first = others[: len(self.plan.nurses)] if in_order else others
-        most = max(1, int(share * len(first)), int(hurry * len(others)))
-        weights = {
-            week: shares[week][best[week]] * (chance.uniform(*BY_CHANCE) if chance else 1) for week in others[: max(most, len(first))]
-        }
+        most = max(1, int(share * len(first)))
+        weights = {week: shares[week][best[week]] * (chance.uniform(*BY_CHANCE) if chance else 1) for week in first}
         taken: Dict[int, _Week] = {}
         for week in sorted(weights, key=weights.__getitem__, reverse=True):
             if len(taken) < most:
                 taken.setdefault(week.nurse, week)
         last = left.index(first[-1]) if in_order and first else len(left)
         return {week: best[week] for week in (*(week for week in left[:last] if week in whole), *taken.values())}, len(taken)
+
+    def _guided(self, week: _Week, shares: Dict[NurseWeek, float]) -> Dict[NurseWeek, float]:
+        """The shares of a week. That of the choices that the best roster has counts more."""
+        kept = week.of(self.rows[week.nurse]) if self.rows else None
+        return {choices: share * (GUIDED if choices == kept else 1.0) for choices, share in shares.items()}
 
     def _shares(self, now: Solved, weeks: Sequence[_Week]) -> Dict[_Week, Dict[NurseWeek, float]]:
         """The share of each choice of these weeks in a solution."""

@@ -5,12 +5,12 @@ import concurrent.futures
 import functools
 import itertools
 import random
-from typing import List, Optional, Tuple
+from typing import List, Optional, Set, Tuple
 
 from ..programs.clock import Clock
 from ..solvers.linear_solvers import LinearSolver
 from ..week.records import WEEK_DAYS
-from .part_search import Done, Part
+from .part_search import Part
 from .pricing import NurseWeek
 from .row_search import RowSearch
 from .workers import workers
@@ -26,12 +26,14 @@ def windows(weeks: int, length: int) -> List[range]:
 
 
 class Windows:
-    """The windows of a roster in the order in which they are tried. Each comes once in a round until the roster is better."""
+    """The windows of a roster in the order in which they are tried. Each comes once in a round until the roster is better. `closed` has the
+    days on which no new choices of all nurses make it better."""
 
     def __init__(self, weeks: int, chance: random.Random) -> None:
         self._weeks, self._chance = weeks, chance
         # The days of those that are left, and the seeds of their dives, which those of the first round do not have.
         self._left: List[Tuple[range, Optional[int]]] = []
+        self.closed: Set[range] = set()
         self.open()
 
     def open(self) -> None:
@@ -39,20 +41,20 @@ class Windows:
         rounds = [windows(self._weeks, length) if length < self._weeks else [] for length in ROUNDS]
         shuffled = [(number, days) for number, some in enumerate(rounds) for days in self._chance.sample(some, len(some))]
         self._left = [(days, self._chance.randrange(MOST_SEED) if number else None) for number, days in shuffled]
-
-    @property
-    def are_new(self) -> bool:
-        """Whether the first round has windows left."""
-        return bool(self._left) and self._left[0][1] is None
+        self.closed.clear()
 
     @property
     def are_over(self) -> bool:
         """Whether no round has windows left."""
-        return not self._left
+        return all(days in self.closed for days, _ in self._left)
 
     def next(self) -> Optional[Tuple[range, Optional[int]]]:
         """The days of the next window, and the seed of its dive, if that is by chance; None if all rounds are in vain."""
-        return self._left.pop(0) if self._left else None
+        while self._left:
+            window = self._left.pop(0)
+            if window[0] not in self.closed:
+                return window
+        return None
 
 
 class Sweeps:
@@ -72,7 +74,7 @@ class Sweeps:
             if vain == len(every) or self._clock.left() <= 0:
                 return
             before, rows, part = search.penalty, list(search.rows or ()), Part(nurses, days, is_window=True)
-            self._worker.do(Done, ("improve", part, rows), self._clock, functools.partial(self._take, part))
+            self._worker.improve(self._clock, functools.partial(self._take, part), part, rows)
             vain = vain + 1 if search.penalty == before else 0
 
     def _take(self, part: Part, found: List[NurseWeek], finder: str) -> bool:

@@ -15,7 +15,7 @@ from multiprocessing.connection import Connection
 from pathlib import Path
 from typing import List, NamedTuple, Optional, Sequence, Type, TypeVar
 
-from ..programs.clock import Clock
+from ..programs.clock import Clock, TimeIsOver
 from ..programs.processes import Processes
 from ..solvers.answers import MAX_FAULTS, SolverFault
 from ..solvers.clp_child import exit_without_parent
@@ -48,16 +48,34 @@ class _Running(NamedTuple):
 
 
 class Worker:
-    """A process with what is known of a plan, and with solvers of its own. It starts with the first task."""
+    """A process with what is known of a plan, and with solvers of its own, which does what a PartSearch and a CaseSearch do. It starts with
+    the first task. Some faults in a row are a SolverFault, and so is one of all solvers there."""
 
     def __init__(self, solver: LinearSolver, known: Path) -> None:
         self._solver, self._known = solver, known
         self._running: Optional[_Running] = None
         self._faults = 0
 
-    def do(self, kind: Type[_Answer], task: Sequence[object], clock: Clock, take: Take) -> Optional[_Answer]:
-        """Does a task; None after some faults in a row, or if the time is over. A fault of all solvers there is raised."""
-        while self._faults < MAX_FAULTS and clock.left() > 0:
+    def improve(self, clock: Clock, take: Take, part: Part, rows: Sequence[NurseWeek]) -> Done:
+        """Looks for better rows of a neighborhood."""
+        return self._do(Done, ("improve", part, rows), clock, take) or Done(False, 0)
+
+    def dive(self, clock: Clock, take: Take, task: Dive) -> Done:
+        """Fixes rows of all nurses."""
+        return self._do(Done, ("dive", task), clock, take) or Done(False, 0)
+
+    def close(self, clock: Clock, take: Take, task: CaseTask) -> Examined:
+        """Adds rows until the prices of a case prove its target, or they cannot."""
+        found = self._do(Examined, ("close", task), clock, take)
+        if found is None:
+            raise TimeIsOver
+        return found
+
+    def _do(self, kind: Type[_Answer], task: Sequence[object], clock: Clock, take: Take) -> Optional[_Answer]:
+        """Does a task; None if the time is over."""
+        while clock.left() > 0:
+            if self._faults == MAX_FAULTS:
+                raise SolverFault("a process of the search fails")
             found: object = None
             with contextlib.suppress(OSError, EOFError, pickle.UnpicklingError):
                 found = self._answer(task, clock, take)
@@ -106,36 +124,6 @@ def workers(known: Known, solvers: Sequence[LinearSolver]) -> List[Worker]:
     file = solvers[0].folder / "known.pickle"
     file.write_bytes(pickle.dumps(known))
     return [Worker(solver, file) for solver in solvers]
-
-
-class PartWorker:
-    """Searches parts as a part search does, in a process of its own. After some faults in a row it does so in this one."""
-
-    def __init__(self, worker: Worker, own: PartSearch) -> None:
-        self._worker, self._own = worker, own
-
-    def improve(self, clock: Clock, take: Take, part: Part, rows: Sequence[NurseWeek]) -> Done:
-        """Looks for better rows of a neighborhood."""
-        return self._worker.do(Done, ("improve", part, rows), clock, take) or self._own.improve(clock, take, part, rows)
-
-    def dive(self, clock: Clock, take: Take, task: Dive) -> Done:
-        """Fixes rows of all nurses."""
-        return self._worker.do(Done, ("dive", task), clock, take) or self._own.dive(clock, take, task)
-
-
-class CaseWorker:
-    """Searches cases as a case search does, in a process of its own. After some faults in a row this is a SolverFault."""
-
-    def __init__(self, worker: Worker) -> None:
-        self._worker = worker
-
-    def close(self, clock: Clock, take: Take, task: CaseTask) -> Examined:
-        """Adds rows until the prices of a case prove its target, or they cannot."""
-        done = self._worker.do(Examined, ("close", task), clock, take)
-        if not done:
-            clock.check()
-            raise SolverFault("a process that searches cases fails")
-        return done
 
 
 class _Tasks:

@@ -53,7 +53,7 @@ class SearchResult:
         self.bound_by = search.bound.by if search.bound else ""
         # The facts that the bound is about; none: it is about all rosters.
         self.bound_only = search.bound.only if search.bound else ""
-        self.claimed_by, self.verdict = search.claimed_by, search.verdict
+        self.verdict = search.verdict
         self.proved = best.proved
         self.stopped = stopped
         self.fault = fault
@@ -72,10 +72,7 @@ class SearchResult:
         less = f"no roster that keeps all {self.bound_only} costs less" if self.bound_only else "no roster costs less"
         if self.bound >= self.report.penalty:
             but = ", but this one breaks an absence" if self.breaks else ", but this one exceeds a limit" if self.exceeds else ""
-            says = f", says {self.claimed_by}" if self.bound_by == self.claimed_by else ", proved" if self.bound_by == PROVER else ""
-            return [line, less + (but or says)]
-        if self.claimed_by:
-            return [line, f"{less}, says {self.claimed_by}; without that only the lower bound is known"]
+            return [line, less + (but or (", proved" if self.bound_by == PROVER else ""))]
         return [f"{line}: the gap is {self.report.penalty - self.bound}, {gap_share(self.report.penalty, self.bound)}"]
 
 
@@ -209,7 +206,7 @@ def _result(
 ) -> SearchResult:
     """The result of a search that has ended. Raises ProgramFault, which says why, if there is no roster."""
     bound = running.bound
-    best.proved = best.penalty is not None and (bool(running.claimed_by) or (bound is not None and best.penalty <= bound.points))
+    best.proved = best.penalty is not None and bound is not None and best.penalty <= bound.points
     try:
         report = best.report()
     except (ProgramFault, OSError) as unreported:

@@ -237,6 +237,6 @@ def _why_none(run: RowRun) -> str:
     """Why a search has found no plan in its time."""
     if run.without_row:
         return f"no rosters keep the hard rules: the held rows of {run.without_row} contradict one another"
-    if run.minimums or run.claim:
+    if run.minimums:
         return "no rosters keep the hard rules of these weeks together, by plain Python: plan the weeks one by one"
     return "no rosters were found in this time: give more"

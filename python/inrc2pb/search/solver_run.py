@@ -40,7 +40,6 @@ class SolverRun:
         self.bound: Optional[Bound] = None
         # A line about a claim that was not confirmed.
         self.verdict = ""
-        self.claimed_by = ""
 
     def interrupt(self) -> None:
         """Ends the run as the user asks: as soon as the solver has printed what it has, if there is no roster yet, else now."""

@@ -29,8 +29,6 @@ class WeekSearch:
         self._clock, self._progress, self._seed = clock, progress, seed
         self._processes = Processes()
         self._bound: Optional[Bound] = None
-        # What claims without a proof of inrc2pb-bound that no roster that keeps all absences and limits costs less.
-        self.claimed_by = ""
         # What has proved that no roster exists, and a line about the claim of a user's own solver: none judges one here.
         self.none_by, self.verdict = "", ""
 
@@ -66,8 +64,6 @@ class WeekSearch:
             if solver:
                 solver.start()
             self._run_rows(plan, solver, runs, start)
-            if not plan.asks or self._best.keeps_all:
-                self.claimed_by = runs[0].claim
             for less_strict in plan.less_strict():
                 keeps = not self._best.breaks() if less_strict.keeping.absence < NEVER else self._best.keeps_all
                 if self._best.penalty is None or not keeps:

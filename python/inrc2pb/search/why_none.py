@@ -45,13 +45,12 @@ class ShortPlace(NamedTuple):
 
 class Shortage(NamedTuple):
     """The minimum numbers to lower so that a roster exists, who works in it though she is away, whether it keeps absences, if there are
-    some, whether no roster can do with less, and who claims that."""
+    some, and whether no roster can do with less."""
 
     places: Tuple[ShortPlace, ...]
     working: Tuple[Cell, ...]
     keeps_absences: bool
     is_proved: bool
-    claimed_by: str
 
     @property
     def lowered(self) -> int:
@@ -87,7 +86,7 @@ def why_none(files: WeekFiles, week: Week) -> Shortage:
     number, away = numbers(cells), absences_of(week.data)
     places = [_short(week, cells, place) for place, asked in week.data.requirements.items() if number[place] < asked.minimum]
     working = tuple(working_while_away(away, cells))
-    return Shortage(tuple(places), working, bool(away) and not working, found.proved, found.claimed_by or "")
+    return Shortage(tuple(places), working, bool(away) and not working, found.proved)
 
 
 def _solve(files: WeekFiles, roster: Path) -> SearchResult:
@@ -134,8 +133,7 @@ def shortage_head(found: Shortage) -> str:
         return f"A roster exists that meets all minimum numbers{kept}."
     if not found.is_proved:
         return f"These minimum numbers, lowered by {found.lowered} in all, have a roster{kept}; fewer may be enough:"
-    says = f", says {found.claimed_by}" if found.claimed_by else ""
-    return f"No roster meets all minimum numbers{kept}. Lower these by {found.lowered} in all; no roster can do with less{says}:"
+    return f"No roster meets all minimum numbers{kept}. Lower these by {found.lowered} in all; no roster can do with less:"
 
 
 def lowered_text(short: ShortPlace) -> str:

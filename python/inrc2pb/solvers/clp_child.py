@@ -23,34 +23,30 @@ _MOST_ITERATIONS = 2**31 - 1
 # Clp's statuses of a basis for a new column and a new row.
 AT_LOWER, _BASIC = b"\3", b"\1"
 _DOUBLE, _INT, _POINTER = ctypes.c_double, ctypes.c_int, ctypes.c_void_p
-# The status of Clp, the iterations, the value, and, if they are asked for, the rows' prices, the columns' values, what one of each column
-# would add, and the statuses of the columns and of the rows in the basis.
-Answer = Tuple[int, int, float, bytes, bytes, bytes, bytes, bytes]
+# The functions that read an array of a model, the others that only get the model, those that change an array, and those that get a number.
+_READING = "getColLower getColUpper getRowLower getRowUpper getObjCoefficients dualRowSolution primalColumnSolution statusArray".split()
+_OF_MODEL = "deleteModel status numberIterations objectiveValue".split()
+_CHANGING = "chgColumnLower chgColumnUpper chgRowLower chgRowUpper chgObjCoefficients copyinStatus".split()
+_LIMITED = "setLogLevel setMaximumIterations dual primal".split()
+# The status of Clp, the iterations, the value, and, if they are asked for, the rows' prices, the columns' values, and the statuses of the
+# columns and of the rows in the basis.
+Answer = Tuple[int, int, float, bytes, bytes, bytes, bytes]
 
 
 def load() -> Any:
     """Clp's library. Without it this is an OSError."""
     clp = ctypes.CDLL(LIBRARY)
-    clp.Clp_newModel.restype = clp.Clp_statusArray.restype = _POINTER
-    clp.Clp_statusArray.argtypes = clp.Clp_deleteModel.argtypes = [_POINTER]
-    for name in ("Clp_getColLower", "Clp_getColUpper", "Clp_getRowLower", "Clp_getRowUpper", "Clp_getObjCoefficients"):
-        getattr(clp, name).restype, getattr(clp, name).argtypes = _POINTER, [_POINTER]
-    for name in ("Clp_dualRowSolution", "Clp_primalColumnSolution", "Clp_dualColumnSolution"):
-        getattr(clp, name).restype, getattr(clp, name).argtypes = _POINTER, [_POINTER]
-    for name in (
-        "Clp_chgRowLower",
-        "Clp_chgRowUpper",
-        "Clp_chgColumnLower",
-        "Clp_chgColumnUpper",
-        "Clp_chgObjCoefficients",
-        "Clp_copyinStatus",
-    ):
-        getattr(clp, name).argtypes = [_POINTER, _POINTER]
-    for name in ("Clp_setLogLevel", "Clp_setMaximumIterations", "Clp_dual", "Clp_primal"):
-        getattr(clp, name).argtypes = [_POINTER, _INT]
+    clp.Clp_newModel.restype = _POINTER
+    clp.Clp_objectiveValue.restype = _DOUBLE
+    for name in _READING:
+        getattr(clp, f"Clp_{name}").restype = _POINTER
+    for name in (*_READING, *_OF_MODEL):
+        getattr(clp, f"Clp_{name}").argtypes = [_POINTER]
+    for name in _CHANGING:
+        getattr(clp, f"Clp_{name}").argtypes = [_POINTER, _POINTER]
+    for name in _LIMITED:
+        getattr(clp, f"Clp_{name}").argtypes = [_POINTER, _INT]
     clp.Clp_setMaximumSeconds.argtypes = [_POINTER, _DOUBLE]
-    clp.Clp_objectiveValue.restype, clp.Clp_objectiveValue.argtypes = _DOUBLE, [_POINTER]
-    clp.Clp_status.argtypes = clp.Clp_numberIterations.argtypes = [_POINTER]
     return clp
 
 
@@ -126,14 +122,10 @@ class Program:
         (clp.Clp_dual if how == DUAL else clp.Clp_primal)(model, 0)
         head = clp.Clp_status(model), clp.Clp_numberIterations(model), clp.Clp_objectiveValue(model)
         if not whole:
-            return (*head, b"", b"", b"", b"", b"")
-        found = (
-            (clp.Clp_dualRowSolution, self._rows),
-            (clp.Clp_primalColumnSolution, self._columns),
-            (clp.Clp_dualColumnSolution, self._columns),
-        )
-        prices, columns, rises = (ctypes.string_at(get(model), 8 * number) if number else b"" for get, number in found)
-        return (*head, prices, columns, rises, *self._statuses())
+            return (*head, b"", b"", b"", b"")
+        found = (clp.Clp_dualRowSolution, self._rows), (clp.Clp_primalColumnSolution, self._columns)
+        prices, columns = (ctypes.string_at(get(model), 8 * number) if number else b"" for get, number in found)
+        return (*head, prices, columns, *self._statuses())
 
 
 class Child:

@@ -46,14 +46,12 @@ class Column(NamedTuple):
 
 class Solution(NamedTuple):
     """The answer of a linear program: whether it is OPTIMAL, INFEASIBLE or STOPPED at the limit of its iterations, its value, the prices of
-    its rows, the values of its columns, by how much one of each column would raise the value, the number of iterations, and the statuses of
-    columns and rows in its basis, if they are known."""
+    its rows, the values of its columns, the number of iterations, and the statuses of columns and rows in its basis, if they are known."""
 
     status: int
     value: float
     prices: "Sequence[float]" = ()
     columns: "Sequence[float]" = ()
-    rises: "Sequence[float]" = ()
     iterations: int = 0
     basis: Tuple[bytes, bytes] = (b"", b"")
 
@@ -142,14 +140,14 @@ class Child:
 def _solution(answer: clp_child.Answer, rows: int, columns: int) -> Solution:
     """The solution of an answer. Numbers that are none are a SolverFault."""
     status, iterations, value, *found, of_columns, of_rows = answer
-    prices, values, rises = (array("d", part) for part in found)
-    if [len(prices), len(values), len(rises)] != [rows, columns, columns] or status not in (OPTIMAL, INFEASIBLE, STOPPED):
+    prices, values = (array("d", part) for part in found)
+    if (len(prices), len(values)) != (rows, columns) or status not in (OPTIMAL, INFEASIBLE, STOPPED):
         raise SolverFault(f"{NAME} ended with status {status}")
     if status == INFEASIBLE:
         value = math.inf
-    elif not (abs(value) < MAX_VALUE and abs(sum(prices) + sum(values) + sum(rises)) < MAX_VALUE):
+    elif not (abs(value) < MAX_VALUE and abs(sum(prices) + sum(values)) < MAX_VALUE):
         raise SolverFault(f"{NAME} answered with numbers that are none")
-    return Solution(status, value, prices, values, rises, iterations, (of_columns, of_rows))
+    return Solution(status, value, prices, values, iterations, (of_columns, of_rows))
 
 
 def _finite(value: float) -> float:

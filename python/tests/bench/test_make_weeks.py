@@ -7,9 +7,9 @@ from dataclasses import replace
 
 from ward import ROOT, HelperTest, files
 
-from inrc2pb.rows.first_rows import matched_rows
+from inrc2pb.rows.descent import Descent, all_off
 from inrc2pb.rows.plan import Plan
-from inrc2pb.rows.pricing import Crews
+from inrc2pb.rows.pricing import Crews, Pricing
 from inrc2pb.judging.rules import first_broken
 from inrc2pb.rows.skills import staffed
 
@@ -17,6 +17,14 @@ EXAMPLES = ROOT / "examples"
 SIZES = (12, 13, 29, 31, 45, 100)
 # The sum of all minimum numbers of a week, for 30 nurses.
 MINIMUM = 61
+
+
+def first_roster(plan):
+    """The roster of a plan that is found without a solver."""
+    pricing = Pricing(plan, Crews(plan), lambda: None)
+    descent = Descent(pricing, all_off(plan))
+    descent.sweep(lambda: None)
+    return staffed(plan, pricing.crews, descent.rows)
 
 
 class MadeWards(HelperTest):
@@ -45,8 +53,7 @@ class MadeWards(HelperTest):
         self.assertEqual(texts[0], texts[1])
         week = files.read_files(*(self.folder / "wide8x3" / name for name in ("ward.txt", "history-3.txt", "week-3.txt")))
         plan = Plan.of(week.scenario, week.history, [week.data])
-        crews = Crews(plan)
-        found = staffed(plan, crews, matched_rows(plan, crews, lambda: None))
+        found = first_roster(plan)
         self.assertEqual((found.below, first_broken(week, found.cells)), (0, None))
         self.assertNotEqual(subprocess.run([*words[:-1], "many"], stderr=subprocess.DEVNULL).returncode, 0)
 
@@ -80,9 +87,7 @@ class MadeWards(HelperTest):
             for week in self.weeks(nurses):
                 with self.subTest(nurses=nurses, week=week.history.week):
                     plan = Plan.of(week.scenario, week.history, [week.data])
-                    crews = Crews(plan)
-                    roster = staffed(plan, crews, matched_rows(plan, crews, lambda: None))
-                    self.assertIsNone(first_broken(week, roster.cells))
+                    self.assertIsNone(first_broken(week, first_roster(plan).cells))
 
 
 if __name__ == "__main__":

@@ -9,6 +9,7 @@ from ward import HAS_CBC, HAS_CLASP, HISTORY, ROOT, SCENARIO, WEEK, WEEK_OPTIONS
 
 from inrc2pb.judging.demand import asked_shifts, demand_warnings, supplied_shifts
 from inrc2pb.judging.leave import Counted, PartContract, part_contract
+from inrc2pb.search import why_none
 from inrc2pb.shown.ward_sentences import history_sentences, limit_sentences, scenario_sentences, supply_text, ward_sentence
 from inrc2pb.shown.week_sentences import DescribedWeek, weeks_sentences
 from inrc2pb.week.records import (
@@ -241,6 +242,13 @@ class WhyNone(HelperTest):
         )
         fix = self.solution("Chen Mon Day Nurse", "Chen Mon Late Nurse")
         self.assertEqual(run("roster", "check", *WEEK_OPTIONS, "--fix", fix, "--why-none")[0], 1)
+
+
+class Heads(unittest.TestCase):
+    def test_without_a_proof_fewer_minimums_may_be_enough(self):
+        short = why_none.ShortPlace(Place(0, "Day", "Nurse"), 3, 2, (), True)
+        for is_proved, says in ((True, "no roster can do with less:"), (False, "fewer may be enough:")):
+            self.assertTrue(why_none.shortage_head(why_none.Shortage((short,), (), False, is_proved)).endswith(says))
 
 
 if __name__ == "__main__":

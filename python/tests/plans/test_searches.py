@@ -94,7 +94,7 @@ class WithoutPlan(KeptTest):
         owners = (Owner("Amara", True, "is away"), Owner("Bruno", False, "works Late on this day"), Owner("Ewa", True, "is away"),
                   Owner("Chen", False, ""))  # fmt: skip
         place = ShortPlace(Place(2, "Day", "Charge"), 1, 0, owners, True)
-        status, printed, _ = self.ended(ProgramFault(NO_ROSTER, LATE), why=(1, Shortage((place,), (), True, True, "")))
+        status, printed, _ = self.ended(ProgramFault(NO_ROSTER, LATE), why=(1, Shortage((place,), (), True, True)))
         self.assertEqual(status, 5)
         self.assertEqual(printed.splitlines(), [
             "week 2 (calendar week 50): No roster meets all minimum numbers, and keeps every absence. Lower these by 1 in all; no roster can do with less:",

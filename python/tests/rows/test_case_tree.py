@@ -25,7 +25,7 @@ from inrc2pb.rows.pricing import Crews
 from inrc2pb.rows.row_run import RowRun
 from inrc2pb.rows.row_search import Known
 from inrc2pb.rows.skills import staffed
-from inrc2pb.rows.workers import CaseWorker, Worker, workers
+from inrc2pb.rows.workers import Worker, workers
 from inrc2pb.solvers.answers import SolverFault
 from inrc2pb.solvers.linear_solvers import LinearSolver
 from inrc2pb.solvers.resident_program import OPTIMAL, STOPPED, LinearProgram, Solution
@@ -62,7 +62,7 @@ class Lies(LinearProgram):
     def solve(self, clock, how="", iterations=0, whole=True):
         clock.check()
         any_of = lambda number: array("d", [self.chance.choice([0.0, 0.5, 1.0, 30.0, -7.0, 1e6]) for _ in range(number)])  # noqa: E731
-        return Solution(OPTIMAL, self.chance.choice([0.0, 55.5, 1e5]), any_of(self.rows), any_of(self.columns), any_of(self.columns))
+        return Solution(OPTIMAL, self.chance.choice([0.0, 55.5, 1e5]), any_of(self.rows), any_of(self.columns))
 
 
 class Trees(HelperTest):
@@ -172,14 +172,14 @@ class Trees(HelperTest):
         tree, rows = self.tree(plan, 140), [[] for _ in plan.nurses]
         [worker] = workers(Known(plan, [0] * len(plan.demand), rows), [self.solver])
         self.addCleanup(worker.end)
-        tree.run(Clock(600.0), [CaseWorker(worker).close])
+        tree.run(Clock(600.0), [worker.close])
         self.assertEqual((tree.bound, self.penalty), (135, 135))
         expected = tree.certificate().text("x")
         tree = self.tree(plan, 140)
         tree.run(Clock(600.0), [self.search.close])
         self.assertEqual(tree.certificate().text("x"), expected)
         with mock.patch.object(Worker, "_start", side_effect=OSError), self.assertRaises(SolverFault):
-            CaseWorker(Worker(self.solver, self.folder)).close(Clock(600.0), lambda rows, finder: True, CaseTask((), tree.root.proved, 135))
+            Worker(self.solver, self.folder).close(Clock(600.0), lambda rows, finder: True, CaseTask((), tree.root.proved, 135))
 
 
 class Stopped(LinearProgram):
@@ -202,27 +202,26 @@ class Runs(HelperTest):
         self.addCleanup(solver.close)
         return solver
 
-    def run_rows(self, **options):
+    def run_rows(self, seconds=600.0, **options):
         """A search over the rows of a week that prices alone do not prove."""
         week = files.read_files(FILES.scenario, FILES.history, FILES.week)
         plan, bounds = Plan.of(week.scenario, week.history, [week.data]), []
         offer = lambda rows, finder: run.search.value_of(rows) if run.search else None  # noqa: E731
-        run = RowRun(plan, self.solver(), Clock(600.0), offer, lambda: bounds.append(run.lower_bound), **options)
+        run = RowRun(plan, self.solver(), Clock(seconds), offer, lambda: bounds.append(run.lower_bound), **options)
         run.run()
         self.assertEqual(bounds, sorted(bounds))
         return run
 
     def test_a_tree_proves_the_best_roster(self):
         run = self.run_rows()
-        # On a busy machine cbc claims the same before the tree has proved it.
         self.assertEqual((run.search.penalty, run.search.lower_bound, run.lower_bound), (135, 130, 135))
         certificate = run.certificate()
         self.assertGreater(len(certificate.leaves()), 1)
         self.assertEqual(CasePricing(run.plan, run.crews, lambda: None).bound_of(certificate), 135)
 
     def test_without_splits_the_certificate_is_one_leaf(self):
-        run = self.run_rows(splits=False)
-        self.assertEqual((run.search.penalty, run.lower_bound, run.claim), (135, 130, "cbc, over the rows that Python lists"))
+        run = self.run_rows(seconds=4.0, splits=False)
+        self.assertEqual((run.search.penalty, run.lower_bound), (135, 130))
         [(case, leaf)] = run.certificate().leaves()
         self.assertEqual((case, leaf.prices), ((), run.search.prices))
 

@@ -1,4 +1,4 @@
-"""Tests of what a claim of a solver rests on: the rows that a better roster can have, the cutoff, and the bound."""
+"""Tests of what an answer of a solver says: the known rows that a better roster can have, the cutoff, and the bound."""
 
 import itertools
 import tempfile
@@ -12,7 +12,7 @@ from ward import HAS_CBC
 from inrc2pb.programs.clock import Clock
 from inrc2pb.programs.processes import Processes
 from inrc2pb.rows.plan import Plan
-from inrc2pb.rows.row_run import WholeSearch
+from inrc2pb.rows.row_run import RowRun, WholeSearch
 from inrc2pb.rows.row_search import RowSearch, WrongBound
 from inrc2pb.solvers.linear_solvers import LinearSolver
 
@@ -39,7 +39,7 @@ def values_of(pricing, nurse, prices):
     return found
 
 
-class Listed(unittest.TestCase):
+class KnownWithin(unittest.TestCase):
     def setUp(self):
         """Searches with any prices, their bounds in thousandths, and the value of each row of each nurse."""
         self.searches = []
@@ -54,22 +54,6 @@ class Listed(unittest.TestCase):
             search = search_of(pricing)
             search.prices, search.bound = prices, bound
             self.searches.append((search, values))
-
-    def test_all_rows_that_a_better_roster_can_have_and_no_others(self):
-        for search, values in self.searches:
-            for steps in (1, 4, 9):
-                search.penalty = STEP * (search.bound // (STEP * POINT) + steps)
-                gap = (search.penalty - STEP) * POINT - search.bound
-                wanted = {
-                    (nurse, row) for nurse, own in enumerate(values) for row, value in own.items() if value <= min(own.values()) + gap
-                }
-                found = search.list_within(10**6, search.clock)
-                columns = [search.program.columns[number] for number in found]
-                self.assertEqual({(column.nurse, column.row) for column in columns}, wanted)
-                self.assertEqual(len(found), len(wanted))
-                if wanted:
-                    self.assertIsNone(search.list_within(len(wanted) - 1, search.clock))
-                    self.assertIsNotNone(search.list_within(len(wanted), search.clock))
 
     def test_known_rows_that_a_better_roster_can_have(self):
         for search, values in self.searches:
@@ -120,14 +104,17 @@ class Chosen(unittest.TestCase):
     def test_a_roster_above_the_best_one_is_not_the_best(self):
         week, best = week_of("last12"), 435
         plan = Plan.of(week.scenario, week.history, [week.data])
-        for penalty in (best, best + STEP):
-            with tempfile.TemporaryDirectory() as name:
-                solver = LinearSolver(Processes(), Path(name), print)
+        with tempfile.TemporaryDirectory() as name:
+            solver = LinearSolver(Processes(), Path(name), print)
+            self.addCleanup(solver.close)
+            run = RowRun(plan, solver, Clock(100.0), lambda rows, _: run.search.value_of(rows) if run.search else None, lambda: None)
+            run.run()
+            for penalty in (best, best + STEP):
                 search = search_of(pricing_of(plan), solver)
+                search.add_roster(run.search.rows)
                 search.generate(search.clock)
                 search.penalty = penalty
-                use = search.list_within(10**5, search.clock)
-                self.assertTrue(search.choose(use, search.clock, "x"))
+                self.assertTrue(search.choose(range(len(search.program.columns)), search.clock, "x"))
                 self.assertEqual(search.penalty, best)
 
 

@@ -10,7 +10,7 @@ from inrc2pb.judging.next_history import next_history
 from inrc2pb.judging.rules import costs, first_broken, nurse_costs
 from inrc2pb.programs.clock import Clock, TimeIsOver
 from inrc2pb.programs.processes import Processes
-from inrc2pb.rows.first_rows import matched_rows
+from inrc2pb.rows.descent import all_off
 from inrc2pb.rows.part_search import Done
 from inrc2pb.rows.plan import POINT, Plan
 from inrc2pb.rows.pricing import Crews, Pricing
@@ -117,7 +117,7 @@ class Parts(HelperTest):
             return kept[-1]
 
         search = RowSearch(Pricing(plan, Crews(plan), lambda: None), solver, Clock(600), offer, lambda: None)
-        search.begin(matched_rows(plan, search.pricing.crews, lambda: None), None)
+        search.begin(all_off(plan), None)
         search.generate(search.clock)
         RowParts(search, [solver, solver.beside(1)]).run(search.clock)
         # docs/solvers.md has this penalty as the best.
@@ -131,7 +131,7 @@ class Parts(HelperTest):
         search = RowSearch(
             Pricing(plan, Crews(plan), lambda: None), solver, Clock(600), lambda rows, finder: search.value_of(rows), lambda: None
         )
-        search.begin(matched_rows(plan, search.pricing.crews, lambda: None), None)
+        search.begin(all_off(plan), None)
         parts = RowParts(search, [solver, solver.beside(1)])
 
         def improve(part, solver, clock, roster):
@@ -153,7 +153,7 @@ class Parts(HelperTest):
         search = RowSearch(
             Pricing(plan, Crews(plan), lambda: None), solver, Clock(600), lambda rows, finder: search.value_of(rows), lambda: None
         )
-        search.begin(matched_rows(plan, search.pricing.crews, lambda: None), None)
+        search.begin(all_off(plan), None)
         parts, failed = RowParts(search, [solver, solver.beside(1)]), threading.Event()
 
         def improve(part, used, clock, roster):
@@ -184,7 +184,7 @@ class Parts(HelperTest):
             search = RowSearch(
                 Pricing(plan, Crews(plan), lambda: None), solver, Clock(600), lambda rows, finder: search.value_of(rows), lambda: None
             )
-            search.begin(matched_rows(plan, search.pricing.crews, lambda: None), None)
+            search.begin(all_off(plan), None)
             parts = RowParts(search, [solver])
             first = parts._sizes[7]
             with mock.patch.object(RowParts, "improve", return_value=Done(ended, 1000)), self.assertRaises(TimeIsOver):

@@ -10,7 +10,7 @@ from ward import ENOUGH
 from inrc2pb.programs.clock import Clock, TimeIsOver
 from inrc2pb.rows.plan import Plan
 from inrc2pb.rows.price_rounds import AGAIN, FEW, approach, priced
-from inrc2pb.rows.row_generation import BEGINNING, KEPT_ROUNDS, RowGeneration
+from inrc2pb.rows.row_generation import BEGINNING, RowGeneration
 
 
 class Rounds(unittest.TestCase):
@@ -53,19 +53,13 @@ class Rounds(unittest.TestCase):
         self.assertEqual(len(rounds), FEW.rounds)
         self.assertNotIn(None, [pricing.cost(nurse, row) for rows in rounds for nurse, row in enumerate(rows)])
 
-    def test_a_program_begins_with_the_last_rows_and_gets_the_others_later(self):
+    def test_a_program_begins_with_the_last_rows(self):
         pricing = pricing_of(random_plan(3)[0])
         generation = RowGeneration(pricing, None, lambda: None)
         generation.approach(Clock(ENOUGH))
-        rounds = approach(pricing, FEW, lambda: None).rounds
-
-        def known(rounds):
-            return {(nurse, row) for rows in rounds for nurse, row in enumerate(rows)}
-
-        self.assertEqual({column[:2] for column in generation.program.columns}, known(rounds[-BEGINNING:]))
-        for _ in range(2):
-            generation.add_earlier()
-            self.assertEqual({column[:2] for column in generation.program.columns}, known(rounds[-KEPT_ROUNDS:]))
+        rounds = approach(pricing, FEW, lambda: None).rounds[-BEGINNING:]
+        known = {(nurse, row) for rows in rounds for nurse, row in enumerate(rows)}
+        self.assertEqual({column[:2] for column in generation.program.columns}, known)
 
     def test_it_ends_with_its_time(self):
         def over():
@@ -73,6 +67,12 @@ class Rounds(unittest.TestCase):
 
         with self.assertRaises(TimeIsOver):
             approach(pricing_of(random_plan(3)[0]), FEW, over)
+
+    def test_a_program_begins_with_the_last_prices(self):
+        pricing = pricing_of(random_plan(3)[0])
+        generation = RowGeneration(pricing, None, lambda: None)
+        generation.approach(Clock(ENOUGH))
+        self.assertEqual(generation.prices, approach(pricing, FEW, lambda: None).prices)
 
 
 if __name__ == "__main__":

@@ -1,6 +1,7 @@
 """Tests of the neighborhoods of a search over rows: their days, their rows, and which one comes next."""
 
 import itertools
+import math
 import random
 import unittest
 from unittest import mock
@@ -9,8 +10,7 @@ from ward import HAS_CBC, ROOT, HelperTest, files
 
 from inrc2pb.programs.clock import Clock, TimeIsOver
 from inrc2pb.programs.processes import Processes
-from inrc2pb.rows import row_parts
-from inrc2pb.rows.first_rows import matched_rows
+from inrc2pb.rows.descent import all_off
 from inrc2pb.rows.plan import POINT, Plan
 from inrc2pb.rows.pricing import Crews, Pricing
 from inrc2pb.rows.part_search import Dive, Done, Part, PartSearch
@@ -18,6 +18,7 @@ from inrc2pb.rows.row_arrays import Arrays
 from inrc2pb.rows.row_parts import STUCK_WORK, RowParts
 from inrc2pb.rows.row_search import RowSearch
 from inrc2pb.rows.week_dives import WeekDives
+from inrc2pb.rows.windows import Windows
 from inrc2pb.solvers.linear_solvers import LinearSolver
 
 MONTH = ROOT / "examples" / "month"
@@ -27,6 +28,7 @@ WEEKS = [files.read_week(MONTH / f"week-{number}.txt", SCENARIO) for number in r
 CHOICES = range(len(SCENARIO.shift_types) + 1)
 # Seconds that are enough on each machine: a dive in a short time is another one.
 LONG = 1e6
+EVERYONE = tuple(range(30))
 OFF, EARLY = (bytes([choice] * 7) for choice in (0, 1))
 
 
@@ -36,7 +38,7 @@ def search_of(weeks):
     search = RowSearch(
         Pricing(plan, Crews(plan), lambda: None), None, Clock(600), lambda rows, _finder: search.value_of(rows), lambda: None
     )
-    search.begin(matched_rows(plan, search.pricing.crews, lambda: None), None)
+    search.begin(all_off(plan), None)
     return search
 
 
@@ -82,25 +84,6 @@ class DaysOfParts(unittest.TestCase):
         self.assertEqual([costs[row] for row in known[3]], sorted(costs.values()))
         self.assertEqual(known[4], [whole.rows[4]])
 
-    def test_a_choice_that_must_change(self):
-        whole = search_of(1)
-        part = whole.pricing.on_days(range(2, 5), whole.rows)
-        part.forbid(6, 3, whole.rows[6][3])
-        gains = whole.pricing.crews.gains(whole.prices)
-        self.assertNotEqual(part.cheapest(6, gains).row[3], whole.rows[6][3])
-        self.assertEqual(part.cheapest(6, gains), part.cheapest_of(range(30), gains)[6])
-        self.assertEqual(whole.pricing.cost(6, whole.rows[6]) is None, False)
-
-    def test_rows_of_the_same_cost(self):
-        whole = search_of(1)
-        rows, whole.rows = whole.rows, [OFF] * 30
-        whole.penalty = whole.value_of(rows)
-        self.assertTrue(whole.swap(rows))
-        self.assertEqual(whole.rows, rows)
-        self.assertFalse(whole.swap(list(rows)))
-        whole.penalty += 5
-        self.assertFalse(whole.swap([OFF] * 30))
-
     def test_the_demand_of_a_part(self):
         whole = search_of(2)
         parts, asked = PartSearch(whole.pricing, whole.known(), None), whole.plan.demand
@@ -109,6 +92,12 @@ class DaysOfParts(unittest.TestCase):
         of_one = parts.pricing(Part((4,), range(3, 8)), whole.rows).plan
         self.assertEqual(of_one.nurses, tuple(SCENARIO.nurses)[4:5])
         self.assertTrue(all(3 <= place.day < 8 and left.optimal <= asked[place].optimal for place, left in of_one.demand.items()))
+
+    def test_rows_that_a_hard_rule_forbids_are_not_added(self):
+        search = search_of(1)
+        forbidden = next(row for row in map(bytes, itertools.product(range(5), repeat=7)) if search.pricing.cost(3, row) is None)
+        self.assertFalse(search.add_row(3, forbidden))
+        self.assertNotIn((3, forbidden), [column[:2] for column in search.program.columns])
 
 
 class NextParts(unittest.TestCase):
@@ -120,23 +109,23 @@ class NextParts(unittest.TestCase):
         seen = []
         # There are 13, 11, 8, 4 and 1 of these lengths.
         for _ in range(37):
-            part = parts._next(parts._search, parts._windows, 0)
+            part = parts._next(parts._search, parts._windows)
             self.assertEqual(part.nurses, tuple(range(30)))
             seen.append(part.days)
-            parts._learn(part._replace(changed=()), Done(True, 1000), parts._windows, False)
+            parts._learn(part, Done(True, 1000), parts._windows, False)
         self.assertEqual(len(set(seen)), 37)
         self.assertEqual({len(days) for days in seen[:5]}, {2, 4, 7, 11, 14})
         # The only one of 14 days has had less work than the others, and is open again.
         parts._learn(part, Done(True, 1000, True), parts._windows, True)
-        self.assertEqual(len(parts._next(parts._search, parts._windows, 0).days), 14)
+        self.assertEqual(len(parts._next(parts._search, parts._windows).days), 14)
 
     def test_lengths_share_the_work(self):
         parts = RowParts(search_of(1), [])
         for days, work in ((3, 2000), (4, 5000), (6, 1000), (7, 3000)):
             parts._learn(Part((0, 1), range(days)), Done(True, work), parts._windows, False)
-        self.assertEqual(len(parts._next(parts._search, parts._windows, 0).days), 6)
+        self.assertEqual(len(parts._next(parts._search, parts._windows).days), 6)
         parts._learn(Part((0, 1), range(6)), Done(False, 1500), parts._windows, False)
-        self.assertEqual(len(parts._next(parts._search, parts._windows, 0).days), 3)
+        self.assertEqual(len(parts._next(parts._search, parts._windows).days), 3)
 
     def test_sizes_follow_the_work(self):
         parts = RowParts(search_of(1), [])
@@ -145,24 +134,20 @@ class NextParts(unittest.TestCase):
             parts._learn(Part((0, 1), range(7)), Done(ended, work), parts._windows, False)
             self.assertAlmostEqual(parts._sizes[7], size)
 
+    def test_closed_days_are_those_of_the_roster(self):
+        parts, other = RowParts(search_of(1), []), Windows(0, random.Random(1))
+        parts._sizes = dict.fromkeys(parts._sizes, 30)
+        days = {range(first, first + length) for length in parts._sizes for first in range(8 - length)}
+        other.closed.update(days - {range(2, 6)})
+        parts._windows.closed.add(range(2, 6))
+        self.assertEqual(parts._next(parts._search, other).days, range(2, 6))
+        self.assertNotEqual(parts._next(parts._search, parts._windows).days, range(2, 6))
 
-class NextDives(unittest.TestCase):
-    def test_the_first_dive_has_no_chance(self):
-        parts = RowParts(search_of(2), [None, None])
-        dives = [parts._next_dive() for _ in range(3)]
-        self.assertEqual((dives[0].share, dives[0].seed), (0.3, None))
-        self.assertIn(dives[1].share, (0.3, 0.2, 0.4))
-        self.assertIsNotNone(dives[1].seed)
-        # Two solvers have two first dives.
-        self.assertIsNone(dives[2])
-
-    def test_windows_take_the_place_of_later_dives_in_a_long_period(self):
-        for few, later in ((4, True), (1, False)):
-            with mock.patch.object(row_parts, "FEW_WEEKS", few):
-                parts = RowParts(search_of(2), [None])
-            self.assertIsNotNone(parts._next_dive())
-            parts._diving = 0
-            self.assertEqual(parts._next_dive() is not None, later)
+    def test_closed_days_of_all_nurses_come_again_if_no_others_are_left(self):
+        parts = RowParts(search_of(1), [])
+        parts._sizes = dict.fromkeys(parts._sizes, 30)
+        parts._windows.closed.update(range(first, first + length) for length in parts._sizes for first in range(8 - length))
+        self.assertEqual(parts._next(parts._search, parts._windows).nurses, EVERYONE)
 
 
 class Restarts(unittest.TestCase):
@@ -180,30 +165,78 @@ class Restarts(unittest.TestCase):
         # What is better than this roster is offered to the search.
         self.assertTrue(roster.keep(list(search.rows), "a dive"))
         self.assertEqual((roster.penalty, search.penalty), (best, best))
-        self.assertFalse(roster.swap(search.rows))
 
-    def test_the_first_of_several_threads_stays_with_the_best_roster(self):
-        of_period, of_week = (RowParts(search_of(weeks), [None, None]) for weeks in (2, 1))
-        self.assertEqual([of_period._restarts(number) for number in (0, 1)], [False, True])
-        self.assertEqual([of_week._restarts(number) for number in (0, 1)], [False, False])
-        self.assertTrue(RowParts(search_of(2), [None])._restarts(0))
-
-    def test_a_stuck_roster_is_left_for_a_new_one(self):
-        """Each neighborhood is in vain, and its work is a quarter of what a stuck roster has had."""
-        search, seen = search_of(2), []
-        parts, clock = RowParts(search, [None]), Clock(LONG)
-        parts._begun, parts._dived = 1, 1e9
+    def seen(self, parts, number, most):
+        """Whether the rosters of this thread's first neighborhoods are the best one. Each is in vain, with a quarter of the work after which a
+        roster is stuck."""
+        search, seen, clock = parts._search, [], Clock(LONG)
 
         def improve(part, solver, _clock, roster):
             seen.append(roster)
-            if len(seen) == 15:
+            if len(seen) == most:
                 clock.stop()
             return Done(True, STUCK_WORK // 4 + 1)
 
-        with mock.patch.object(parts, "improve", improve):
-            with mock.patch.object(parts, "_restarted", lambda *_: search.restart(search.rows)), self.assertRaises(TimeIsOver):
-                parts._work(None, clock, 0)
-        self.assertEqual([roster is search for roster in seen], [True] * 4 + [False] * 4 + [True] * 4 + [False] * 3)
+        with mock.patch.object(parts, "improve", improve), self.assertRaises(TimeIsOver):
+            with mock.patch.object(parts, "_dive", lambda _, __, dive: ([], math.inf) if dive.penalty else ([list(search.rows)], 1)):
+                parts._work(None, clock, number)
+        return [roster is search for roster in seen], len({id(roster) for roster in seen})
+
+    def test_a_stuck_roster_is_left_for_a_new_one(self):
+        # The first thread comes back to the best roster, and the others have one new roster after another.
+        for number, wanted, rosters in ((0, [True] * 4 + [False] * 4 + [True] * 4 + [False], 3), (1, [True] * 4 + [False] * 9, 4)):
+            self.assertEqual(self.seen(RowParts(search_of(2), [None, None]), number, 13), (wanted, rosters), number)
+
+    def test_a_week_with_a_small_gap_has_one_roster(self):
+        search = search_of(1)
+        search.bound = (search.penalty - 5) * POINT
+        self.assertEqual(self.seen(RowParts(search, [None, None]), 1, 9), ([True] * 9, 1))
+
+    def test_a_roster_that_gets_better_is_not_stuck(self):
+        search, seen, clock = search_of(2), [], Clock(LONG)
+        parts = RowParts(search, [None, None])
+
+        def improve(_part, _solver, _clock, roster):
+            seen.append(roster)
+            if len(seen) == 13:
+                clock.stop()
+            # The second neighborhood of the best roster, and that of the next roster, which makes the best one no better.
+            roster.penalty -= 5 if len(seen) in (2, 8) else 0
+            return Done(True, STUCK_WORK // 4 + 1)
+
+        with mock.patch.object(parts, "improve", improve), self.assertRaises(TimeIsOver):
+            with mock.patch.object(parts, "_dive", lambda _, __, dive: ([], math.inf) if dive.penalty else ([list(search.rows)], 1)):
+                parts._work(None, clock, 1)
+        self.assertEqual([seen.index(roster) for roster in seen], [0] * 6 + [6] * 6 + [12])
+
+    def test_a_new_roster_is_the_best_one_of_a_dive_by_chance(self):
+        search, dives, clock = search_of(2), [], Clock(LONG)
+        parts, best = RowParts(search, [None, None]), list(search.rows)
+
+        def dive(_solver, _clock, task):
+            dives.append(task)
+            if len(dives) == 3:
+                clock.stop()
+            return ([], math.inf) if task.penalty else ([[OFF * 2] * 30, best], 1)
+
+        def improve(_part, _solver, _clock, roster):
+            self.assertEqual(roster.rows, best)
+            return Done(True, STUCK_WORK + 1)
+
+        with mock.patch.multiple(parts, improve=improve, _dive=dive), self.assertRaises(TimeIsOver):
+            parts._work(None, clock, 0)
+        self.assertEqual([(task.seed is None, task.penalty) for task in dives], [(True, search.penalty)] + [(False, None)] * 2)
+
+    def test_in_a_week_with_a_small_gap_the_first_thread_begins_with_all_nurses(self):
+        search, seen = search_of(1), []
+        search.bound = (search.penalty - 5) * POINT
+        parts = RowParts(search, [None, None])
+        for number in range(2):
+            with mock.patch.object(parts, "_dive") as dive, mock.patch.object(RowSearch, "is_proved", True):
+                with mock.patch.object(parts, "improve", lambda part, *_: seen.append(part)):
+                    parts._work(mock.Mock(), Clock(LONG), number)
+            dive.assert_not_called()
+        self.assertEqual(seen, [Part(EVERYONE, range(7), limited=False)])
 
 
 class DiveTest(HelperTest):
@@ -227,14 +260,16 @@ class DiveTest(HelperTest):
 class Dives(DiveTest):
     def test_parts_dive_in_a_period_and_if_the_gap_is_wide(self):
         search = self.generated()
-        search.begin(matched_rows(search.plan, search.pricing.crews, lambda: None), None)
+        search.begin(all_off(search.plan), None)
         before, parts = search.penalty, RowParts(search, [self.solver])
         parts._dive(self.solver, search.clock, Dive(0.12, None, before))
         self.assertLess(search.penalty, before)
-        self.assertEqual(parts._dived, 0)
         search.penalty = search.lower_bound
-        parts._dive(self.solver, search.clock, Dive(0.12, None, search.penalty))
-        self.assertGreater(parts._dived, 0)
+        # Rosters that are no better are asked for only without a penalty.
+        self.assertEqual(parts._dive(self.solver, search.clock, Dive(0.12, None, search.penalty))[0], [])
+        found, work = parts._dive(self.solver, search.clock, Dive(0.12, None, None))
+        self.assertTrue(found and 1 < work < math.inf)
+        self.assertEqual(parts._dive(self.solver, Clock(0.0), Dive(0.12, None, None)), ([], math.inf))
         self.assertTrue(parts._dives)
         week = search_of(1)
         week.bound, parts = (week.penalty - 5) * POINT, RowParts(week, [])

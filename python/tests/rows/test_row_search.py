@@ -11,12 +11,12 @@ from unittest import mock
 
 from ward import ENOUGH, HAS_CBC, ROOT, HelperTest, files, records
 
-from inrc2pb.rows import row_generation, row_program, row_run
+from inrc2pb.rows import row_run
 from inrc2pb.programs.clock import Clock, TimeIsOver
 from inrc2pb.solvers.answers import MAX_FAULTS, Chosen, SolverFault
 from inrc2pb.solvers.linear_solvers import LinearSolver
 from inrc2pb.solvers.resident_program import Column, LinearProgram
-from inrc2pb.rows.first_rows import Descent, matched_rows
+from inrc2pb.rows.descent import Descent, all_off
 from inrc2pb.rows.plan import Plan
 from inrc2pb.rows.pricing import Crews, Pricing
 from inrc2pb.programs.processes import Processes
@@ -78,6 +78,22 @@ class RowSearches(HelperTest):
                 search = self.run_rows(week_of(name)).search
                 self.assertEqual((search.penalty, search.lower_bound, search.is_proved), (optimum, optimum, True))
 
+    def test_a_first_roster_without_a_solver(self):
+        week = week_of("last60")
+        plan = Plan.of(week.scenario, week.history, [week.data])
+        pricing = Pricing(plan, Crews(plan), lambda: None)
+        search = RowSearch(pricing, None, Clock(600), lambda rows, finder: search.value_of(rows), lambda: None)
+        search.begin(all_off(plan), None)
+        rows = all_off(plan)
+        for _ in range(3):
+            descent = Descent(pricing, rows)
+            self.assertGreater(descent.sweep(lambda: None), 0)
+            rows = descent.rows
+        self.assertEqual(search.rows, rows)
+        self.assertEqual(search.penalty, search.value_of(rows))
+        cells = staffed(plan, pricing.crews, rows).cells
+        self.assertEqual((first_broken(week, cells), sum(costs(week, cells).values())), (None, search.penalty))
+
     @unittest.skipUnless(HAS_CBC, "needs cbc")
     def test_weeks_whose_first_rows_are_no_roster(self):
         week = week_of("n005w4")
@@ -115,8 +131,23 @@ class RowSearches(HelperTest):
         run = RowRun(plan, solver, Clock(600.0), lambda rows, _finder: None, lambda: None)
         run._sweeps = mock.Mock(end=lambda: order.append("sweeps"))
         with mock.patch.object(row_run, "RowParts", return_value=mock.Mock(run=lambda clock: order.append("parts"))):
-            run._improve(mock.Mock(is_proved=False), solver, Clock(600.0), mock.Mock())
+            run._improve(mock.Mock(is_proved=False), solver, Clock(600.0))
         self.assertEqual(order, ["sweeps", "parts"])
+
+    def test_a_week_has_more_dives_and_an_integer_program_before_its_parts(self):
+        week = week_of("n005w4")
+        for weeks in (1, 2):
+            plan = Plan.of(week.scenario, week.history, [week.data] * weeks)
+            run = RowRun(plan, mock.Mock(), Clock(600.0), lambda rows, _finder: None, lambda: None)
+            search, rows = mock.Mock(is_proved=False), [[bytes(7)], None] * 3
+            search.dive.side_effect = list(rows)
+            with mock.patch.object(row_run, "RowParts") as parts:
+                run._improve(search, mock.Mock(), Clock(600.0))
+            shares = [called.args[1] for called in search.dive.call_args_list]
+            self.assertEqual(shares, list(row_run.MORE_DIVES) if weeks == 1 else [])
+            # Only rows that a dive found are kept.
+            self.assertEqual([called.args[0] for called in search.keep.call_args_list], [[bytes(7)]] * 3 if weeks == 1 else [])
+            self.assertEqual((search.choose.call_count, parts.return_value.run.call_count), (2 - weeks, 1))
 
     def test_a_tree_of_a_long_period_begins_at_a_small_gap(self):
         week = week_of("n005w4")
@@ -128,12 +159,6 @@ class RowSearches(HelperTest):
             search.gap.return_value = gap
             with mock.patch.object(row_run, "FEW_WEEKS", few):
                 self.assertEqual(run._is_narrow(search), narrow)
-
-    @unittest.skipUnless(HAS_CBC, "needs cbc")
-    def test_columns_that_were_dropped_come_back(self):
-        with mock.patch.multiple(row_generation, KEPT=2, MOST_USED=3, LEAST_USED=0):
-            search = self.run_rows(week_of("thirty")).search
-        self.assertEqual((search.penalty, search.lower_bound), (605, 605))
 
     @unittest.skipUnless(HAS_CBC, "needs cbc")
     def test_held_rows_and_early_charges(self):
@@ -213,7 +238,7 @@ class RowSearches(HelperTest):
         self.addCleanup(solver.close)
         pricing = Pricing(plan, Crews(plan), lambda: None)
         search = WeekDives(pricing, solver, Clock(600), lambda rows, finder: search.value_of(rows), lambda: None)
-        search.begin(matched_rows(plan, search.pricing.crews, lambda: None), None)
+        search.begin(all_off(plan), None)
         search.generate(search.clock)
         before = search.penalty
         with mock.patch.object(WeekDives, "_dive", side_effect=TimeIsOver):
@@ -244,9 +269,61 @@ class RowSearches(HelperTest):
         ):
             self.assertEqual(self.chosen(names, proved), claims)
 
-    def test_a_program_with_some_places_of_each_row_claims_nothing(self):
-        with mock.patch.object(row_program, "MOST_LINKS", -1):
-            self.assertEqual(self.chosen(None, True), False)
+    @unittest.skipUnless(HAS_CBC, "needs cbc")
+    def test_a_week_dives_if_no_row_is_missing(self):
+        week = week_of("n005w4")
+        solver = LinearSolver(Processes(), self.folder, self.fail)
+        self.addCleanup(solver.close)
+        for weeks, dives in ((1, 1), (2, 0)):
+            plan = Plan.of(week.scenario, week.history, [week.data] * weeks)
+            run = RowRun(plan, solver, Clock(600.0), lambda rows, _finder: run.search.value_of(rows), lambda: None)
+            with mock.patch.object(WeekDives, "dive", return_value=None) as dive, mock.patch.object(RowRun, "_close_gap"):
+                run.run()
+            self.assertEqual(dive.call_count, dives)
+
+    @unittest.skipUnless(HAS_CBC, "needs cbc")
+    def test_sweeps_need_a_plan(self):
+        week = week_of("n005w4")
+        solver = LinearSolver(Processes(), self.folder, self.fail)
+        self.addCleanup(solver.close)
+        plan = Plan.of(week.scenario, week.history, [week.data, week.data])
+        for penalty in (None, 10_000):
+            run = RowRun(plan, solver, Clock(600.0), lambda rows, _finder: penalty, lambda: None)
+            with mock.patch.object(row_run, "FEW_WEEKS", 1), mock.patch.object(row_run, "Sweeps") as sweeps:
+                with mock.patch.object(WeekDives, "dive", return_value=None), mock.patch.object(RowRun, "_close_gap"):
+                    run.run()
+            self.assertEqual(sweeps.called, penalty is not None)
+
+    def test_a_tree_does_not_begin_at_a_wide_gap(self):
+        week = week_of("n005w4")
+        run = RowRun(Plan.of(week.scenario, week.history, [week.data]), None, Clock(600.0), lambda rows, _finder: None, lambda: None)
+        for answers, begins in (([False, True], 1), ([False], 0)):
+            clock = Clock(600.0)
+
+            def is_narrow(_search):
+                if len(answers) == 1 and not begins:
+                    clock.stop()
+                return answers.pop(0)
+
+            with mock.patch.object(run, "_is_narrow", is_narrow), mock.patch.object(run, "_run_tree") as tree:
+                with mock.patch.object(row_run, "WAIT_SECONDS", 0):
+                    run._close_cases(mock.Mock(penalty=None), None, mock.Mock(), clock)
+            self.assertEqual(tree.call_count, begins)
+
+    def test_a_proved_plan_is_not_improved(self):
+        week = week_of("n005w4")
+        run = RowRun(Plan.of(week.scenario, week.history, [week.data] * 2), None, Clock(600.0), lambda rows, _finder: None, lambda: None)
+        for is_proved in (True, False):
+            with mock.patch.object(row_run, "RowParts") as parts:
+                run._improve(mock.Mock(is_proved=is_proved), mock.Mock(), Clock(600.0))
+            self.assertEqual(parts.called, not is_proved)
+
+    def test_first_rows_below_minimums_are_not_offered(self):
+        week, finders = week_of("n005w4"), []
+        plan = Plan.of(week.scenario, week.history, [week.data])
+        run = RowRun(plan, None, Clock(600.0), lambda _rows, finder: finders.append(finder), lambda: None, all_off(plan))
+        run.run()
+        self.assertEqual(finders, ["one nurse after another"])
 
 
 if __name__ == "__main__":

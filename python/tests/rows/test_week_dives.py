@@ -1,23 +1,25 @@
 """Tests of dives that fix the weeks of nurses."""
 
 import itertools
+import math
 import pickle
 import random
 import unittest
 from unittest import mock
 
-from test_row_parts import CHOICES, LONG, DiveTest, search_of
+from test_row_parts import CHOICES, EARLY, LONG, OFF, DiveTest, search_of
 from ward import HAS_CBC
 
 from inrc2pb.programs.clock import Clock, TimeIsOver
 from inrc2pb.rows import row_parts, week_dives
-from inrc2pb.rows.first_rows import matched_rows
+from inrc2pb.rows.descent import all_off
 from inrc2pb.rows.plan import POINT
-from inrc2pb.rows.part_search import Dive, PartSearch
+from inrc2pb.rows.part_search import Dive, Done, PartSearch
 from inrc2pb.rows.row_parts import RowParts
 from inrc2pb.rows.row_program import RowProgram
 from inrc2pb.rows.week_dives import WeekDives, _Week
-from inrc2pb.solvers.resident_program import DUAL, INFEASIBLE, PRIMAL
+from inrc2pb.rows.workers import Worker
+from inrc2pb.solvers.resident_program import DUAL, INFEASIBLE, PRIMAL, LinearProgram
 
 
 class Kept(unittest.TestCase):
@@ -103,9 +105,9 @@ class Dives(DiveTest):
         # The rows that the dive found are in the whole program.
         self.assertIs(search.program, whole)
         self.assertGreater(len(whole.columns), before)
-        self.assertEqual(whole.used, list(range(len(whole.columns))))
+        self.assertFalse(whole._shut)
         for nurse, row in enumerate(rows):
-            self.assertFalse(whole.add(nurse, row, search.pricing.cost(nurse, row), [])[1])
+            self.assertFalse(whole.add(nurse, row, search.pricing.cost(nurse, row)))
 
     def test_a_dive_of_another_process_begins_at_the_solution_of_the_whole_program(self):
         search, offered = self.generated(), []
@@ -140,7 +142,7 @@ class Dives(DiveTest):
 
     def test_a_dive_that_its_time_ends(self):
         search = self.generated()
-        search.begin(matched_rows(search.plan, search.pricing.crews, lambda: None), None)
+        search.begin(all_off(search.plan), None)
         before, pricing, fix = search.penalty, search.pricing, search._fix
 
         def end(*words):
@@ -156,7 +158,7 @@ class Dives(DiveTest):
     def test_weeks_in_order(self):
         search = self.generated()
         left = [_Week(nurse, number) for number in range(2) for nurse in range(30)]
-        (ordered, some), (free, more) = (search._chosen(search.solved, left, 0.5, 0.0, None, in_order) for in_order in (True, False))
+        (ordered, some), (free, more) = (search._chosen(search.solved, left, 0.5, None, in_order) for in_order in (True, False))
         shares = search._shares(search.solved, left)
         whole = {week for week in left if max(shares[week].values()) > week_dives.WHOLE}
         others = [week for week in left if week not in whole]
@@ -169,11 +171,26 @@ class Dives(DiveTest):
         weights = [max(shares[week].values()) for week in free][-more:]
         self.assertEqual(weights, sorted(weights, reverse=True))
 
-    def test_in_a_short_time_more_weeks_are_fixed_at_once(self):
-        search = self.generated()
+    def test_a_dive_by_chance_prefers_the_choices_of_the_best_roster(self):
+        search, chance = self.generated(), random.Random(1)
+        off = bytes(7)
+        shares = {off: 0.4, b"\1" + off[1:]: 0.5}
+        search.rows = [off + off] * 30
+        self.assertEqual(list(search._guided(_Week(3, 1), shares).values()), [0.4 * 1.5, 0.5])
+        search.rows = None
+        self.assertEqual(search._guided(_Week(3, 1), shares), shares)
         left = [_Week(nurse, number) for number in range(2) for nurse in range(30)]
-        counts = [search._chosen(search.solved, left, 0.01, hurry, None, True)[1] for hurry in (0.0, 0.2, 0.4)]
-        self.assertEqual(counts, sorted(set(counts)))
+        of_weeks = search._shares(search.solved, left)
+        # The rows of the smallest shares, which count more only by chance.
+        search.rows = [
+            b"".join(min(week, key=week.__getitem__) for week in (of_weeks[_Week(n, 0)], of_weeks[_Week(n, 1)])) for n in range(30)
+        ]
+        fixed = [search._chosen(search.solved, left, 0.3, seed, False)[0] for seed in (None, None, chance, chance)]
+        self.assertEqual(fixed[0], fixed[1])
+        self.assertTrue(all(of_weeks[week][choices] == max(of_weeks[week].values()) for week, choices in fixed[0].items()))
+        self.assertFalse(all(of_weeks[week][choices] == max(of_weeks[week].values()) for week, choices in fixed[2].items()))
+        # The order of the weeks is by chance, too.
+        self.assertNotEqual(list(fixed[2]), list(fixed[3]))
 
     def test_a_fixing_that_costs_too_much_is_undone_and_half_of_it_fixed(self):
         search, fixings = self.generated(), []
@@ -185,7 +202,7 @@ class Dives(DiveTest):
             return fix(weeks, others)
 
         with mock.patch.object(search, "_fix", see):
-            weeks, others = search._chosen(search.solved, left, 0.5, 0.0, None, False)
+            weeks, others = search._chosen(search.solved, left, 0.5, None, False)
             fixing = search._fix(weeks, others)
             self.assertIsNot(search.pricing, before)
             halved = search._halved(fixing)
@@ -215,14 +232,6 @@ class Dives(DiveTest):
             self.assertLess(max(numbers[numbers.index(1) :]), numbers[0] // 2)
             self.assertLess(search.value_of(rows), search.lower_bound + 100)
 
-    def test_a_dropped_column_stays_out(self):
-        search = self.generated(1)
-        column = max(search.solved.shares, key=search.solved.shares.__getitem__)
-        search.program.drop([column])
-        search.program.shut([column])
-        search.program.free_all()
-        self.assertNotIn(column, search.program.solve(search.clock).shares)
-
     def test_the_next_share(self):
         steady, rising = 0.0, week_dives.LITTLE_RISE
         self.assertEqual([week_dives._next_share(0.1, most, steady) for most in (0.3, 0.15)], [0.2, 0.15])
@@ -249,18 +258,81 @@ class Dives(DiveTest):
         self.assertEqual(len(fixed), 60)
         self.assertTrue(all(week.of(rows[week.nurse]) == choices for week, choices in fixed.items()))
 
+    def test_weeks_without_other_choices_by_chance(self):
+        search, whole, week = self.generated(), _Week(3, 1), _Week(4, 1)
+        search.rows = [OFF * 2] * 30
+        with mock.patch.object(search, "_shares", return_value={whole: {EARLY: 1.0}, week: {EARLY: 0.3, OFF: 0.7}}):
+            weeks, others = search._chosen(search.solved, [whole, week], 0.3, random.Random(1), False)
+        self.assertEqual((list(weeks), others), ([whole, week], 1))
 
-class FirstDives(unittest.TestCase):
-    def test_each_solver_begins_a_period_with_a_dive_and_half_of_them_a_long_one(self):
-        for weeks, few, firsts in ((2, 4, 2), (2, 1, 1), (1, 4, 1)):
-            search = search_of(weeks)
-            search.bound = 0
+    def test_by_chance_choices_of_the_best_roster_are_fixed(self):
+        search, week, more, kept = self.generated(), _Week(3, 1), EARLY, OFF
+        search.rows = [OFF * 2] * 30
+        with mock.patch.object(search, "_shares", return_value={week: {more: 0.5, kept: 0.45}}):
+            for chance, choices in ((None, more), (random.Random(1), kept)):
+                self.assertEqual(search._chosen(search.solved, [week], 0.3, chance, False), ({week: choices}, 1))
+
+    def test_parts_apart_have_processes(self):
+        parts = RowParts(search_of(1), [self.solver], apart=True)
+        self.assertIsInstance(parts._searches[self.solver], Worker)
+
+
+class Columns(unittest.TestCase):
+    def test_columns_that_are_shut(self):
+        program = search_of(1).program
+        self.assertEqual([program.shut([0, 1]), program.shut([1, 2])], [[0, 1], [2]])
+        program.free([2, 3])
+        upper = [program._program._columns[program.columns[column].number].upper for column in range(4)]
+        self.assertEqual((program._shut, upper), ({0, 1}, [0.0, 0.0, math.inf, math.inf]))
+
+    def test_a_part_of_a_program_and_its_new_rows(self):
+        whole = search_of(1).program
+        before = list(whole.columns)
+        whole.shut([0])
+        part = whole.open_part(LinearProgram(None))
+        self.assertEqual([column[:3] for column in part.columns], [column[:3] for column in before[1:]])
+        # It knows its own rows only.
+        self.assertFalse(part.add(*before[1][:3]))
+        for row in (before[0], (3, EARLY, 5)):
+            self.assertTrue(part.add(*row[:3]))
+        part.iterations = 12
+        whole.take_new(part)
+        self.assertEqual([column[:3] for column in whole.columns], [column[:3] for column in before] + [(3, EARLY, 5)])
+        self.assertEqual(whole.iterations, 12)
+
+
+class NextDives(unittest.TestCase):
+    def test_each_thread_begins_a_period_with_a_dive_and_half_of_them_a_long_one(self):
+        for few, firsts in ((4, 2), (1, 1)):
             with mock.patch.object(row_parts, "FEW_WEEKS", few):
-                parts = RowParts(search, [None, None])
-            self.assertEqual(parts._firsts, firsts)
-            dives = [parts._next_dive() for _ in range(3)]
-            self.assertEqual([dive is None for dive in dives], [number >= firsts for number in range(3)])
-            self.assertEqual([dive.seed is None for dive in dives if dive], [True, False][:firsts])
+                parts = RowParts(search_of(2), [None, None])
+            self.assertEqual([parts._is_due(number, 0.0, 0) for number in range(2)], [True, firsts == 2])
+
+    def test_later_dives_have_a_part_of_the_work(self):
+        parts = RowParts(search_of(2), [None, None])
+        self.assertEqual([parts._is_due(1, dived, 1000) for dived in (200, 201, math.inf)], [True, False, False])
+        with mock.patch.object(row_parts, "FEW_WEEKS", 1):
+            self.assertFalse(RowParts(search_of(2), [None])._is_due(0, 1, 10**9))
+        week = search_of(1)
+        week.bound = (week.penalty - 5) * POINT
+        self.assertFalse(RowParts(week, [None])._is_due(0, 0.0, 1000))
+
+    def test_only_the_first_dive_of_the_first_thread_has_no_chance(self):
+        for number, steady in ((0, [True, False, False]), (1, [False] * 3)):
+            parts, dives, clock = RowParts(search_of(2), [None, None]), [], Clock(LONG)
+
+            def dive(_solver, _clock, task):
+                dives.append(task)
+                if len(dives) == 3:
+                    clock.stop()
+                return [], 1
+
+            with mock.patch.object(parts, "_dive", dive), mock.patch.object(parts, "improve", lambda *_: Done(True, 10)):
+                with self.assertRaises(TimeIsOver):
+                    parts._work(None, clock, number)
+            self.assertEqual([(task.seed is None, task.penalty) for task in dives], [(one, parts._search.penalty) for one in steady])
+            self.assertEqual([task.share for task in dives if task.seed is None], [0.3] * steady.count(True))
+            self.assertTrue(all(task.share in (0.3, 0.2, 0.4) for task in dives))
 
 
 if __name__ == "__main__":

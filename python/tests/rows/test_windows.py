@@ -10,7 +10,7 @@ from ward import HAS_CBC
 from inrc2pb.programs.clock import Clock, TimeIsOver
 from inrc2pb.rows import part_search, row_parts, windows
 from inrc2pb.rows.part_search import MOST_WORK, Done, Part, PartSearch
-from inrc2pb.rows.row_parts import STUCK_WORK, RowParts
+from inrc2pb.rows.row_parts import LONG_STUCK_WORK, RowParts
 from inrc2pb.rows.week_dives import WeekDives
 from inrc2pb.rows.windows import Sweeps, Windows
 from inrc2pb.rows.workers import Worker
@@ -34,9 +34,7 @@ class Order(unittest.TestCase):
 
     def test_rounds(self):
         some = Windows(6, random.Random(1))
-        self.assertTrue(some.are_new)
         found = all_of(some)
-        self.assertFalse(some.are_new)
         # There are three windows of four weeks, and two of five. The first round is without chance.
         self.assertEqual([len(days) // 7 for days, _ in found], [4] * 6 + [5] * 2)
         self.assertEqual([by_chance for _, by_chance in found], [False] * 3 + [True] * 5)
@@ -45,6 +43,17 @@ class Order(unittest.TestCase):
         some.open()
         self.assertFalse(some.are_over)
         self.assertEqual(len(all_of(some)), 8)
+
+    def test_closed_days_come_no_more(self):
+        some = Windows(6, random.Random(1))
+        some.closed.add(range(7, 35))
+        self.assertEqual(sorted(days.start for days, _ in all_of(some)), [0, 0, 0, 7, 14, 14])
+        some.open()
+        self.assertEqual(len(all_of(some)), 8)
+        some.open()
+        some.closed.update(windows.windows(6, 4) + windows.windows(6, 5))
+        self.assertTrue(some.are_over)
+        self.assertIsNone(some.next())
 
     def test_a_period_of_few_weeks_has_none(self):
         for weeks in (0, 4):
@@ -59,57 +68,45 @@ class AmongParts(unittest.TestCase):
             self.addCleanup(patch.stop)
         self.parts = RowParts(search_of(2), [])
 
-    def next(self, number=0):
-        return self.parts._next(self.parts._search, self.parts._windows, number)
+    def next(self):
+        return self.parts._next(self.parts._search, self.parts._windows)
 
-    def learn(self, part, done, is_better):
-        self.parts._learn(part, done, self.parts._windows, is_better)
-
-    def test_the_first_round_comes_before_other_neighborhoods(self):
-        first = [self.next() for _ in range(2)]
-        self.assertEqual({part.days for part in first}, {range(7), range(7, 14)})
-        self.assertEqual({(part.nurses, part.is_window, part.seed) for part in first}, {(EVERYONE, True, None)})
-        # After it windows have five times the work of each length.
-        self.parts._spent = dict.fromkeys(self.parts._spent, 1000)
-        self.learn(first[0], Done(True, 9000), False)
-        later = self.next()
-        self.assertTrue(later.is_window)
-        self.assertIsNotNone(later.seed)
-        self.learn(later, Done(True, 5001), False)
+    def test_windows_come_before_other_neighborhoods(self):
+        found = [self.next() for _ in range(4)]
+        for number, by_chance in ((0, False), (2, True)):
+            self.assertEqual({part.days for part in found[number : number + 2]}, {range(7), range(7, 14)})
+            self.assertEqual([part.seed is not None for part in found[number : number + 2]], [by_chance] * 2)
+        self.assertEqual({(part.nurses, part.is_window) for part in found}, {(EVERYONE, True)})
         self.assertFalse(self.next().is_window)
-        # Only the first thread has other neighborhoods while a window is left.
-        self.assertTrue(self.next(1).is_window)
-        self.assertFalse(self.next(1).is_window)
 
-    def test_windows_come_again_after_a_better_roster(self):
-        part, other = self.next(), Windows(2, random.Random(1))
-        self.next()
-        all_of(other)
-        # Another thread has found it.
-        self.learn(part, Done(True, 100, False), True)
-        self.assertFalse(self.parts._windows.are_new)
-        # It is better than the roster beside the best one only.
-        self.parts._learn(part, Done(True, 100, True), other, False)
-        self.assertEqual((other.are_new, self.parts._windows.are_new), (True, False))
-        all_of(other)
-        self.parts._learn(part, Done(True, 100, True), other, True)
-        self.assertEqual((other.are_new, self.parts._windows.are_new), (True, True))
+    def test_windows_and_closed_days_come_again_after_a_better_roster(self):
+        mine, other = self.parts._windows, Windows(2, random.Random(1))
+        part = self.next()._replace(is_window=False)
 
-    def test_a_roster_is_left_for_a_new_one_after_its_windows(self):
-        search, seen, clock = search_of(2), [], Clock(LONG)
-        parts = RowParts(search, [None, None])
-        parts._begun = 2
+        def learned(some, is_better, is_best):
+            """Which windows come again, and how many days are closed, after a neighborhood of all nurses on the first days."""
+            for one in (mine, other):
+                all_of(one)
+            self.parts._learn(part._replace(days=range(7)), Done(True, 100, is_better), some, is_best)
+            return [not one.are_over for one in (mine, other)], [len(one.closed) for one in (mine, other)]
 
-        def improve(part, _solver, _clock, roster):
-            seen.append((roster is search, part.is_window))
-            if len(seen) == 7:
-                clock.stop()
-            return Done(True, STUCK_WORK + 1)
+        self.assertEqual(learned(mine, False, False), ([False, False], [1, 0]))
+        self.assertEqual(learned(other, False, False), ([False, False], [1, 1]))
+        # Another thread has found a better roster meanwhile.
+        self.assertEqual(learned(mine, False, True), ([False, False], [1, 1]))
+        # This one is better than the roster beside the best one only.
+        self.assertEqual(learned(other, True, False), ([False, True], [1, 0]))
+        other.closed.add(range(7))
+        self.assertEqual(learned(other, True, True), ([True, True], [0, 0]))
 
-        with mock.patch.object(parts, "improve", improve), self.assertRaises(TimeIsOver):
-            with mock.patch.object(parts, "_restarted", lambda *_: search.restart(search.rows)):
-                parts._work(None, clock, 1)
-        self.assertEqual(seen, [(True, True)] * 4 + [(False, True)] * 3)
+    def test_a_window_is_closed_if_it_is_proved_that_it_makes_nothing_better(self):
+        mine, part = self.parts._windows, self.next()
+        for done, closed in ((Done(False, 100), set()), (Done(True, 100, True), set()), (Done(True, 100), {part.days})):
+            self.parts._learn(part, done, mine, False)
+            self.assertEqual(mine.closed, closed)
+        # Some nurses alone prove nothing of the others.
+        self.parts._learn(Part((3,), range(7, 14)), Done(True, 100), mine, False)
+        self.assertEqual(mine.closed, {part.days})
 
     def test_a_short_period_has_no_windows(self):
         with mock.patch.object(row_parts, "FEW_WEEKS", 2):
@@ -118,6 +115,42 @@ class AmongParts(unittest.TestCase):
     def test_the_work_of_a_window(self):
         self.assertEqual(Part(EVERYONE, range(28)).most_work, 2 * MOST_WORK)
         self.assertEqual(Part(EVERYONE, range(28), is_window=True).most_work, 6 * MOST_WORK)
+
+    def test_no_days_are_closed_if_another_thread_was_better_meanwhile(self):
+        part = self.next()
+        self.parts._learn(part, Done(True, 100), self.parts._windows, True)
+        self.assertEqual(self.parts._windows.closed, set())
+
+    def test_a_roster_is_left_for_a_new_one_after_its_windows(self):
+        # The first thread comes back to the best roster, whose windows are over.
+        first = [(True, True)] * 4 + [(False, True)] * 4 + [(True, False)] * 4 + [(False, True)]
+        for number, work, wanted in (
+            (1, LONG_STUCK_WORK + 1, [(True, True)] * 4 + [(False, True)] * 3),
+            (0, LONG_STUCK_WORK // 4 + 1, first),
+        ):
+            search, seen, clock = search_of(2), [], Clock(LONG)
+            parts = RowParts(search, [None, None])
+
+            def improve(part, _solver, _clock, roster):
+                seen.append((roster is search, part.is_window))
+                if len(seen) == len(wanted):
+                    clock.stop()
+                return Done(False, work)
+
+            with mock.patch.object(parts, "improve", improve), self.assertRaises(TimeIsOver):
+                with mock.patch.object(parts, "_dive", lambda *_: ([list(search.rows)], 1)):
+                    parts._work(None, clock, number)
+            self.assertEqual(seen, wanted)
+
+    def test_the_work_of_a_window_is_not_that_of_neighborhoods(self):
+        part, before = self.next(), (dict(self.parts._sizes), dict(self.parts._spent))
+        # The length of a window may be none of those of neighborhoods.
+        for days in (part.days, range(3)):
+            self.parts._learn(part._replace(days=days), Done(True, 100), self.parts._windows, False)
+            self.assertEqual((self.parts._sizes, self.parts._spent), before)
+
+    def test_a_single_solver_begins_a_long_period_with_a_dive(self):
+        self.assertTrue(RowParts(search_of(2), [None])._is_due(0, 0.0, 0))
 
 
 @unittest.skipUnless(HAS_CBC, "needs cbc")
@@ -135,7 +168,8 @@ class Searched(DiveTest):
                 with mock.patch.object(part_search, "LONG_DAYS", 7):
                     done = parts.improve(Clock(LONG), lambda *_: False, part, search.rows)
             choose.assert_not_called()
-            self.assertTrue(done.ended)
+            # Its prices do not prove that there is no better roster.
+            self.assertFalse(done.ended)
         self.assertEqual(seeds, [(part_search.WEEKS_SHARE, None), (part_search.WEEKS_SHARE, random.Random(5).random())])
 
     def test_sweeps_until_all_windows_are_in_vain(self):
@@ -158,12 +192,12 @@ class Searched(DiveTest):
     def test_sweeps_go_on_after_a_better_roster(self):
         search, seen = search_of(2), []
 
-        def do(_worker, _kind, task, _clock, _take):
-            seen.append(task[1].days)
+        def improve(_worker, _clock, _take, part, _rows):
+            seen.append(part.days)
             search.penalty -= 5 if len(seen) in (2, 3) else 0
             return Done(True, 0)
 
-        with mock.patch.object(windows, "FIRST_WINDOW", 1), mock.patch.object(Worker, "do", do):
+        with mock.patch.object(windows, "FIRST_WINDOW", 1), mock.patch.object(Worker, "improve", improve):
             sweeps = Sweeps(search, self.solver, Clock(LONG))
             sweeps._done.result()
             sweeps.end()
@@ -176,10 +210,17 @@ class Searched(DiveTest):
             sweeps.end()
             self.assertTrue(sweeps._done.done())
             # What they fail at is found in the search, too.
-            with mock.patch.object(Worker, "do", side_effect=SolverFault("cbc is broken")):
+            with mock.patch.object(Worker, "improve", side_effect=SolverFault("cbc is broken")):
                 sweeps = Sweeps(search, self.solver, Clock(LONG))
                 sweeps.end()
             self.assertIsInstance(sweeps._done.exception(), SolverFault)
+
+    def test_a_window_whose_rows_are_not_better(self):
+        search = search_of(2)
+        parts, part = PartSearch(search.pricing, search.known(), self.solver), Part(EVERYONE, range(7), is_window=True)
+        with mock.patch.object(WeekDives, "dive", lambda found, *_: list(found.rows)):
+            with mock.patch.object(part_search, "LONG_DAYS", 7):
+                self.assertFalse(parts.improve(Clock(LONG), lambda *_: False, part, search.rows).ended)
 
 
 if __name__ == "__main__":

@@ -11,11 +11,11 @@ from test_processes import is_alive
 from test_row_parts import LONG, search_of
 from ward import ENOUGH, HAS_CBC, HelperTest
 
-from inrc2pb.programs.clock import Clock
+from inrc2pb.programs.clock import Clock, TimeIsOver
 from inrc2pb.programs.processes import Processes
 from inrc2pb.rows import workers
 from inrc2pb.rows.part_search import Dive, Done, Part, PartSearch
-from inrc2pb.rows.workers import PartWorker
+from inrc2pb.solvers.answers import MAX_FAULTS, SolverFault
 from inrc2pb.solvers.linear_solvers import LinearSolver
 
 PART = Part(tuple(range(0, 30, 3)), range(2, 6))
@@ -30,7 +30,6 @@ class Workers(HelperTest):
         known = self.search.known()._replace(program=self.search.program)
         self.own = PartSearch(self.search.pricing, known, self.solver)
         [self.worker] = workers.workers(known, [self.solver])
-        self.parts = PartWorker(self.worker, self.own)
         self.addCleanup(self.solver.close)
         self.addCleanup(self.worker.end)
 
@@ -51,34 +50,36 @@ class Workers(HelperTest):
         done, found = self.improve(self.own)
         self.assertTrue(done.ended and done.work and found)
         for _ in range(2):
-            self.assertEqual(self.improve(self.parts), (done, found))
+            self.assertEqual(self.improve(self.worker), (done, found))
 
     def test_a_dive_is_the_same(self):
         for task in (Dive(0.12, None, None), Dive(0.06, 5, None)):
             self.found = []
             done, own = self.own.dive(Clock(LONG), self.take, task), self.found
             self.found = []
-            self.assertEqual((self.parts.dive(Clock(LONG), self.take, task), self.found), (done, own))
+            self.assertEqual((self.worker.dive(Clock(LONG), self.take, task), self.found), (done, own))
             self.assertTrue(done.ended and own)
 
     def test_processes_that_end(self):
-        expected = self.improve(self.own)
         for script in ("import os; os.abort()", "print('no answer')", "import os; os.read(0, 9); os.write(1, b'\\0\\0\\0\\2no')"):
             with self.subTest(script=script), self.instead(script):
                 [worker] = workers.workers(self.search.known(), [self.solver])
-                self.assertEqual(self.improve(PartWorker(worker, self.own)), expected)
-                self.assertEqual((worker._faults, worker._running), (3, None))
+                for _ in range(2):
+                    with self.assertRaisesRegex(SolverFault, "a process of the search fails"):
+                        self.improve(worker)
+                self.assertEqual((worker._faults, worker._running, self.found), (3, None, []))
 
     def test_a_process_that_is_killed_once(self):
-        expected = self.improve(self.parts)
+        expected = self.improve(self.worker)
         os.killpg(self.worker._running.process.pid, signal.SIGKILL)
-        self.assertEqual(self.improve(self.parts), expected)
+        self.assertEqual(self.improve(self.worker), expected)
         self.assertIsNotNone(self.worker._running)
+        self.assertEqual(self.worker._faults, 0)
 
     def test_a_process_that_hangs(self):
         with self.instead("import time; time.sleep(1000)"), mock.patch.object(workers, "GRACE", 0.1):
             began = time.monotonic()
-            self.assertEqual(self.improve(self.parts, 0.5), (Done(False, 0), []))
+            self.assertEqual(self.improve(self.worker, 0.5), (Done(False, 0), []))
         self.assertLess(time.monotonic() - began, ENOUGH)
         self.assertEqual(self.processes._running, {})
 
@@ -91,7 +92,7 @@ class Workers(HelperTest):
 
         with self.instead("import time; time.sleep(1000)"):
             threading.Timer(0.3, stop).start()
-            self.assertFalse(self.parts.improve(clock, self.take, PART, self.search.rows).ended)
+            self.assertFalse(self.worker.improve(clock, self.take, PART, self.search.rows).ended)
         self.worker.end()
         self.assertEqual(self.processes._running, {})
 
@@ -99,7 +100,7 @@ class Workers(HelperTest):
         reading, writing = os.pipe()
         parent = os.fork()
         if not parent:
-            self.improve(self.parts)
+            self.improve(self.worker)
             os.write(writing, str(self.worker._running.process.pid).encode())
             os.kill(os.getpid(), signal.SIGKILL)
         os.waitpid(parent, 0)
@@ -110,6 +111,23 @@ class Workers(HelperTest):
         while is_alive(number) and time.monotonic() < limit:
             time.sleep(0.05)
         self.assertLess(time.monotonic(), limit)
+
+    def test_a_process_that_fails_is_not_started_again(self):
+        with mock.patch.object(workers.Worker, "_start", side_effect=OSError) as start:
+            for _ in range(2):
+                with self.assertRaises(SolverFault):
+                    self.improve(self.worker)
+        self.assertEqual(start.call_count, MAX_FAULTS)
+
+    def test_a_case_without_time(self):
+        with self.assertRaises(TimeIsOver):
+            self.worker.close(Clock(0.0), self.take, None)
+
+    def test_a_fault_of_all_solvers_of_a_process(self):
+        with mock.patch.object(self.worker, "_answer", return_value=SolverFault("Clp's library ended")) as answer:
+            with self.assertRaisesRegex(SolverFault, "Clp's library ended"):
+                self.improve(self.worker)
+        self.assertEqual(answer.call_count, 1)
 
 
 if __name__ == "__main__":

@@ -207,7 +207,7 @@ class Commands(FakeProver):
 
     def test_a_bound_that_is_lower_or_too_high(self):
         report, _ = self.improve("130")
-        self.assertRegex(report, f"\nlower bound 130 \\({PROVER}\\)(: the gap is 5, 3.7 %|\nno roster costs less, says cbc.*)\n$")
+        self.assertRegex(report, f"\nlower bound 130 \\({PROVER}\\): the gap is 5, 3.7 %\n$")
         report, said = self.improve("140")
         self.assertTrue(report.endswith("\nno lower bound\n"), report)
         self.assertEqual(said.count(f"the lower bound 140 ({PROVER}) is above the penalty of a roster: it is wrong\n"), 1)

@@ -15,7 +15,7 @@ from unittest import mock
 from ward import EARLY_ANSWER, ENOUGH, HAS_CBC, HELPERS, ROOT, ROSTER, SCENARIO, THIRTY_FILES, WEEK, WEEK_FILES, WEEK_OPTIONS
 from ward import HelperTest, program, run
 
-from inrc2pb.search import bounds
+from inrc2pb.search import bounds, improving
 from inrc2pb.search.bounds import PLAIN, PROVER, Bound
 from inrc2pb.search.improving import SearchResult, improve, search
 from inrc2pb.rows.pricing import Pricing
@@ -115,23 +115,27 @@ class WrongNumbers(HelperTest):
         with too_much, mock.patch.object(bounds, "find_prover", lambda: None):
             found = search(WEEK_FILES, target, None, 120.0, None, None, Progress(None))
         self.assertIsInstance(found.fault, WrongBound)
-        self.assertEqual((found.lines(), found.proved, found.claimed_by), (["no lower bound"], False, ""))
+        self.assertEqual((found.lines(), found.proved), (["no lower bound"], False))
         self.assertEqual(program.penalty_of(WEEK_FILES, target), found.report.penalty)
 
 
 class Lines(unittest.TestCase):
-    def test_a_claim_and_a_broken_absence(self):
+    def test_a_proof_and_a_broken_absence(self):
         for penalty, bound, broken, lines in (
-            (20, Bound(15, PROVER), [], ["", "no roster costs less, says cbc; without that only the lower bound is known"]),
             (15, Bound(15, PROVER), [], ["", "no roster costs less, proved"]), (15, Bound(15, PLAIN), [], ["", "no roster costs less"]),
-            (15, Bound(15, "cbc"), [], ["", "no roster costs less, says cbc"]),
             (15, Bound(15, PROVER), ["a row"], ["", "no roster costs less, but this one breaks an absence"]),
             (15, Bound(15, PROVER, "limits"), [], [" with all limits", "no roster that keeps all limits costs less, proved"]),
         ):  # fmt: skip
-            found = SimpleNamespace(bound=bound, claimed_by="cbc", verdict="")
+            found = SimpleNamespace(bound=bound, verdict="")
             best = SimpleNamespace(breaks=lambda broken=broken: broken, exceeds=list, proved=True)
             result = SearchResult(SimpleNamespace(penalty=penalty), found, best, False, None)
             self.assertEqual(result.lines(), [f"lower bound 15{lines[0]} ({bound.by})", lines[1]])
+
+    def test_a_bound_below_the_penalty_is_no_proof(self):
+        for bound, proved in ((None, False), (Bound(10, PLAIN), False), (Bound(15, PLAIN), True)):
+            best = SimpleNamespace(penalty=15, report=lambda: SimpleNamespace(penalty=15), breaks=list, exceeds=list, proved=False)
+            found = improving._result(best, SimpleNamespace(bound=bound, verdict=""), False, None, 1.0, [])
+            self.assertEqual((found.proved, best.proved), (proved, proved))
 
 
 class BadInput(HelperTest):
