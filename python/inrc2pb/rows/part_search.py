@@ -57,7 +57,7 @@ class Part(NamedTuple):
 
 class Dive(NamedTuple):
     """A dive over all nurses and days: the share of the rows that it fixes at once, the seed of its chance, None without chance, and what
-    its roster must cost less than."""
+    its roster must cost less than, if it must."""
 
     share: float
     seed: Optional[int]

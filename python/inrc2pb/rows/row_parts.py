@@ -26,10 +26,10 @@ LITTLE_SHARE, QUICK_SHARE, MOST_SECONDS = 0.04, 0.4, 60.0
 MUCH_GROWTH, GROWTH, SHRINKAGE = 1.6, 1.15, 0.8
 # The shares of the days that neighborhoods of a week have, and those of a period.
 WEEK_SHARES, PERIOD_SHARES = (0.35, 0.5, 0.75, 1.0), (0.125, 0.25, 0.5, 0.75, 1.0)
-# Above this gap, in thousandths, dives are made in a week, too. The shares that they fix at once, and the part of the work of neighborhoods
-# that they have.
+# Above this gap, in thousandths, dives are made in a week, too. The shares that they fix at once. A dive follows when the work of dives is
+# at most this part of the work of neighborhoods.
 WIDE_GAP, FIXED_SHARES, DIVES = 6 * STEP * POINT, (0.3, 0.2, 0.4), 0.2
-# A roster that was not made better by so much work, and in a long period by so much, is left for that of a new dive.
+# After so much work in vain, and in a long period after the second number, a thread leaves its roster for the roster of a new dive.
 STUCK_WORK, LONG_STUCK_WORK = 20 * MOST_WORK, 10 * MOST_WORK
 # Up to this part of the bound a gap is small. The share of the time that is left for an integer program over the known rows of all
 # nurses then.
@@ -88,7 +88,8 @@ class RowParts:
 
     def _work(self, solver: LinearSolver, clock: Clock, number: int) -> None:
         """One thread: dives, if they are worth their time, and neighborhoods of sizes that its time allows. In a week with a small gap the
-        first thread begins with all nurses. A stuck roster is left for that of a new dive, and in the first thread that for the best one.
+        first thread begins with all nurses. A thread leaves a roster that is stuck for the roster of a new dive. If this one is stuck, too,
+        the first thread goes back to the best roster, and another thread dives again.
         """
         search = self._search
         if number == 0 and not self._dives and search.bound and search.gap() < SMALL_GAP * search.bound:
@@ -98,16 +99,18 @@ class RowParts:
         while not search.is_proved:
             clock.check()
             if self._is_due(number, dived, spent):
-                dived += self._dive(solver, clock, self._dive_of(not (number or dived), search.penalty))[1]
+                dived += self._dive(solver, clock, self._dive_of(number == 0 and not dived, search.penalty))[1]
                 continue
             if vain > (LONG_STUCK_WORK if self._is_long else STUCK_WORK) and windows.are_over and self._dives:
-                found = self._dive(solver, clock, self._dive_of(False, None))[0] if roster is search or number else None
+                goes_back = number == 0 and roster is not search
+                found = [] if goes_back else self._dive(solver, clock, self._dive_of(False, None))[0]
                 roster, vain = search.restart(found[-1]) if found else search, 0
                 windows = self._windows if roster is search else self._new_windows()
             penalty, best = roster.penalty, search.penalty
             part = self._next(roster, windows)
             done = self.improve(part, solver, clock.part(MOST_SECONDS), roster)
-            vain, spent = 0 if roster.penalty != penalty else vain + done.work, spent + done.work
+            vain = 0 if roster.penalty != penalty else vain + done.work
+            spent += done.work
             self._learn(part, done, windows, search.penalty != best)
         clock.stop()
         solver.end_all()
@@ -122,8 +125,8 @@ class RowParts:
         return len(self._search.plan.weeks) > 1 or (self._search.bound is not None and self._search.gap() > WIDE_GAP)
 
     def _is_due(self, number: int, dived: float, spent: int) -> bool:
-        """Whether the thread of this number is to dive after so much work of its dives and of its neighborhoods. In a long period, in which
-        windows take the place of later dives, half of the threads begin with one."""
+        """Whether the thread of this number dives next, after so much work of its dives and of its neighborhoods. In a long period half of
+        the threads begin with a dive, and windows take the place of later dives."""
         if self._is_long:
             return not dived and number < max(1, len(self._solvers) // 2)
         return self._dives and dived <= DIVES * spent
@@ -136,8 +139,8 @@ class RowParts:
             return Dive(self._chance.choice(FIXED_SHARES), self._chance.randrange(MOST_SEED), penalty)
 
     def _dive(self, solver: LinearSolver, clock: Clock, dive: Dive) -> Tuple[List[List[NurseWeek]], float]:
-        """A dive over all nurses and days. Returns the rows that it found, the best last, and its work. That is infinite if its time ended
-        it, so that it is the last one."""
+        """A dive over all nurses and days. Returns the rows that it found, the best last, and its work. If its time ended the dive, its
+        work is infinite, so that no other one follows."""
         found: List[List[NurseWeek]] = []
 
         def take(rows: List[NurseWeek], finder: str) -> bool:

@@ -66,7 +66,7 @@ class RowProgram:
         if (nurse, row) in self._known:
             return False
         crews = [of_day[choice] for of_day, choice in zip(self._crews.of[nurse], row)]
-        entries = [(nurse, 1.0), *((place, 1.0) for place in map(self._row_of, crews) if place is not None)]
+        entries = [(nurse, 1.0), *((number, 1.0) for number in map(self._row_of, crews) if number is not None)]
         self._known.add((nurse, row))
         self.columns.append(RowColumn(nurse, row, cost, self._program.add_columns([Column(cost, *_FREE, entries)])))
         return True

@@ -31,8 +31,8 @@ from .workers import workers
 ROWS_SHARE, DIVE_SHARE, LAST_DIVE_SHARE, KNOWN_SHARE = 0.5, 0.5, 0.8, 0.1
 # The shares of the rows that further dives in a week fix at once.
 MORE_DIVES = (0.15, 0.3, 0.0, 0.15, 0.08, 0.15)
-# Up to this gap, in thousandths, a tree of cases is worth its time, or up to this part of the bound, and in a long period, in which plans
-# get better for long, up to the second.
+# A tree of cases is worth its time if the gap, in thousandths, is at most the first number, or at most this part of the bound. The second
+# part is for a long period, in which plans get better for long.
 TREE_GAP, TREE_PART, LONG_TREE_PART = 4 * STEP * POINT, 0.1, 0.015
 # Seconds between two looks whether the gap is small.
 WAIT_SECONDS = 0.2

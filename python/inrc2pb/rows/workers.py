@@ -49,7 +49,7 @@ class _Running(NamedTuple):
 
 class Worker:
     """A process with what is known of a plan, and with solvers of its own, which does what a PartSearch and a CaseSearch do. It starts with
-    the first task. Some faults in a row are a SolverFault, and so is one of all solvers there."""
+    the first task. After some faults in a row, or if all of its solvers fail, a task ends with a SolverFault."""
 
     def __init__(self, solver: LinearSolver, known: Path) -> None:
         self._solver, self._known = solver, known

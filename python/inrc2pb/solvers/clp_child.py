@@ -23,11 +23,11 @@ _MOST_ITERATIONS = 2**31 - 1
 # Clp's statuses of a basis for a new column and a new row.
 AT_LOWER, _BASIC = b"\3", b"\1"
 _DOUBLE, _INT, _POINTER = ctypes.c_double, ctypes.c_int, ctypes.c_void_p
-# The functions that read an array of a model, the others that only get the model, those that change an array, and those that get a number.
+# Clp's functions that return an array of a model; others that get nothing but the model; and those that get an array, or a number, too.
 _READING = "getColLower getColUpper getRowLower getRowUpper getObjCoefficients dualRowSolution primalColumnSolution statusArray".split()
 _OF_MODEL = "deleteModel status numberIterations objectiveValue".split()
-_CHANGING = "chgColumnLower chgColumnUpper chgRowLower chgRowUpper chgObjCoefficients copyinStatus".split()
-_LIMITED = "setLogLevel setMaximumIterations dual primal".split()
+_WITH_ARRAY = "chgColumnLower chgColumnUpper chgRowLower chgRowUpper chgObjCoefficients copyinStatus".split()
+_WITH_NUMBER = "setLogLevel setMaximumIterations dual primal".split()
 # The status of Clp, the iterations, the value, and, if they are asked for, the rows' prices, the columns' values, and the statuses of the
 # columns and of the rows in the basis.
 Answer = Tuple[int, int, float, bytes, bytes, bytes, bytes]
@@ -42,9 +42,9 @@ def load() -> Any:
         getattr(clp, f"Clp_{name}").restype = _POINTER
     for name in (*_READING, *_OF_MODEL):
         getattr(clp, f"Clp_{name}").argtypes = [_POINTER]
-    for name in _CHANGING:
+    for name in _WITH_ARRAY:
         getattr(clp, f"Clp_{name}").argtypes = [_POINTER, _POINTER]
-    for name in _LIMITED:
+    for name in _WITH_NUMBER:
         getattr(clp, f"Clp_{name}").argtypes = [_POINTER, _INT]
     clp.Clp_setMaximumSeconds.argtypes = [_POINTER, _DOUBLE]
     return clp

@@ -202,12 +202,25 @@ class Runs(HelperTest):
         self.addCleanup(solver.close)
         return solver
 
-    def run_rows(self, seconds=600.0, **options):
-        """A search over the rows of a week that prices alone do not prove."""
+    def run_rows(self, until=None, **options):
+        """A search over the rows of a week that prices alone do not prove. It is stopped when its penalty and its bound are these."""
         week = files.read_files(FILES.scenario, FILES.history, FILES.week)
-        plan, bounds = Plan.of(week.scenario, week.history, [week.data]), []
-        offer = lambda rows, finder: run.search.value_of(rows) if run.search else None  # noqa: E731
-        run = RowRun(plan, self.solver(), Clock(seconds), offer, lambda: bounds.append(run.lower_bound), **options)
+        plan, bounds, clock = Plan.of(week.scenario, week.history, [week.data]), [], Clock(600.0)
+
+        def see(penalty):
+            if (penalty, run.lower_bound) == until:
+                clock.stop()
+
+        def offer(rows, _finder):
+            penalty = run.search.value_of(rows) if run.search else None
+            see(penalty)
+            return penalty
+
+        def heard():
+            bounds.append(run.lower_bound)
+            see(run.search.penalty)
+
+        run = RowRun(plan, self.solver(), clock, offer, heard, **options)
         run.run()
         self.assertEqual(bounds, sorted(bounds))
         return run
@@ -220,7 +233,7 @@ class Runs(HelperTest):
         self.assertEqual(CasePricing(run.plan, run.crews, lambda: None).bound_of(certificate), 135)
 
     def test_without_splits_the_certificate_is_one_leaf(self):
-        run = self.run_rows(seconds=4.0, splits=False)
+        run = self.run_rows(until=(135, 130), splits=False)
         self.assertEqual((run.search.penalty, run.lower_bound), (135, 130))
         [(case, leaf)] = run.certificate().leaves()
         self.assertEqual((case, leaf.prices), ((), run.search.prices))
