@@ -33,7 +33,7 @@ ROWS_SHARE, DIVE_SHARE, LAST_DIVE_SHARE, KNOWN_SHARE = 0.5, 0.5, 0.8, 0.1
 MORE_DIVES = (0.15, 0.3, 0.0, 0.15, 0.08, 0.15)
 # A tree of cases is worth its time if the gap, in thousandths, is at most the first number, or at most this part of the bound. The second
 # part is for a long period, in which plans get better for long.
-TREE_GAP, TREE_PART, LONG_TREE_PART = 4 * STEP * POINT, 0.1, 0.015
+TREE_GAP, TREE_PART, LONG_TREE_PART = 4 * STEP * POINT, 0.15, 0.015
 # Seconds between two looks whether the gap is small.
 WAIT_SECONDS = 0.2
 Found = TypeVar("Found")

@@ -155,7 +155,7 @@ class RowSearches(HelperTest):
             Plan.of(week.scenario, week.history, [week.data, week.data]), None, Clock(600.0), lambda rows, _finder: None, lambda: None
         )
         search = mock.Mock(penalty=0, bound=10_000_000)
-        for few, gap, narrow in ((2, 1_000_000, True), (2, 1_000_001, False), (1, 150_000, True), (1, 150_001, False)):
+        for few, gap, narrow in ((2, 1_500_000, True), (2, 1_500_001, False), (1, 150_000, True), (1, 150_001, False)):
             search.gap.return_value = gap
             with mock.patch.object(row_run, "FEW_WEEKS", few):
                 self.assertEqual(run._is_narrow(search), narrow)

@@ -310,7 +310,7 @@ class NextDives(unittest.TestCase):
 
     def test_later_dives_have_a_part_of_the_work(self):
         parts = RowParts(search_of(2), [None, None])
-        self.assertEqual([parts._is_due(1, dived, 1000) for dived in (200, 201, math.inf)], [True, False, False])
+        self.assertEqual([parts._is_due(1, dived, 1000) for dived in (1000, 1001, math.inf)], [True, False, False])
         with mock.patch.object(row_parts, "FEW_WEEKS", 1):
             self.assertFalse(RowParts(search_of(2), [None])._is_due(0, 1, 10**9))
         week = search_of(1)
