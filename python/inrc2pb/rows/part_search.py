@@ -56,8 +56,8 @@ class Part(NamedTuple):
 
 
 class Dive(NamedTuple):
-    """A dive over all nurses and days: the share of the rows that it fixes at once, the seed of its chance, None without chance, and what
-    its roster must cost less than, if it must."""
+    """A dive over all nurses and days: the share of the rows that it fixes at once, the seed of its chance, None without chance, and the
+    penalty below which its roster has to be, None without such a limit."""
 
     share: float
     seed: Optional[int]

@@ -24,11 +24,11 @@ FIRST_SIZE, LEAST_SIZE = 20.0, 4
 # not end by a smaller one. Work is the same on a busy machine. The most seconds of one.
 LITTLE_SHARE, QUICK_SHARE, MOST_SECONDS = 0.04, 0.4, 60.0
 MUCH_GROWTH, GROWTH, SHRINKAGE = 1.6, 1.15, 0.8
-# The shares of the days that neighborhoods of a week have, and those of a period.
+# The shares of the days that neighborhoods have in a week, and in a period.
 WEEK_SHARES, PERIOD_SHARES = (0.35, 0.5, 0.75, 1.0), (0.125, 0.25, 0.5, 0.75, 1.0)
 # Above this gap, in thousandths, dives are made in a week, too. The shares that they fix at once.
 WIDE_GAP, FIXED_SHARES = 6 * STEP * POINT, (0.3, 0.2, 0.4)
-# After so much work in vain, and in a long period after the second number, a thread leaves its roster for the roster of a new dive.
+# After the first number of steps in vain a thread leaves its roster for the roster of a new dive, and in a long period after the second.
 STUCK_WORK, LONG_STUCK_WORK = 20 * MOST_WORK, 10 * MOST_WORK
 # Up to this part of the bound a gap is small. The share of the time that is left for an integer program over the known rows of all
 # nurses then.
@@ -125,7 +125,7 @@ class RowParts:
 
     def _is_due(self, number: int, dived: float, spent: int) -> bool:
         """Whether the thread of this number dives next, after so much work of its dives and of its neighborhoods. In a long period half of
-        the threads begin with a dive, and windows take the place of later dives. Else dives get half of the work."""
+        the threads begin with a dive, and windows take the place of later dives. Otherwise dives get half of the work."""
         if self._is_long:
             return not dived and number < max(1, len(self._solvers) // 2)
         return self._dives and dived <= spent

@@ -29,8 +29,8 @@ MOST_ROUNDS, NEAR = 40, STEP / 2
 # the rows of the last of such rounds come first, and the rounds of new rows end, too, if the last solutions made the value, in points,
 # fall by less than this.
 MANY_PLACES, KEPT_AGAIN, TAIL, LITTLE_FALL = 400, 4, 2, 2 * STEP
-# A larger share counts as a whole week. The factors of shares in a dive by chance, and in a period of those of choices that the best roster
-# has.
+# A week with a share above the first number is whole. A dive by chance multiplies each share by a number between the next two, and in a
+# period also by the last one if the best roster has the same choices.
 WHOLE, BY_CHANCE, GUIDED = 0.999, (0.8, 1.0), 1.5
 
 
@@ -211,7 +211,7 @@ class WeekDives(RowSearch):
         return {week: best[week] for week in (*(week for week in left[:last] if week in whole), *taken.values())}, len(taken)
 
     def _guided(self, week: _Week, shares: Dict[NurseWeek, float]) -> Dict[NurseWeek, float]:
-        """The shares of a week. That of the choices that the best roster has counts more."""
+        """The shares of a week. The choices that the best roster has count more."""
         kept = week.of(self.rows[week.nurse]) if self.rows else None
         return {choices: share * (GUIDED if choices == kept else 1.0) for choices, share in shares.items()}
 
