@@ -1,8 +1,6 @@
 """The search for better rows by parts of a plan: some nurses get new rows on some days beside all other choices, as a small plan of
 their own. It needs what other searches know of the whole plan, and a solver; so several can run at once, each in a process of its own."""
 
-import contextlib
-import functools
 import math
 import random
 from dataclasses import replace
@@ -14,7 +12,6 @@ from ..week.records import WEEK_DAYS, Place, Requirement
 from .plan import POINT, STEP, Points
 from .pricing import NurseWeek, Pricing
 from .row_generation import NoRow
-from .row_program import RowProgram
 from .row_search import Known, RowSearch, Take
 from .skills import staffed
 from .week_dives import WeekDives
@@ -56,12 +53,13 @@ class Part(NamedTuple):
 
 
 class Dive(NamedTuple):
-    """A dive over all nurses and days: the share of the rows that it fixes at once, the seed of its chance, None without chance, and the
-    penalty below which its roster has to be, None without such a limit."""
+    """A dive over all nurses and days: the share of the rows that it fixes at once, the seed of its chance, None without chance, the
+    penalty below which its roster has to be, None without such a limit, and the rows whose choices a dive by chance prefers, if any."""
 
     share: float
     seed: Optional[int]
     penalty: Optional[Points]
+    preferred: Optional[List[NurseWeek]] = None
 
 
 class Done(NamedTuple):
@@ -81,18 +79,13 @@ class PartSearch:
 
     # ---- dives
 
-    @functools.cached_property
-    def _program(self) -> RowProgram:
-        """The program of the whole plan, with the basis of its last solution."""
-        assert self._known.program is not None
-        return self._known.program.open_part(self._solver.program())
-
     def dive(self, clock: Clock, take: Take, task: Dive) -> Done:
-        """Fixes rows of all nurses, a few at a time."""
-        search, before = self._search(self._pricing, clock, take), self._program.iterations
-        search.penalty, search.program = task.penalty, self._program
-        ended = False
-        with contextlib.suppress(TimeIsOver):
+        """Fixes rows of all nurses, a few at a time. It begins with the known rows only: those of earlier dives would make it slow."""
+        assert self._known.program is not None
+        search, ended = self._search(self._pricing, clock, take), False
+        search.program = program = self._known.program.open_part(self._solver.program())
+        search.penalty, search.rows, before = task.penalty, task.preferred, program.iterations
+        try:
             part = clock.part(clock.left() * FIXING_SHARE)
             search.generate(part)
             chance = None if task.seed is None else random.Random(task.seed)
@@ -101,7 +94,11 @@ class PartSearch:
                 search.keep(found, "fixing rows")
                 search.descend(found, "fixing rows")
             ended = True
-        return Done(ended, self._program.iterations - before)
+        except TimeIsOver:
+            pass
+        finally:
+            program.close()
+        return Done(ended, program.iterations - before)
 
     def _search(self, pricing: Pricing, clock: Clock, take: Take) -> WeekDives:
         """A search that begins with the prices of the whole plan."""

@@ -131,11 +131,13 @@ class RowParts:
         return self._dives and dived <= spent
 
     def _dive_of(self, is_first: bool, penalty: Optional[Points]) -> Dive:
-        """A dive whose roster is to cost less than this penalty. The first one is without chance."""
+        """A dive whose roster is to cost less than this penalty. The first one is without chance. Without a penalty it looks for another
+        roster, in which windows and neighborhoods go on, and prefers what the best one has: so it ends lower, and elsewhere."""
         with self._lock:
             if is_first:
                 return Dive(FIXED_SHARES[0], None, penalty)
-            return Dive(self._chance.choice(FIXED_SHARES), self._chance.randrange(MOST_SEED), penalty)
+            preferred = self._search.rows if penalty is None else None
+            return Dive(self._chance.choice(FIXED_SHARES), self._chance.randrange(MOST_SEED), penalty, preferred)
 
     def _dive(self, solver: LinearSolver, clock: Clock, dive: Dive) -> Tuple[List[List[NurseWeek]], float]:
         """A dive over all nurses and days. Returns the rows that it found, the best last, and its work. If its time ended the dive, its

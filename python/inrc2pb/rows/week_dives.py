@@ -31,7 +31,7 @@ MOST_ROUNDS, NEAR = 40, STEP / 2
 MANY_PLACES, KEPT_AGAIN, TAIL, LITTLE_FALL = 400, 4, 2, 2 * STEP
 # A week with a share above the first number is whole. A dive by chance multiplies each share by a number between the next two, and in a
 # period also by the last one if the best roster has the same choices.
-WHOLE, BY_CHANCE, GUIDED = 0.999, (0.8, 1.0), 1.5
+WHOLE, BY_CHANCE, GUIDED = 0.999, (0.8, 1.0), 2.5
 
 
 class _Week(NamedTuple):

@@ -226,6 +226,9 @@ class Restarts(unittest.TestCase):
         with mock.patch.multiple(parts, improve=improve, _dive=dive), self.assertRaises(TimeIsOver):
             parts._work(None, clock, 0)
         self.assertEqual([(task.seed is None, task.penalty) for task in dives], [(True, search.penalty)] + [(False, None)] * 2)
+        # It prefers the choices of the best roster. A dive that is to end below it does not.
+        self.assertEqual([task.preferred for task in dives], [None, search.rows, search.rows])
+        self.assertIsNone(parts._dive_of(False, search.penalty).preferred)
 
     def test_in_a_week_with_a_small_gap_the_first_thread_begins_with_all_nurses(self):
         search, seen = search_of(1), []

@@ -113,14 +113,40 @@ class Dives(DiveTest):
         search, offered = self.generated(), []
         known = pickle.loads(pickle.dumps(search.known()._replace(program=search.program)))
         parts = PartSearch(search.pricing, known, self.solver.beside(1))
-        found = parts._program.solve(search.clock)
-        self.assertAlmostEqual(found.value, search.solved.value, 6)
-        self.assertEqual(parts._program.iterations - known.program.iterations, 0)
+        part = known.program.open_part(self.solver.beside(1).program())
+        self.assertAlmostEqual(part.solve(search.clock).value, search.solved.value, 6)
+        self.assertEqual(part.iterations, known.program.iterations)
         with mock.patch.object(WeekDives, "dive", autospec=True, side_effect=WeekDives.dive) as dive:
             done = parts.dive(search.clock, lambda rows, _finder: offered.append(rows) or True, Dive(0.3, None, None))
         self.assertTrue(done.ended and done.work)
         self.assertEqual(dive.call_args[1], {"in_order": True})
         self.assertLess(search.value_of(offered[-1]), search.lower_bound + 100)
+
+    def test_no_dive_depends_on_those_before_it(self):
+        search, offered, begun = self.generated(), [], []
+        known = search.known()._replace(program=search.program)
+        parts, before = PartSearch(search.pricing, known, self.solver.beside(1)), len(search.program.columns)
+        other = [OFF * 2] * 30
+
+        def dive(own, *words, **named):
+            begun.append((len(own.program.columns), own.penalty, own.rows))
+            return whole_dive(own, *words, **named)
+
+        whole_dive = WeekDives.dive
+        with mock.patch.object(WeekDives, "dive", dive), mock.patch.object(LinearProgram, "close", autospec=True) as close:
+            for task in (Dive(0.3, 7, None), Dive(0.3, 7, None), Dive(0.3, 7, 9000, other)):
+                offered.append([])
+                done = parts.dive(search.clock, lambda rows, _finder: offered[-1].append(rows) or True, task)
+                self.assertTrue(done.ended and done.work)
+        columns = begun[0][0]
+        self.assertEqual(begun, [(columns, None, None)] * 2 + [(columns, 9000, other)])
+        self.assertEqual(offered[0], offered[1])
+        self.assertTrue(all(offered))
+        self.assertEqual(len(search.program.columns), before)
+        # Those who know the program go on with it.
+        closed = [call.args[0] for call in close.call_args_list]
+        self.assertTrue(closed)
+        self.assertNotIn(search.program._program, closed)
 
     def test_in_a_large_plan_rounds_of_prices_follow_each_fixing(self):
         search = self.generated()
@@ -176,7 +202,7 @@ class Dives(DiveTest):
         off = bytes(7)
         shares = {off: 0.4, b"\1" + off[1:]: 0.5}
         search.rows = [off + off] * 30
-        self.assertEqual(list(search._guided(_Week(3, 1), shares).values()), [0.4 * 1.5, 0.5])
+        self.assertEqual(list(search._guided(_Week(3, 1), shares).values()), [0.4 * 2.5, 0.5])
         search.rows = None
         self.assertEqual(search._guided(_Week(3, 1), shares), shares)
         left = [_Week(nurse, number) for number in range(2) for nurse in range(30)]
