@@ -132,7 +132,7 @@ class RowParts:
 
     def _dive_of(self, is_first: bool, penalty: Optional[Points]) -> Dive:
         """A dive whose roster is to cost less than this penalty. The first one is without chance. Without a penalty it looks for another
-        roster, in which windows and neighborhoods go on, and prefers what the best one has: so it ends lower, and elsewhere."""
+        roster to go on with, and prefers the choices of the best one, so that it ends lower than by chance alone."""
         with self._lock:
             if is_first:
                 return Dive(FIXED_SHARES[0], None, penalty)
