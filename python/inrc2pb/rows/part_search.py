@@ -53,8 +53,9 @@ class Part(NamedTuple):
 
 
 class Dive(NamedTuple):
-    """A dive over all nurses and days: the share of the rows that it fixes at once, the seed of its chance, None without chance, the
-    penalty below which its roster has to be, None without such a limit, and the rows whose choices a dive by chance prefers, if any."""
+    """A dive over all nurses and days: the share of the rows that it fixes at once, the seed of its chance, None without chance, and the
+    penalty below which its roster has to be, None without such a limit. In a period a dive by chance prefers the choices of the `preferred`
+    rows, if there are any."""
 
     share: float
     seed: Optional[int]
@@ -80,7 +81,8 @@ class PartSearch:
     # ---- dives
 
     def dive(self, clock: Clock, take: Take, task: Dive) -> Done:
-        """Fixes rows of all nurses, a few at a time. It begins with the known rows only: those of earlier dives would make it slow."""
+        """Fixes rows of all nurses, a few at a time. It begins with the known rows only, because those of earlier dives would make it
+        slow."""
         assert self._known.program is not None
         search, ended = self._search(self._pricing, clock, take), False
         search.program = program = self._known.program.open_part(self._solver.program())

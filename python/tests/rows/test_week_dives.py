@@ -123,30 +123,31 @@ class Dives(DiveTest):
         self.assertLess(search.value_of(offered[-1]), search.lower_bound + 100)
 
     def test_no_dive_depends_on_those_before_it(self):
-        search, offered, begun = self.generated(), [], []
-        known = search.known()._replace(program=search.program)
-        parts, before = PartSearch(search.pricing, known, self.solver.beside(1)), len(search.program.columns)
-        other = [OFF * 2] * 30
+        search, offered, begun, programs = self.generated(), [], [], []
+        known, before = search.known()._replace(program=search.program), len(search.program.columns)
+        parts, other, whole_dive = PartSearch(search.pricing, known, self.solver.beside(1)), [OFF * 2] * 30, WeekDives.dive
 
         def dive(own, *words, **named):
             begun.append((len(own.program.columns), own.penalty, own.rows))
+            programs.append(own.program._program)
             return whole_dive(own, *words, **named)
 
-        whole_dive = WeekDives.dive
         with mock.patch.object(WeekDives, "dive", dive), mock.patch.object(LinearProgram, "close", autospec=True) as close:
             for task in (Dive(0.3, 7, None), Dive(0.3, 7, None), Dive(0.3, 7, 9000, other)):
                 offered.append([])
                 done = parts.dive(search.clock, lambda rows, _finder: offered[-1].append(rows) or True, task)
                 self.assertTrue(done.ended and done.work)
+            self.assertEqual(parts.dive(Clock(0.0), lambda *_: True, Dive(0.3, 7, None)), Done(False, 0))
         columns = begun[0][0]
         self.assertEqual(begun, [(columns, None, None)] * 2 + [(columns, 9000, other)])
         self.assertEqual(offered[0], offered[1])
         self.assertTrue(all(offered))
+        # Each dive has a program of its own, which is closed at its end. The known program is as before.
+        closed = [id(call.args[0]) for call in close.call_args_list]
+        self.assertEqual(len({id(program) for program in programs}), 3)
+        self.assertLessEqual({id(program) for program in programs}, set(closed))
+        self.assertNotIn(id(search.program._program), closed)
         self.assertEqual(len(search.program.columns), before)
-        # Those who know the program go on with it.
-        closed = [call.args[0] for call in close.call_args_list]
-        self.assertTrue(closed)
-        self.assertNotIn(search.program._program, closed)
 
     def test_in_a_large_plan_rounds_of_prices_follow_each_fixing(self):
         search = self.generated()
