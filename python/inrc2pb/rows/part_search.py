@@ -81,8 +81,7 @@ class PartSearch:
     # ---- dives
 
     def dive(self, clock: Clock, take: Take, task: Dive) -> Done:
-        """Fixes rows of all nurses, a few at a time. It begins with the known rows only, because those of earlier dives would make it
-        slow."""
+        """Fixes rows of all nurses, a few at a time. It begins with the known rows only: rows of earlier dives would make it slow."""
         assert self._known.program is not None
         search, ended = self._search(self._pricing, clock, take), False
         search.program = program = self._known.program.open_part(self._solver.program())
