@@ -1,7 +1,7 @@
 """The splits of a case that its solution suggests, and the choice among them by the known rows."""
 
 import math
-from typing import Dict, Iterator, List, NamedTuple, Sequence, Tuple, TypeVar
+from typing import Dict, Iterator, List, NamedTuple, Optional, Sequence, Tuple, TypeVar
 
 from ..programs.clock import Clock
 from ..week.facts import SHIFT_RUNS, AtPlace, Charged, Choice, Claim, Fact
@@ -72,10 +72,8 @@ def _halves(numbers: Dict[_Key, float]) -> List[_Key]:
 
 def best_split(
     pricing: CasePricing, program: CaseProgram, now: CaseSolution, case: Case, facts: Sequence[Fact], target: Points, clock: Clock
-) -> Rated:
-    """The split whose cases cost most by the known rows. What they cost above the target does not count."""
-    if len(facts) == 1:
-        return Rated(facts[0], (0.0, 0.0))
+) -> Optional[Rated]:
+    """The split whose cases cost most by the known rows. What they cost above the target does not count. None if no case costs more."""
     program.keep_basis()
     most = pricing.limits(case).below(target) + STEP
     tried: List[Rated] = []
@@ -89,4 +87,5 @@ def best_split(
         if min(holds, fails) >= most - now.value:
             # Both cases seem to be closed: no split is better.
             break
-    return max(tried, key=lambda split: split.score)
+    best = max(tried, key=lambda split: split.score)
+    return best if max(best.rises) >= LEAST_RISE else None

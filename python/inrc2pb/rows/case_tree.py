@@ -64,14 +64,14 @@ class CaseTree:
         self._open: List[Tuple[int, float, int, CaseNode]] = []
         # How many cases are searched now, and a guard of all that the searches share.
         self._busy, self._changed = 0, threading.Condition()
-        # How many searches have ended by a fault.
-        self._failed = 0
+        # How many searches have ended by a fault, and the least bound of a case that is not split.
+        self._failed, self._unsplit = 0, Points(NEVER)
         self.leaves = 0
 
     @property
     def target(self) -> Points:
-        """The penalty of the best roster."""
-        return self._best()
+        """The penalty of the best roster, or the bound of a case that no split raises: no tree proves more."""
+        return min(self._best(), self._unsplit)
 
     # ---- the search
 
@@ -151,6 +151,8 @@ class CaseTree:
         node.proved = found.proved
         if found.split:
             self._put(node, found.split.fact, (found.value + found.split.rises[0], found.value + found.split.rises[1]))
+        else:
+            self._unsplit = min(self._unsplit, node.points)
         if self.bound > before:
             self._heard()
 

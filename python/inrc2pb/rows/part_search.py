@@ -11,7 +11,7 @@ from ..solvers.linear_solvers import LinearSolver
 from ..week.records import WEEK_DAYS, Place, Requirement
 from .plan import POINT, STEP, Points
 from .pricing import NurseWeek, Pricing
-from .row_generation import NoRow
+from .row_generation import FEW_WEEKS, NoRow
 from .row_search import Known, RowSearch, Take
 from .skills import staffed
 from .week_dives import WeekDives
@@ -25,6 +25,8 @@ DIVE_GAP, CHOOSE_GAP = STEP * POINT, 20 * POINT
 LONG_DAYS, WEEKS_SHARE = 3 * WEEK_DAYS, 0.1
 # The known rows of each nurse with which a neighborhood begins.
 MOST_KNOWN = 20
+# The fixings that a dive over all nurses and days undoes with care. In a long period that takes too long.
+CARE = 8
 # The share of the time of a dive for fixing rows. In the rest the other rows are chosen if that has not ended.
 FIXING_SHARE = 0.9
 
@@ -53,11 +55,12 @@ class Part(NamedTuple):
 
 
 class Dive(NamedTuple):
-    """A dive over all nurses and days: the share of the rows that it fixes at once, the seed of its chance, None without chance, and the
-    penalty below which its roster has to be, None without such a limit. In a period a dive by chance prefers the choices of the `preferred`
-    rows, if there are any."""
+    """A dive over all nurses and days: the share of the rows that it fixes at once, whether it fixes one week after another, the seed of
+    its chance, None without chance, and the penalty below which its roster has to be, None without such a limit. In a period a dive by
+    chance prefers the choices of the `preferred` rows, if there are any."""
 
     share: float
+    in_order: bool
     seed: Optional[int]
     penalty: Optional[Points]
     preferred: Optional[List[NurseWeek]] = None
@@ -90,7 +93,7 @@ class PartSearch:
             part = clock.part(clock.left() * FIXING_SHARE)
             search.generate(part)
             chance = None if task.seed is None else random.Random(task.seed)
-            found = search.dive(part, task.share, chance, in_order=True)
+            found = search.dive(part, task.share, chance, task.in_order, 0 if len(self._known.plan.weeks) > FEW_WEEKS else CARE)
             if found:
                 search.keep(found, "fixing rows")
                 search.descend(found, "fixing rows")

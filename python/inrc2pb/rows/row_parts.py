@@ -98,11 +98,11 @@ class RowParts:
         while not search.is_proved:
             clock.check()
             if self._is_due(number, dived, spent):
-                dived += self._dive(solver, clock, self._dive_of(number == 0 and not dived, search.penalty))[1]
+                dived += self._dive(solver, clock, self._dive_of(number, not (number or dived), search.penalty))[1]
                 continue
             if vain > (LONG_STUCK_WORK if self._is_long else STUCK_WORK) and windows.are_over and self._dives:
                 goes_back = number == 0 and roster is not search
-                found = [] if goes_back else self._dive(solver, clock, self._dive_of(False, None))[0]
+                found = [] if goes_back else self._dive(solver, clock, self._dive_of(number, False, None))[0]
                 roster, vain = search.restart(found[-1]) if found else search, 0
                 windows = self._windows if roster is search else self._new_windows()
             penalty, best = roster.penalty, search.penalty
@@ -125,19 +125,21 @@ class RowParts:
 
     def _is_due(self, number: int, dived: float, spent: int) -> bool:
         """Whether the thread of this number dives next, after so much work of its dives and of its neighborhoods. In a long period half of
-        the threads begin with a dive, and windows take the place of later dives. Otherwise dives get half of the work."""
+        the threads begin with a dive, and windows take the place of later dives. Otherwise dives get two thirds of the work."""
         if self._is_long:
             return not dived and number < max(1, len(self._solvers) // 2)
-        return self._dives and dived <= spent
+        return self._dives and dived <= 2 * spent
 
-    def _dive_of(self, is_first: bool, penalty: Optional[Points]) -> Dive:
-        """A dive whose roster is to cost less than this penalty. The first one is without chance. Without a penalty it looks for another
-        roster to go on with, and prefers the choices of the best one, so that it ends lower than by chance alone."""
+    def _dive_of(self, number: int, is_first: bool, penalty: Optional[Points]) -> Dive:
+        """A dive of the thread of this number, whose roster is to cost less than this penalty. The first one is without chance. Without a
+        penalty it looks for another roster to go on with, and prefers the choices of the best one, so that it ends lower than by chance alone.
+        In a long period each thread fixes one week after another, else every second one: which way ends lower differs between plans."""
         with self._lock:
+            in_order = self._is_long or number % 2 == 1
             if is_first:
-                return Dive(FIXED_SHARES[0], None, penalty)
+                return Dive(FIXED_SHARES[0], in_order, None, penalty)
             preferred = self._search.rows if penalty is None else None
-            return Dive(self._chance.choice(FIXED_SHARES), self._chance.randrange(MOST_SEED), penalty, preferred)
+            return Dive(self._chance.choice(FIXED_SHARES), in_order, self._chance.randrange(MOST_SEED), penalty, preferred)
 
     def _dive(self, solver: LinearSolver, clock: Clock, dive: Dive) -> Tuple[List[List[NurseWeek]], float]:
         """A dive over all nurses and days. Returns the rows that it found, the best last, and its work. If its time ended the dive, its

@@ -132,7 +132,7 @@ class RowRun:
             self._try(search.approach, ROWS_SHARE)
         while not search.complete:
             self._try(search.generate, ROWS_SHARE)
-            if search.complete and search.misses_minimums and (self._keeps_limits or self._no_roster()):
+            if search.complete and search.misses_minimums and self._ends_without_roster():
                 return
             if search.complete and self._is_period and search.penalty is not None:
                 break
@@ -155,13 +155,10 @@ class RowRun:
         """Whether there are several weeks. Dives take long then, and each ends elsewhere, so several are made at once."""
         return len(self.plan.weeks) > 1
 
-    @property
-    def _keeps_limits(self) -> bool:
-        """Whether limits, or days beside days away, may be the reason that minimums are missed."""
-        return self.plan.keeps_more and self.plan.keeping.limit == NEVER
-
-    def _no_roster(self) -> bool:
-        """Whether prices prove that no roster keeps the minimums."""
+    def _ends_without_roster(self) -> bool:
+        """Whether limits, or days beside days away, may be why minimums are missed, or prices prove that no roster keeps the minimums."""
+        if self.plan.keeps_more and self.plan.keeping.limit == NEVER:
+            return True
         plan = self.plan.hard_only()
         generation = RowGeneration(Pricing(plan, Crews(plan), self._clock.check), self._solver, lambda: None)
         generation.generate(self._clock)
@@ -229,9 +226,11 @@ class RowRun:
                 clock.check()
                 time.sleep(WAIT_SECONDS)
             self._run_tree(search, known, solver, clock)
-            if self._is_proved(search):
-                clock.stop()
-                solver.end_all()
+            while not self._is_proved(search):
+                clock.check()
+                time.sleep(WAIT_SECONDS)
+            clock.stop()
+            solver.end_all()
 
     def _run_tree(self, search: RowSearch, known: Known, solver: LinearSolver, clock: Clock) -> None:
         """The tree that goes on from a search. With several processors other processes search cases, too."""

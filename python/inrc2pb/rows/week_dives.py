@@ -20,8 +20,8 @@ from .row_search import RowSearch
 
 # The share of the open weeks that is fixed at once, if a dive has none of its own: at first, at least, and at most.
 FIRST_SHARE, LEAST_SHARE, MOST_SHARE = 0.06, 0.02, 0.5
-# A fixing of several weeks is undone if the value, in points, rises by more than the first number. If it rises by less than the second one,
-# more weeks are fixed at once.
+# A fixing of several weeks is undone if the value, in points, rises by more than the first number, with care by more than a step. If it
+# rises by less than the second one, more weeks are fixed at once.
 MOST_RISE, LITTLE_RISE = 6 * STEP, 1.5 * STEP
 # The most rounds of new rows between two fixings. They end sooner if the value of the program, in points, is so near to what prices prove.
 MOST_ROUNDS, NEAR = 40, STEP / 2
@@ -64,10 +64,11 @@ class WeekDives(RowSearch):
     """A search that also dives."""
 
     def dive(
-        self, clock: Clock, share: float = 0.0, chance: Optional[random.Random] = None, in_order: bool = False
+        self, clock: Clock, share: float = 0.0, chance: Optional[random.Random] = None, in_order: bool = False, care: int = 0
     ) -> Optional[List[NurseWeek]]:
         """Fixes at most this share of the open weeks of nurses at once, without one as many as the solutions allow, and by chance not only
-        those of the greatest shares; `in_order` only some of the first open weeks, as many as there are nurses.
+        those of the greatest shares; `in_order` only some of the first open weeks, as many as there are nurses. The first fixings, until so
+        many are undone, are made with `care`.
 
         Returns a row of each nurse, None if they cannot be better than the best. At the end of the time the rows are those of the greatest
         shares, made better one after another."""
@@ -75,7 +76,7 @@ class WeekDives(RowSearch):
         # The rows of the greatest shares in the last solution.
         self._last = self._greatest(self.solved)
         try:
-            return self._dive(clock, share, chance, in_order)
+            return self._dive(clock, share, chance, in_order, care)
         except TimeIsOver:
             self.pricing = pricing
             self.clock.check()
@@ -92,21 +93,22 @@ class WeekDives(RowSearch):
         shares, columns = solved.shares if solved else {}, self.program.columns
         return {columns[number].nurse: columns[number].row for number in sorted(shares, key=shares.__getitem__)}
 
-    def _dive(self, clock: Clock, most_share: float, chance: Optional[random.Random], in_order: bool) -> Optional[List[NurseWeek]]:
+    def _dive(self, clock: Clock, most: float, chance: Optional[random.Random], in_order: bool, care: int) -> Optional[List[NurseWeek]]:
         whole, nurses, weeks = self.program, range(len(self.plan.nurses)), range(len(self.plan.weeks))
         left = [_Week(nurse, number) for number in weeks for nurse in nurses]
         fixed: Dict[_Week, NurseWeek] = {}
         fixing, near, last = _Fixing({}, 0, self.pricing, []), None, -math.inf
-        share = most_share or FIRST_SHARE
+        share = most or FIRST_SHARE
         while True:
-            found = self._relaxed_with(near, last, clock, fixing.others > 1)
+            rise = math.inf if fixing.others < 2 else STEP if care > 0 else MOST_RISE
+            found = self._relaxed_with(near, last, last + rise, clock)
             if found is None:
-                fixing, share = self._halved(fixing), share / 2
+                fixing, share, care = self._halved(fixing), share / 2, care - 1
                 continue
             now, near = found
             if self._is_no_better(now.value):
                 return None
-            share, last = _next_share(share, most_share, now.value - last), now.value
+            share, last = _next_share(share, most, now.value - last), now.value
             self._last = self._greatest(now)
             fixed.update(fixing.weeks)
             left = [week for week in left if week not in fixing.weeks]
@@ -153,7 +155,7 @@ class WeekDives(RowSearch):
             self.program.close()
         self.program = whole
 
-    def _relaxed_with(self, near: Optional[Prices], last: float, clock: Clock, can_undo: bool) -> Optional[Tuple[Solved, Prices]]:
+    def _relaxed_with(self, near: Optional[Prices], last: float, limit: float, clock: Clock) -> Optional[Tuple[Solved, Prices]]:
         """The linear program with the fixed weeks, and the prices that prove the most. These are not far from those that did so before the
         last fixing; without any no week is fixed yet. It gets new rows while its value is above the last one, and above what prices prove,
         and, in a large plan, falls. None if the last fixing should be undone."""
@@ -162,7 +164,6 @@ class WeekDives(RowSearch):
             return now, now.prices
         best, bound, is_large = near, -math.inf, len(self.pricing.crews.places) > MANY_PLACES
         smoothing, tail = (SMOOTHING, TAIL) if is_large else (0.0, MOST_ROUNDS)
-        limit = last + MOST_RISE if can_undo else math.inf
         if is_large:
             found = approach(self.pricing, AGAIN, clock.check, near)
             self._add_rounds(found.rounds[-KEPT_AGAIN:])

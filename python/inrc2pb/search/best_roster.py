@@ -79,7 +79,7 @@ class BestRoster:
         found = self._accepted(cells, solution_text(solution))
         if found is None:
             return None
-        if self._is_better(found) and not self._takes_others(found):
+        if (self._best is None or found.rank < self._best.rank) and not self._takes_others(found):
             self._file.write(found.text)
             self._take(found, finder)
         return found.penalty
@@ -97,9 +97,6 @@ class BestRoster:
                 return None
         above = excess(exceeded(self._week, self._week.data.limits, cells))
         return Accepted(cells, text, answer, (len(working_while_away(self._absences, cells)), above, objective_of(answer)))
-
-    def _is_better(self, found: Accepted) -> bool:
-        return self._best is None or found.rank < self._best.rank
 
     def _take(self, found: Accepted, finder: str) -> None:
         self._best = found

@@ -103,7 +103,9 @@ class Bounds:
         if found:
             return Bound(int(found[1]), PROVER, only)
         points = run.lower_bound if run.plan == plan else None
-        return Bound(_plain_points(plan, run, certificate) if points is None else points, PLAIN, only)
+        if points is None:
+            points = CasePricing(plan, run.crews, lambda: None).bound_of(certificate)
+        return Bound(points, PLAIN, only)
 
     def no_roster(self, plan: Plan, certificate: Certificate, seconds: float) -> Optional[str]:
         """What proved by a certificate that no roster keeps the minimums, if the plan's absences are kept; None if it does not prove it."""
@@ -122,11 +124,6 @@ def _only(plan: Plan, keeping: Keeping) -> str:
     """Of which rosters a bound speaks; none: of all."""
     away, limits = bool(plan.away) and keeping != FREE, bool(plan.limits) and keeping == STRICT
     return " and ".join(word for word, is_kept in (("absences", away), ("limits", limits)) if is_kept)
-
-
-def _plain_points(plan: Plan, run: RowRun, certificate: Certificate) -> int:
-    """What no roster of the plan costs less than by a certificate, without the proved program."""
-    return CasePricing(plan, run.crews, lambda: None).bound_of(certificate)
 
 
 def week_options(files: WeekFiles) -> List[str]:

@@ -18,7 +18,8 @@ from inrc2pb.programs.processes import Processes
 from inrc2pb.rows import case_tree
 from inrc2pb.rows.case_pricing import CasePricing
 from inrc2pb.rows.case_program import SOLUTION_STEPS, CaseProgram
-from inrc2pb.rows.case_search import CaseSearch, CaseTask
+from inrc2pb.rows.case_search import CaseSearch, CaseTask, Examined
+from inrc2pb.rows.case_splits import best_split
 from inrc2pb.rows.case_tree import CaseTree
 from inrc2pb.rows.plan import Plan
 from inrc2pb.rows.pricing import Crews
@@ -29,6 +30,7 @@ from inrc2pb.rows.workers import Worker, workers
 from inrc2pb.solvers.answers import SolverFault
 from inrc2pb.solvers.linear_solvers import LinearSolver
 from inrc2pb.solvers.resident_program import OPTIMAL, STOPPED, LinearProgram, Solution
+from inrc2pb.week.facts import AtPlace
 
 FEW = 10**6
 # A week of six nurses whose prices prove 130; the best roster costs 135.
@@ -164,6 +166,39 @@ class Trees(HelperTest):
         self.assertEqual((tree.bound, self.penalty, self.pricing.bound_of(tree.certificate()), len(tried)), (135, 135, 135, 1))
         with self.assertRaises(SolverFault):
             self.tree(Plan.of(week.scenario, week.history, [week.data]), 140).run(Clock(600.0), [fails, fails])
+
+    def test_a_tree_ends_with_the_bound_of_a_case_that_no_split_raises(self):
+        week = files.read_files(FILES.scenario, FILES.history, FILES.week)
+        tree, tried = self.tree(Plan.of(week.scenario, week.history, [week.data]), 140), []
+
+        def close(_clock, _take, task):
+            tried.append((task.case, task.target))
+            bound = 112_000 if task.case[0].holds else 131_000
+            return Examined(task.known._replace(bound=bound), 112.0)
+
+        tree.run(Clock(600.0), [close])
+        # The case of even charges costs at least 120, so the other one need not be searched for more.
+        first, *others = tried
+        self.assertEqual((first[1], tree.bound, tree.target), (140, 120, 120))
+        self.assertTrue(all(target == 120 for _, target in others))
+        self.penalty = 115
+        self.assertEqual(tree.target, 115)
+
+    def test_a_split_raises_the_value_of_a_case(self):
+        week = files.read_files(FILES.scenario, FILES.history, FILES.week)
+        self.tree(Plan.of(week.scenario, week.history, [week.data]), 140)
+        facts, now = [AtPlace(1, self.pricing.crews.places[number], 0) for number in (0, 1)], mock.Mock(value=100.0)
+        for rises, best in (
+            ((0, 0, 0, 0), None),
+            ((0, 0, 0, 5), facts[1]),
+            ((2, 3, 0, 5), facts[0]),
+            ((0, 1e-4), None),
+            ((0, 4), facts[0]),
+        ):
+            program = mock.Mock(iterations=0, rise=mock.Mock(side_effect=[100.0 + rise for rise in rises]))
+            tried = facts[: len(rises) // 2]
+            found = best_split(self.pricing, program, now, (), tried, 200, Clock(600.0))
+            self.assertEqual(found and found.fact, best, rises)
 
     @unittest.skipUnless(HAS_CBC, "needs cbc")
     def test_a_process_that_searches_cases(self):

@@ -228,7 +228,7 @@ class Restarts(unittest.TestCase):
         self.assertEqual([(task.seed is None, task.penalty) for task in dives], [(True, search.penalty)] + [(False, None)] * 2)
         # It prefers the choices of the best roster. A dive that is to end below it does not.
         self.assertEqual([task.preferred for task in dives], [None, search.rows, search.rows])
-        self.assertIsNone(parts._dive_of(False, search.penalty).preferred)
+        self.assertIsNone(parts._dive_of(0, False, search.penalty).preferred)
 
     def test_in_a_week_with_a_small_gap_the_first_thread_begins_with_all_nurses(self):
         search, seen = search_of(1), []
@@ -265,14 +265,14 @@ class Dives(DiveTest):
         search = self.generated()
         search.begin(all_off(search.plan), None)
         before, parts = search.penalty, RowParts(search, [self.solver])
-        parts._dive(self.solver, search.clock, Dive(0.12, None, before))
+        parts._dive(self.solver, search.clock, Dive(0.12, True, None, before))
         self.assertLess(search.penalty, before)
         search.penalty = search.lower_bound
         # Rosters that are no better are asked for only without a penalty.
-        self.assertEqual(parts._dive(self.solver, search.clock, Dive(0.12, None, search.penalty))[0], [])
-        found, work = parts._dive(self.solver, search.clock, Dive(0.12, None, None))
+        self.assertEqual(parts._dive(self.solver, search.clock, Dive(0.12, True, None, search.penalty))[0], [])
+        found, work = parts._dive(self.solver, search.clock, Dive(0.12, True, None, None))
         self.assertTrue(found and 1 < work < math.inf)
-        self.assertEqual(parts._dive(self.solver, Clock(0.0), Dive(0.12, None, None)), ([], math.inf))
+        self.assertEqual(parts._dive(self.solver, Clock(0.0), Dive(0.12, True, None, None)), ([], math.inf))
         self.assertTrue(parts._dives)
         week = search_of(1)
         week.bound, parts = (week.penalty - 5) * POINT, RowParts(week, [])

@@ -306,9 +306,19 @@ class RowSearches(HelperTest):
                 return answers.pop(0)
 
             with mock.patch.object(run, "_is_narrow", is_narrow), mock.patch.object(run, "_run_tree") as tree:
-                with mock.patch.object(row_run, "WAIT_SECONDS", 0):
+                with mock.patch.object(row_run, "WAIT_SECONDS", 0), mock.patch.object(run, "_is_proved", return_value=True):
                     run._close_cases(mock.Mock(penalty=None), None, mock.Mock(), clock)
             self.assertEqual(tree.call_count, begins)
+
+    def test_a_plan_that_comes_after_the_tree_has_ended_ends_the_search(self):
+        week = week_of("n005w4")
+        run = RowRun(Plan.of(week.scenario, week.history, [week.data]), None, Clock(600.0), lambda rows, _finder: None, lambda: None)
+        clock, solver = Clock(600.0), mock.Mock()
+        with mock.patch.object(run, "_is_narrow", return_value=True), mock.patch.object(run, "_run_tree"):
+            with mock.patch.object(row_run, "WAIT_SECONDS", 0), mock.patch.object(run, "_is_proved", side_effect=[False, False, True]):
+                run._close_cases(mock.Mock(), None, solver, clock)
+        self.assertTrue(clock.stopped)
+        solver.end_all.assert_called_once_with()
 
     def test_a_proved_plan_is_not_improved(self):
         week = week_of("n005w4")

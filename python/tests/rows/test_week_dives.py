@@ -11,7 +11,7 @@ from test_row_parts import CHOICES, EARLY, LONG, OFF, DiveTest, search_of
 from ward import HAS_CBC
 
 from inrc2pb.programs.clock import Clock, TimeIsOver
-from inrc2pb.rows import row_parts, week_dives
+from inrc2pb.rows import part_search, row_parts, week_dives
 from inrc2pb.rows.descent import all_off
 from inrc2pb.rows.plan import POINT
 from inrc2pb.rows.part_search import Dive, Done, PartSearch
@@ -116,11 +116,14 @@ class Dives(DiveTest):
         part = known.program.open_part(self.solver.beside(1).program())
         self.assertAlmostEqual(part.solve(search.clock).value, search.solved.value, 6)
         self.assertEqual(part.iterations, known.program.iterations)
-        with mock.patch.object(WeekDives, "dive", autospec=True, side_effect=WeekDives.dive) as dive:
-            done = parts.dive(search.clock, lambda rows, _finder: offered.append(rows) or True, Dive(0.3, None, None))
-        self.assertTrue(done.ended and done.work)
-        self.assertEqual(dive.call_args[1], {"in_order": True})
-        self.assertLess(search.value_of(offered[-1]), search.lower_bound + 100)
+        # In a long period it fixes without care, which takes too long there.
+        for few, in_order, care in ((4, False, 8), (4, True, 8), (1, True, 0)):
+            with mock.patch.object(WeekDives, "dive", autospec=True, side_effect=WeekDives.dive) as dive:
+                with mock.patch.object(part_search, "FEW_WEEKS", few):
+                    done = parts.dive(search.clock, lambda rows, _finder: offered.append(rows) or True, Dive(0.3, in_order, None, None))
+            self.assertTrue(done.ended and done.work)
+            self.assertEqual(dive.call_args[0][4:], (in_order, care))
+            self.assertLess(search.value_of(offered[-1]), search.lower_bound + 100)
 
     def test_no_dive_depends_on_those_before_it(self):
         search, offered, begun, programs = self.generated(), [], [], []
@@ -133,11 +136,11 @@ class Dives(DiveTest):
             return whole_dive(own, *words, **named)
 
         with mock.patch.object(WeekDives, "dive", dive), mock.patch.object(LinearProgram, "close", autospec=True) as close:
-            for task in (Dive(0.3, 7, None), Dive(0.3, 7, None), Dive(0.3, 7, 9000, other)):
+            for task in (Dive(0.3, False, 7, None), Dive(0.3, False, 7, None), Dive(0.3, False, 7, 9000, other)):
                 offered.append([])
                 done = parts.dive(search.clock, lambda rows, _finder: offered[-1].append(rows) or True, task)
                 self.assertTrue(done.ended and done.work)
-            self.assertEqual(parts.dive(Clock(0.0), lambda *_: True, Dive(0.3, 7, None)), Done(False, 0))
+            self.assertEqual(parts.dive(Clock(0.0), lambda *_: True, Dive(0.3, False, 7, None)), Done(False, 0))
         columns = begun[0][0]
         self.assertEqual(begun, [(columns, None, None)] * 2 + [(columns, 9000, other)])
         self.assertEqual(offered[0], offered[1])
@@ -259,6 +262,27 @@ class Dives(DiveTest):
             self.assertLess(max(numbers[numbers.index(1) :]), numbers[0] // 2)
             self.assertLess(search.value_of(rows), search.lower_bound + 100)
 
+    def test_with_care_a_fixing_is_undone_that_costs_more_than_a_step(self):
+        search, undone = self.generated(), []
+        halved, relaxed = search._halved, search._relaxed_with
+
+        def undo(fixing):
+            undone.append(fixing.others)
+            return halved(fixing)
+
+        def dearer(near, last, limit, clock):
+            found = relaxed(near, last, math.inf, clock)
+            # Each fixing of several weeks seems to cost a little more than a step.
+            return None if last + week_dives.STEP + 1 > limit else found
+
+        for care in (0, 3):
+            del undone[:]
+            with mock.patch.object(search, "_halved", undo), mock.patch.object(search, "_relaxed_with", dearer):
+                rows = search.dive(search.clock, 0.3, care=care)
+            self.assertEqual(len(undone), care)
+            self.assertTrue(all(others > 1 for others in undone))
+            self.assertLess(search.value_of(rows), search.lower_bound + 100)
+
     def test_the_next_share(self):
         steady, rising = 0.0, week_dives.LITTLE_RISE
         self.assertEqual([week_dives._next_share(0.1, most, steady) for most in (0.3, 0.15)], [0.2, 0.15])
@@ -337,7 +361,7 @@ class NextDives(unittest.TestCase):
 
     def test_later_dives_have_a_part_of_the_work(self):
         parts = RowParts(search_of(2), [None, None])
-        self.assertEqual([parts._is_due(1, dived, 1000) for dived in (1000, 1001, math.inf)], [True, False, False])
+        self.assertEqual([parts._is_due(1, dived, 1000) for dived in (2000, 2001, math.inf)], [True, False, False])
         with mock.patch.object(row_parts, "FEW_WEEKS", 1):
             self.assertFalse(RowParts(search_of(2), [None])._is_due(0, 1, 10**9))
         week = search_of(1)
@@ -360,6 +384,13 @@ class NextDives(unittest.TestCase):
             self.assertEqual([(task.seed is None, task.penalty) for task in dives], [(one, parts._search.penalty) for one in steady])
             self.assertEqual([task.share for task in dives if task.seed is None], [0.3] * steady.count(True))
             self.assertTrue(all(task.share in (0.3, 0.2, 0.4) for task in dives))
+
+    def test_every_second_thread_fixes_one_week_after_another_and_in_a_long_period_each_one(self):
+        for few, in_order in ((4, [False, True, False]), (1, [True] * 3)):
+            with mock.patch.object(row_parts, "FEW_WEEKS", few):
+                parts = RowParts(search_of(2), [None] * 3)
+            for is_first, penalty in ((True, 1000), (False, 1000), (False, None)):
+                self.assertEqual([parts._dive_of(number, is_first, penalty).in_order for number in range(3)], in_order)
 
 
 if __name__ == "__main__":

@@ -53,7 +53,7 @@ class Workers(HelperTest):
             self.assertEqual(self.improve(self.worker), (done, found))
 
     def test_a_dive_is_the_same(self):
-        for task in (Dive(0.12, None, None), Dive(0.06, 5, None), Dive(0.06, 5, None, self.search.rows)):
+        for task in (Dive(0.12, True, None, None), Dive(0.06, False, 5, None), Dive(0.06, True, 5, None, self.search.rows)):
             self.found = []
             done, own = self.own.dive(Clock(LONG), self.take, task), self.found
             self.found = []
