@@ -133,7 +133,7 @@ class RowParts:
     def _dive_of(self, number: int, is_first: bool, penalty: Optional[Points]) -> Dive:
         """A dive of the thread of this number, whose roster is to cost less than this penalty. The first one is without chance. Without a
         penalty it looks for another roster to go on with, and prefers the choices of the best one, so that it ends lower than by chance
-        alone. In a long period each thread fixes one week after another, else every second one: which way ends lower differs between plans."""
+        alone. In a long period each thread fixes one week after another, else every second one, since neither way ends lower everywhere."""
         with self._lock:
             in_order = self._is_long or number % 2 == 1
             if is_first:
