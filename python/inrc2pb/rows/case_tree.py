@@ -70,7 +70,7 @@ class CaseTree:
 
     @property
     def target(self) -> Points:
-        """The penalty of the best roster, or the bound of a case that no split raises: no tree proves more."""
+        """What is to be proved: the penalty of the best roster, or less if no split raises the value of a case with a lower bound."""
         return min(self._best(), self._unsplit)
 
     # ---- the search
