@@ -90,7 +90,11 @@ def crates_below(names: Iterable[str]) -> Dict[str, Crate]:
     graph = {name: {one for one in used if one in lines} for name, (_, used) in lines.items()}
     crates: Dict[str, Crate] = {}
     for name in graphlib.TopologicalSorter(graph).static_order():
-        crates[name] = Crate(name, lines[name][0], set(graph[name]).union(*(crates[one].below for one in graph[name])))
+        crates[name] = Crate(
+            name,
+            lines[name][0],
+            set(graph[name]).union(*(crates[one].below for one in graph[name])),
+        )
     for name in names:
         if name not in crates:
             raise Failed(f"crates.txt has no crate {name}")
@@ -110,7 +114,9 @@ def chains(crates: Dict[str, Crate]) -> Dict[str, int]:
 def kit() -> str:
     """What `rt version` prints."""
     try:
-        return subprocess.run(["rt", "version"], stdout=subprocess.PIPE, text=True, check=True).stdout
+        return subprocess.run(
+            ["rt", "version"], stdout=subprocess.PIPE, text=True, check=True
+        ).stdout
     except FileNotFoundError:
         raise Failed(NO_KIT) from None
 
@@ -151,7 +157,13 @@ def is_proved(crate: Crate, sources: str) -> bool:
 def link(source: Path, target: Path, *without: str) -> None:
     """Gives the files of a folder a second name; `rt` replaces such files, and changes none."""
     if source.exists():
-        shutil.copytree(source, target, copy_function=os.link, ignore=shutil.ignore_patterns(*without), dirs_exist_ok=True)
+        shutil.copytree(
+            source,
+            target,
+            copy_function=os.link,
+            ignore=shutil.ignore_patterns(*without),
+            dirs_exist_ok=True,
+        )
 
 
 def furnish(room: Path, crate: Crate, crates: Dict[str, Crate]) -> Path:
@@ -161,7 +173,11 @@ def furnish(room: Path, crate: Crate, crates: Dict[str, Crate]) -> Path:
         link(crates[name].home, room / "crates" / name, "out", "must-fail")
         link(crates[name].home / "out" / "rlib", room / "crates" / name / "out" / "rlib")
     link(crate.home, folder, "out", "must-fail")
-    (room / "crates.txt").write_text("".join(f"{one.line}\n" for one in crates.values() if one == crate or one.name in crate.below))
+    (room / "crates.txt").write_text(
+        "".join(
+            f"{one.line}\n" for one in crates.values() if one == crate or one.name in crate.below
+        )
+    )
     shutil.copy(ROOT / "HANDLES", room)
     return folder
 
@@ -200,12 +216,22 @@ class Task:
     def __init__(self, crate: Crate, crates: Dict[str, Crate], jobs: int, niceness: int) -> None:
         self.crate, self.jobs, self.began = crate, jobs, time.monotonic()
         folder = make_room(crate, crates)
-        words = ["nice", "-n", str(niceness), "rt", "run" if crate.is_program else "lib", "--jobs", str(jobs)]
+        words = [
+            "nice",
+            "-n",
+            str(niceness),
+            "rt",
+            "run" if crate.is_program else "lib",
+            "--jobs",
+            str(jobs),
+        ]
         if (crate.home / "args").exists():
             words += ["--", *(crate.home / "args").read_text().splitlines()]
         self.log = folder.parents[1] / "log"
         with self.log.open("wb") as log:
-            self.process = subprocess.Popen(words, cwd=folder, stdin=subprocess.DEVNULL, stdout=log, stderr=subprocess.STDOUT)
+            self.process = subprocess.Popen(
+                words, cwd=folder, stdin=subprocess.DEVNULL, stdout=log, stderr=subprocess.STDOUT
+            )
 
 
 class Build:
@@ -222,7 +248,9 @@ class Build:
 
     def run(self) -> None:
         """Proves all crates."""
-        graph = graphlib.TopologicalSorter({name: crate.below for name, crate in self.crates.items()})
+        graph = graphlib.TopologicalSorter(
+            {name: crate.below for name, crate in self.crates.items()}
+        )
         graph.prepare()
         ready = self.unproved(graph)
         what = f"{self.processors} processor{'s' * (self.processors > 1)}"
@@ -251,10 +279,21 @@ class Build:
     def start(self, ready: List[str]) -> None:
         """Starts crates, the longest chain first, until there are a quarter more jobs than processors."""
         ready.sort(key=self.order.index)
-        jobs = self.processors if len(ready) == 1 and not self.tasks else max(1, self.processors // 2)
-        while ready and sum(task.jobs for task in self.tasks) < self.processors + self.processors // 4:
+        jobs = (
+            self.processors if len(ready) == 1 and not self.tasks else max(1, self.processors // 2)
+        )
+        while (
+            ready and sum(task.jobs for task in self.tasks) < self.processors + self.processors // 4
+        ):
             name = ready.pop(0)
-            self.tasks.append(Task(self.crates[name], self.crates, jobs, min(self.order.index(name), LEAST_PRIORITY)))
+            self.tasks.append(
+                Task(
+                    self.crates[name],
+                    self.crates,
+                    jobs,
+                    min(self.order.index(name), LEAST_PRIORITY),
+                )
+            )
 
     def ended(self) -> Task:
         """Waits until a crate is done, and takes it from the tasks."""
@@ -270,10 +309,14 @@ class Build:
         crate = task.crate
         if task.process.returncode != 0:
             sys.stderr.write(task.log.read_text(errors="replace"))
-            raise Failed(f"{crate.name} is not proved: what rt said is above (its status is {task.process.returncode})")
+            raise Failed(
+                f"{crate.name} is not proved: what rt said is above (its status is {task.process.returncode})"
+            )
         self.remover.submit(shutil.rmtree, leave_room(crate.name), True)
         if not crate.made.exists():
-            raise Failed(f"rt made no {'program' if crate.is_program else 'library'} of {crate.name}")
+            raise Failed(
+                f"rt made no {'program' if crate.is_program else 'library'} of {crate.name}"
+            )
         (crate.home / "out" / "proved").write_text(mark(crate, self.sums[crate.name]))
         self.proved += 1
 
@@ -282,7 +325,10 @@ class Build:
         minutes, seconds = divmod(round(time.monotonic() - self.began), 60)
         names = ", ".join(sorted(task.crate.name for task in self.tasks))
         doing = f"; proving {names}" if names else ""
-        print(f"{minutes:3}:{seconds:02}  {self.proved:2} of {len(self.crates)} crates: {what}{doing}", flush=True)
+        print(
+            f"{minutes:3}:{seconds:02}  {self.proved:2} of {len(self.crates)} crates: {what}{doing}",
+            flush=True,
+        )
 
     def stop(self) -> None:
         """Ends what runs; `rt` ends its own commands. Waits until the rooms that were left are removed."""

@@ -20,7 +20,18 @@ from typing import Callable, Dict, Iterator, List, Sequence, TypeVar
 
 sys.path.insert(0, str(Path(__file__).resolve().parents[1] / "python"))
 
-from inrc2pb.week.records import ANY, DAYS, Contract, History, Limits, Nurse, NurseHistory, Place, Request, Requirement  # noqa: E402
+from inrc2pb.week.records import (
+    ANY,
+    DAYS,
+    Contract,
+    History,
+    Limits,
+    Nurse,
+    NurseHistory,
+    Place,
+    Request,
+    Requirement,
+)  # noqa: E402
 from inrc2pb.week.records import Scenario, ShiftType, WeekData  # noqa: E402
 from inrc2pb.week.files import history_text, scenario_text, week_text  # noqa: E402
 from inrc2pb.week.writing import write_text  # noqa: E402
@@ -68,7 +79,9 @@ class Numbers:
 
 def scenario(name: str, nurses: Sequence[Nurse]) -> Scenario:
     """The ward of these nurses."""
-    types, contracts = {shift.name: shift for shift in SHIFT_TYPES}, {contract.name: contract for contract in CONTRACTS}
+    types, contracts = {shift.name: shift for shift in SHIFT_TYPES}, {
+        contract.name: contract for contract in CONTRACTS
+    }
     return Scenario(name, WEEKS, SKILLS, types, contracts, {nurse.name: nurse for nurse in nurses})
 
 
@@ -81,30 +94,65 @@ def history(ward: Scenario, week: int, numbers: Numbers) -> History:
         weekends = numbers.below(min(week, 2) + 1)
         if numbers.below(5) < 3:
             run = 1 + numbers.below(4)
-            pasts[nurse.name] = NurseHistory(nurse.name, assignments, weekends, numbers.one_of(SHIFTS), 1 + numbers.below(run), run, 0)
+            pasts[nurse.name] = NurseHistory(
+                nurse.name,
+                assignments,
+                weekends,
+                numbers.one_of(SHIFTS),
+                1 + numbers.below(run),
+                run,
+                0,
+            )
         else:
-            pasts[nurse.name] = NurseHistory(nurse.name, assignments, weekends, None, 0, 0, 1 + numbers.below(3))
+            pasts[nurse.name] = NurseHistory(
+                nurse.name, assignments, weekends, None, 0, 0, 1 + numbers.below(3)
+            )
     return History(week, ward.name, pasts)
 
 
 def first_history(ward: Scenario, numbers: Numbers) -> History:
     """Each nurse was off on the last days before the period."""
-    return History(0, ward.name, {nurse: NurseHistory(nurse, 0, 0, None, 0, 0, 1 + numbers.below(3)) for nurse in ward.nurses})
+    return History(
+        0,
+        ward.name,
+        {
+            nurse: NurseHistory(nurse, 0, 0, None, 0, 0, 1 + numbers.below(3))
+            for nurse in ward.nurses
+        },
+    )
 
 
 def week(ward: Scenario, requirements: Requirements, requests: int, numbers: Numbers) -> WeekData:
     """A week with these requirements, and this number of requests."""
     nurses = list(ward.nurses)
-    rows = [(numbers.one_of(nurses), numbers.one_of([ANY, *SHIFTS]), numbers.below(len(DAYS))) for _ in range(requests)]
-    return WeekData(ward.name, requirements, tuple(Request(nurse, None if shift == ANY else shift, day) for nurse, shift, day in rows))
+    rows = [
+        (numbers.one_of(nurses), numbers.one_of([ANY, *SHIFTS]), numbers.below(len(DAYS)))
+        for _ in range(requests)
+    ]
+    return WeekData(
+        ward.name,
+        requirements,
+        tuple(Request(nurse, None if shift == ANY else shift, day) for nurse, shift, day in rows),
+    )
 
 
 def nurses_of_ward(count: int) -> List[Nurse]:
     """This number of nurses: each fifth has the same skills, each fourth the same contract."""
-    mixes = [("HeadNurse", "Nurse"), ("Nurse",), ("Nurse", "Caretaker"), ("Caretaker",), ("Caretaker", "Trainee")]
+    mixes = [
+        ("HeadNurse", "Nurse"),
+        ("Nurse",),
+        ("Nurse", "Caretaker"),
+        ("Caretaker",),
+        ("Caretaker", "Trainee"),
+    ]
     contracts = ["FullTime", "FullTime", "PartTime", "HalfTime"]
-    names: Iterator[str] = (name + (str(more) if more else "") for more in itertools.count() for name in NAMES)
-    return [Nurse(name, contracts[n % 4], mixes[n % 5]) for n, name in enumerate(itertools.islice(names, count))]
+    names: Iterator[str] = (
+        name + (str(more) if more else "") for more in itertools.count() for name in NAMES
+    )
+    return [
+        Nurse(name, contracts[n % 4], mixes[n % 5])
+        for n, name in enumerate(itertools.islice(names, count))
+    ]
 
 
 def demands_of_ward(numbers: Numbers, nurses: int = WARD, percent: int = 100) -> Requirements:
@@ -113,17 +161,28 @@ def demands_of_ward(numbers: Numbers, nurses: int = WARD, percent: int = 100) ->
     places and down at others."""
     wanted, whole = nurses * percent, WARD * 100
     demands = {}
-    for index, (shift, skill, day) in enumerate(itertools.product(SHIFTS, SKILLS, range(len(DAYS)))):
-        minimum = int(skill in ("Nurse", "Caretaker")) + (day < 5 and skill == "Nurse" and shift == "Early")
+    for index, (shift, skill, day) in enumerate(
+        itertools.product(SHIFTS, SKILLS, range(len(DAYS)))
+    ):
+        minimum = int(skill in ("Nurse", "Caretaker")) + (
+            day < 5 and skill == "Nurse" and shift == "Early"
+        )
         best = minimum + (numbers.below(3) > 0)
         up = 7 * index % WARD * 100
-        demands[Place(day, shift, skill)] = Requirement((minimum * wanted + up) // whole, (best * wanted + up) // whole)
+        demands[Place(day, shift, skill)] = Requirement(
+            (minimum * wanted + up) // whole, (best * wanted + up) // whole
+        )
     return demands
 
 
 def week_of_ward(ward: Scenario, numbers: Numbers, percent: int = 100) -> WeekData:
     """A week with 25 requests for 30 nurses, and this percentage of the demand."""
-    return week(ward, demands_of_ward(numbers, len(ward.nurses), percent), 25 * len(ward.nurses) // WARD, numbers)
+    return week(
+        ward,
+        demands_of_ward(numbers, len(ward.nurses), percent),
+        25 * len(ward.nurses) // WARD,
+        numbers,
+    )
 
 
 def write(folder: Path, texts: Dict[str, str]) -> None:
@@ -136,7 +195,10 @@ def write(folder: Path, texts: Dict[str, str]) -> None:
 def write_week(folder: Path, ward: Scenario, data: WeekData, past: History) -> None:
     """Writes the files of a week, with the names that the competition has."""
     names = ["ward.txt", f"history-{past.week}.txt", f"week-{past.week}.txt"]
-    write(folder / ward.name, dict(zip(names, (scenario_text(ward), history_text(past), week_text(data)))))
+    write(
+        folder / ward.name,
+        dict(zip(names, (scenario_text(ward), history_text(past), week_text(data)))),
+    )
 
 
 def last_week(folder: Path, ward: Scenario, numbers: Numbers, percent: int = 100) -> None:
@@ -149,14 +211,21 @@ def ward_of_size(folder: Path, count: int, percent: int) -> None:
     """A ward of `count` nurses: the last week, then the weeks before it."""
     numbers, ward = Numbers(count), scenario(f"ward{count}", nurses_of_ward(count))
     last_week(folder, ward, numbers, percent)
-    weeks = {f"week-{number}.txt": week_text(week_of_ward(ward, numbers, percent)) for number in range(WEEKS - 1)}
-    write(folder / ward.name, {"history-0.txt": history_text(first_history(ward, numbers)), **weeks})
+    weeks = {
+        f"week-{number}.txt": week_text(week_of_ward(ward, numbers, percent))
+        for number in range(WEEKS - 1)
+    }
+    write(
+        folder / ward.name, {"history-0.txt": history_text(first_history(ward, numbers)), **weeks}
+    )
 
 
 def month(folder: Path) -> None:
     """30 nurses in all four weeks of a period."""
     numbers, ward = Numbers(4), scenario("month", nurses_of_ward(WARD))
-    weeks = {f"week-{number}.txt": week_text(week_of_ward(ward, numbers)) for number in range(WEEKS)}
+    weeks = {
+        f"week-{number}.txt": week_text(week_of_ward(ward, numbers)) for number in range(WEEKS)
+    }
     past = history_text(first_history(ward, numbers))
     write(folder / ward.name, {"ward.txt": scenario_text(ward), "history-0.txt": past, **weeks})
 
@@ -170,14 +239,26 @@ def period(folder: Path, name: str, count: int, weeks: int, percent: int, seed: 
     contracts = {
         contract.name: replace(
             contract,
-            assignments=Limits(times * contract.assignments.minimum, times * contract.assignments.maximum),
+            assignments=Limits(
+                times * contract.assignments.minimum, times * contract.assignments.maximum
+            ),
             max_weekends=times * contract.max_weekends,
         )
         for contract in CONTRACTS
     }
     ward = replace(ward, weeks=weeks, contracts=contracts)
-    texts = {f"week-{number}.txt": week_text(week_of_ward(ward, numbers, percent)) for number in range(weeks)}
-    write(folder / name, {"ward.txt": scenario_text(ward), "history-0.txt": history_text(first_history(ward, numbers)), **texts})
+    texts = {
+        f"week-{number}.txt": week_text(week_of_ward(ward, numbers, percent))
+        for number in range(weeks)
+    }
+    write(
+        folder / name,
+        {
+            "ward.txt": scenario_text(ward),
+            "history-0.txt": history_text(first_history(ward, numbers)),
+            **texts,
+        },
+    )
 
 
 def short_of_heads(folder: Path) -> None:
@@ -187,9 +268,17 @@ def short_of_heads(folder: Path) -> None:
     contracts = ["FullTime", "PartTime", "FullTime"]
     ward = scenario("eight", [Nurse(NAMES[n], contracts[n % 3], mixes[n % 4]) for n in range(8)])
     places = itertools.product(SHIFTS, SKILLS[1:3], range(len(DAYS)))
-    demands = {Place(day, shift, skill): Requirement(0, 1 + numbers.below(2)) for shift, skill, day in places}
+    demands = {
+        Place(day, shift, skill): Requirement(0, 1 + numbers.below(2))
+        for shift, skill, day in places
+    }
     for shift, wanted in {"Early": 3, "Late": 3, "Night": 2}.items():
-        demands.update({Place(day, shift, "HeadNurse"): Requirement(int(day == wanted), 1) for day in range(len(DAYS))})
+        demands.update(
+            {
+                Place(day, shift, "HeadNurse"): Requirement(int(day == wanted), 1)
+                for day in range(len(DAYS))
+            }
+        )
     data = week(ward, demands, 5, numbers)
     write_week(folder, ward, data, history(ward, 1, numbers))
 
@@ -207,12 +296,26 @@ def number_within(low: int, high: int) -> Callable[[str], int]:
 
 def main() -> None:
     """Writes the example weeks, or a ward."""
-    parser = argparse.ArgumentParser(description=__doc__, formatter_class=argparse.RawDescriptionHelpFormatter, usage=argparse.SUPPRESS)
-    parser.add_argument("folder", metavar="FOLDER", type=Path, help="the weeks get a folder each in this folder")
+    parser = argparse.ArgumentParser(
+        description=__doc__,
+        formatter_class=argparse.RawDescriptionHelpFormatter,
+        usage=argparse.SUPPRESS,
+    )
+    parser.add_argument(
+        "folder", metavar="FOLDER", type=Path, help="the weeks get a folder each in this folder"
+    )
     size = number_within(FEWEST, MOST)
-    parser.add_argument("nurses", metavar="NURSES", nargs="?", type=size, help=f"a number from {FEWEST} to {MOST}")
+    parser.add_argument(
+        "nurses", metavar="NURSES", nargs="?", type=size, help=f"a number from {FEWEST} to {MOST}"
+    )
     percent = number_within(1, 200)
-    parser.add_argument("--demand", metavar="PERCENT", type=percent, default=100, help="of the demand in proportion to the nurses")
+    parser.add_argument(
+        "--demand",
+        metavar="PERCENT",
+        type=percent,
+        default=100,
+        help="of the demand in proportion to the nurses",
+    )
     words = parser.parse_args()
     if words.nurses:
         ward_of_size(words.folder, words.nurses, words.demand)

@@ -44,8 +44,14 @@ MONTH_GOAL = Goal(1820, 1820, 300)
 
 def show(name: str, goal: Goal, ran: Run) -> None:
     """Prints a line of the table."""
-    reached = ran.penalty.isdigit() and int(ran.penalty) <= goal.penalty, ran.bound.isdigit() and int(ran.bound) >= goal.bound
-    words = " and ".join(word for word, is_reached in zip(("plan", "bound"), reached) if is_reached) or "neither"
+    reached = (
+        ran.penalty.isdigit() and int(ran.penalty) <= goal.penalty,
+        ran.bound.isdigit() and int(ran.bound) >= goal.bound,
+    )
+    words = (
+        " and ".join(word for word, is_reached in zip(("plan", "bound"), reached) if is_reached)
+        or "neither"
+    )
     figures = f"{ran.penalty:>8} {goal.penalty:>8} {ran.bound:>8} {goal.bound:>8} {ran.seconds:8.1f} {ran.processor:8.1f}"
     print(f"{name:<24} {figures}  reached: {words} ({ran.by})", flush=True)
 
@@ -57,7 +63,10 @@ def random_runs(kinds: List[str], count: int, seconds: float, folder: Path) -> I
             files = hidden_week(kind, seed, folder)
             ran = solvers.run(Work(files.scenario, files.history, [files.week], seconds), folder)
             if ran.proved != "yes":
-                print(f"  {kind} {seed}: penalty {ran.penalty}, lower bound {ran.bound}, {ran.proved} ({ran.by})", flush=True)
+                print(
+                    f"  {kind} {seed}: penalty {ran.penalty}, lower bound {ran.bound}, {ran.proved} ({ran.by})",
+                    flush=True,
+                )
             yield ran
 
 
@@ -65,7 +74,9 @@ def weeks(name: str, kinds: List[str], count: int, seconds: float, folder: Path)
     """Plans random weeks, and prints how many are proved."""
     runs = list(random_runs(kinds, count, seconds, folder))
     proved = [ran for ran in runs if ran.proved == "yes"]
-    known = [(int(ran.penalty), int(ran.bound)) for ran in runs if ran.penalty.isdigit() and ran.bound]
+    known = [
+        (int(ran.penalty), int(ran.bound)) for ran in runs if ran.penalty.isdigit() and ran.bound
+    ]
     gaps = [(penalty - bound) / penalty for penalty, bound in known if penalty]
     used = sum(ran.processor for ran in runs)
     print(
@@ -76,12 +87,38 @@ def weeks(name: str, kinds: List[str], count: int, seconds: float, folder: Path)
 
 def main() -> None:
     """Plans all that was asked for."""
-    options = argparse.ArgumentParser(description=__doc__, formatter_class=argparse.RawDescriptionHelpFormatter)
+    options = argparse.ArgumentParser(
+        description=__doc__, formatter_class=argparse.RawDescriptionHelpFormatter
+    )
     options.add_argument("names", nargs="*", metavar="NAME", help="only these goals")
-    options.add_argument("--seeds", type=int, default=3, metavar="NUMBER", help="how often the month is planned (default: 3)")
-    options.add_argument("--weeks", type=int, default=20, metavar="NUMBER", help="random weeks of each kind (default: 20)")
-    options.add_argument("--wide", type=int, default=10, metavar="NUMBER", help="random weeks with 8 x 8 (default: 10)")
-    options.add_argument("--eight", type=float, default=240, metavar="SECONDS", help="the most seconds for eight weeks (default: 240)")
+    options.add_argument(
+        "--seeds",
+        type=int,
+        default=3,
+        metavar="NUMBER",
+        help="how often the month is planned (default: 3)",
+    )
+    options.add_argument(
+        "--weeks",
+        type=int,
+        default=20,
+        metavar="NUMBER",
+        help="random weeks of each kind (default: 20)",
+    )
+    options.add_argument(
+        "--wide",
+        type=int,
+        default=10,
+        metavar="NUMBER",
+        help="random weeks with 8 x 8 (default: 10)",
+    )
+    options.add_argument(
+        "--eight",
+        type=float,
+        default=240,
+        metavar="SECONDS",
+        help="the most seconds for eight weeks (default: 240)",
+    )
     given = options.parse_args()
     with tempfile.TemporaryDirectory() as room:
         folder = Path(room, "plan")
@@ -102,7 +139,10 @@ def main() -> None:
             steps[name] = lambda name=name, goal=goal: plan(name, goal, 1, name)  # type: ignore[misc]
         steps[ALL_WEEKS] = lambda: weeks(ALL_WEEKS, list(KINDS), given.weeks, WEEK_SECONDS, folder)
         steps[WIDE_WEEKS] = lambda: weeks(WIDE_WEEKS, [WIDE], given.wide, WIDE_SECONDS, folder)
-        print(f"{'':<24} {'penalty':>8} {'goal':>8} {'bound':>8} {'goal':>8} {'seconds':>8} {'of proc.':>8}", flush=True)
+        print(
+            f"{'':<24} {'penalty':>8} {'goal':>8} {'bound':>8} {'goal':>8} {'seconds':>8} {'of proc.':>8}",
+            flush=True,
+        )
         for name in given.names or list(steps):
             steps[name]()
 

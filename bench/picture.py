@@ -11,8 +11,14 @@ Line = Sequence[Optional[float]]
 
 
 def _style() -> str:
-    light = " ".join(f".line{index} {{ stroke: {color} }} .label{index} {{ fill: {color} }}" for index, (color, _) in enumerate(COLORS))
-    dark = " ".join(f".line{index} {{ stroke: {color} }} .label{index} {{ fill: {color} }}" for index, (_, color) in enumerate(COLORS))
+    light = " ".join(
+        f".line{index} {{ stroke: {color} }} .label{index} {{ fill: {color} }}"
+        for index, (color, _) in enumerate(COLORS)
+    )
+    dark = " ".join(
+        f".line{index} {{ stroke: {color} }} .label{index} {{ fill: {color} }}"
+        for index, (_, color) in enumerate(COLORS)
+    )
     return (
         "<style>\n.page { fill: #ffffff } .ink { fill: #1a1a1a } .grid { stroke: #dddddd } .curve { fill: none; stroke-width: 2 }\n"
         f"{light}\n@media (prefers-color-scheme: dark) {{\n"
@@ -62,8 +68,13 @@ class Axes:
 
 def picture(title: str, under: str, lines: Dict[str, Line], sizes: Sequence[int]) -> str:
     """`lines` maps a name to its values at the sizes; a value that could not be measured is None."""
-    axes = Axes(sizes, max(value for values in lines.values() for value in values if value is not None))
-    known = [[(size, value) for size, value in zip(sizes, values) if value is not None] for values in lines.values()]
+    axes = Axes(
+        sizes, max(value for values in lines.values() for value in values if value is not None)
+    )
+    known = [
+        [(size, value) for size, value in zip(sizes, values) if value is not None]
+        for values in lines.values()
+    ]
     parts = [
         f'<svg xmlns="http://www.w3.org/2000/svg" viewBox="0 0 {WIDTH} {HEIGHT}" font-family="sans-serif" font-size="13">',
         _style(),
@@ -74,11 +85,15 @@ def picture(title: str, under: str, lines: Dict[str, Line], sizes: Sequence[int]
     ]
     labels = _apart([axes.up(points[-1][1]) for points in known])
     for index, (name, points, label) in enumerate(zip(lines, known, labels)):
-        parts += _curve(index, name, [(axes.across(size), axes.up(value)) for size, value in points], label)
+        parts += _curve(
+            index, name, [(axes.across(size), axes.up(value)) for size, value in points], label
+        )
     return "\n".join([*parts, "</svg>"]) + "\n"
 
 
-def _curve(index: int, name: str, points: Sequence[Tuple[float, float]], label: float) -> Iterator[str]:
+def _curve(
+    index: int, name: str, points: Sequence[Tuple[float, float]], label: float
+) -> Iterator[str]:
     color = index % len(COLORS)
     yield f'<polyline class="curve line{color}" points="{" ".join(f"{x:.1f},{y:.1f}" for x, y in points)}"/>'
     for x, y in points:

@@ -55,12 +55,23 @@ class Value(NamedTuple):
 
 def programs() -> Dict[str, str]:
     """The environment in which commands are those of this clone."""
-    return {**os.environ, "PATH": os.pathsep.join([str(ROOT / "out"), str(ROOT / "python"), os.environ["PATH"]])}
+    return {
+        **os.environ,
+        "PATH": os.pathsep.join([str(ROOT / "out"), str(ROOT / "python"), os.environ["PATH"]]),
+    }
 
 
 def run(*words: str, folder: str = ".") -> "subprocess.CompletedProcess[str]":
     """Runs a command with the programs of this clone."""
-    return subprocess.run(words, cwd=folder, env=programs(), stdout=subprocess.PIPE, stderr=subprocess.PIPE, text=True, check=True)
+    return subprocess.run(
+        words,
+        cwd=folder,
+        env=programs(),
+        stdout=subprocess.PIPE,
+        stderr=subprocess.PIPE,
+        text=True,
+        check=True,
+    )
 
 
 def shoot(address: str, picture: Path, size: str) -> None:
@@ -87,8 +98,23 @@ def draw_wall() -> None:
     ward = ROOT / "examples" / "ward"
     with tempfile.TemporaryDirectory() as folder:
         second, page = f"{folder}/roster-1.txt", f"{folder}/wall.html"
-        week = ["--sce", str(ward / "ward.txt"), "--his", str(ward / "history-1.txt"), "--week", str(ward / "week-1.txt")]
-        run("inrc2pb", "decode", *week, "--answer", str(ward / "answers" / "clasp-ward-1.txt"), "--sol", second)
+        week = [
+            "--sce",
+            str(ward / "ward.txt"),
+            "--his",
+            str(ward / "history-1.txt"),
+            "--week",
+            str(ward / "week-1.txt"),
+        ]
+        run(
+            "inrc2pb",
+            "decode",
+            *week,
+            "--answer",
+            str(ward / "answers" / "clasp-ward-1.txt"),
+            "--sol",
+            second,
+        )
         rosters = ["--roster", str(ward / "roster-0.txt"), second]
         run(
             "inrc2pb-roster", "show", *files(ward, 2, 2), *rosters, "--monday", "2026-11-30", "--html", "--only-table", "--out", page
@@ -114,7 +140,9 @@ def searched() -> Dict[str, List[Value]]:
     """The penalty and the bound of a search, as they become known."""
     with tempfile.TemporaryDirectory() as folder:
         make_weeks.period(Path(folder), "ward", 12, 4, 100, 501)
-        ended = run("inrc2pb-solve", *files(Path(folder) / "ward", 4), "--out", folder, "--time", "30")
+        ended = run(
+            "inrc2pb-solve", *files(Path(folder) / "ward", 4), "--out", folder, "--time", "30"
+        )
     known: Dict[str, List[Value]] = {"penalty": [], "bound": []}
     for second, penalty, bound in PROGRESS.findall(ended.stderr):
         known["penalty"].append(Value(float(second), int(penalty)))
@@ -169,10 +197,14 @@ def search_picture(known: Dict[str, List[Value]]) -> str:
     for mark in range(low, high + 1, STEP):
         row = up(mark, low, high)
         parts.append(f'<line class="grid" x1="{LEFT}" x2="{RIGHT}" y1="{row:.1f}" y2="{row:.1f}"/>')
-        parts.append(f'<text class="ink" x="{LEFT - 8}" y="{row + 4:.1f}" text-anchor="end">{mark}</text>')
+        parts.append(
+            f'<text class="ink" x="{LEFT - 8}" y="{row + 4:.1f}" text-anchor="end">{mark}</text>'
+        )
     for second in (0, 1, 2, 5, 10, 20, 50, 100, 200):
         if second <= last:
-            parts.append(f'<text class="ink" x="{across(second, last):.1f}" y="{BOTTOM + 18}" text-anchor="middle">{second}</text>')
+            parts.append(
+                f'<text class="ink" x="{across(second, last):.1f}" y="{BOTTOM + 18}" text-anchor="middle">{second}</text>'
+            )
     for name, values in known.items():
         parts += curve(name, values, last, low, high)
     return "\n".join([*parts, "</svg>"]) + "\n"
@@ -190,7 +222,11 @@ def draw_tree() -> None:
     month = ROOT / "examples" / "month"
     os.environ.update(programs())
     certificate = (month / "two_cases.txt").read_text()
-    TREE.write_text(tree_picture("All rosters of the month, divided into two cases", files(month, 4), certificate))
+    TREE.write_text(
+        tree_picture(
+            "All rosters of the month, divided into two cases", files(month, 4), certificate
+        )
+    )
 
 
 def main(words: Sequence[str]) -> int:

@@ -37,7 +37,9 @@ def random_week(folder: Path, seed: int) -> WeekFiles:
     percent = LEAST_PERCENT + numbers.below(GREATEST_PERCENT - LEAST_PERCENT + 1)
     week = numbers.below(make_weeks.WEEKS)
     ward = make_weeks.scenario(f"random{seed}", make_weeks.nurses_of_ward(nurses))
-    past = make_weeks.history(ward, week, numbers) if week else make_weeks.first_history(ward, numbers)
+    past = (
+        make_weeks.history(ward, week, numbers) if week else make_weeks.first_history(ward, numbers)
+    )
     make_weeks.write_week(folder, ward, make_weeks.week_of_ward(ward, numbers, percent), past)
     return solvers.named(folder / ward.name, ward.name, week)
 
@@ -45,7 +47,9 @@ def random_week(folder: Path, seed: int) -> WeekFiles:
 def wide_week(folder: Path, seed: int, percent: int) -> WeekFiles:
     """The files of the wide week of this seed."""
     words = [str(folder), str(WIDE_NURSES), str(WIDE_KINDS), str(seed), str(percent)]
-    subprocess.run([sys.executable, str(Path(__file__).with_name("wide_weeks.py")), *words], check=True)
+    subprocess.run(
+        [sys.executable, str(Path(__file__).with_name("wide_weeks.py")), *words], check=True
+    )
     return solvers.named(folder / f"wide{WIDE_KINDS}x{seed}", "wide", make_weeks.WEEKS - 1)
 
 
@@ -58,23 +62,60 @@ def gap(ran: solvers.Run) -> str:
 
 def main() -> None:
     """Plans the weeks, and prints a line for each."""
-    options = argparse.ArgumentParser(description=__doc__, formatter_class=argparse.RawDescriptionHelpFormatter)
-    options.add_argument("--first", type=int, default=70001, metavar="SEED", help="the first seed (default: %(default)s)")
-    options.add_argument("--count", type=int, default=200, metavar="NUMBER", help="how many weeks (default: %(default)s)")
-    options.add_argument("--time", type=float, default=60, metavar="SECONDS", help="the most seconds of a run (default: %(default)s)")
-    options.add_argument(
-        "--within", type=float, default=5, metavar="SECONDS", help="the seconds that count as in time (default: %(default)s)"
+    options = argparse.ArgumentParser(
+        description=__doc__, formatter_class=argparse.RawDescriptionHelpFormatter
     )
-    options.add_argument("--wide", type=int, metavar="PERCENT", help="weeks with many shift types and skills, and this demand")
+    options.add_argument(
+        "--first",
+        type=int,
+        default=70001,
+        metavar="SEED",
+        help="the first seed (default: %(default)s)",
+    )
+    options.add_argument(
+        "--count",
+        type=int,
+        default=200,
+        metavar="NUMBER",
+        help="how many weeks (default: %(default)s)",
+    )
+    options.add_argument(
+        "--time",
+        type=float,
+        default=60,
+        metavar="SECONDS",
+        help="the most seconds of a run (default: %(default)s)",
+    )
+    options.add_argument(
+        "--within",
+        type=float,
+        default=5,
+        metavar="SECONDS",
+        help="the seconds that count as in time (default: %(default)s)",
+    )
+    options.add_argument(
+        "--wide",
+        type=int,
+        metavar="PERCENT",
+        help="weeks with many shift types and skills, and this demand",
+    )
     given = options.parse_args()
     if find_prover() is None:
         sys.exit(f"random_weeks.py: there is no {PROVER} beside inrc2pb: type make")
     proved, by_clock, by_processor = 0, 0, 0
-    print("  seed nurses week  penalty    bound  gap %  best      seconds  of processors", flush=True)
+    print(
+        "  seed nurses week  penalty    bound  gap %  best      seconds  of processors", flush=True
+    )
     for seed in range(given.first, given.first + given.count):
         with tempfile.TemporaryDirectory() as room:
-            files = wide_week(Path(room), seed, given.wide) if given.wide else random_week(Path(room), seed)
-            ran = solvers.run(solvers.Work(files.scenario, files.history, [files.week], given.time), Path(room))
+            files = (
+                wide_week(Path(room), seed, given.wide)
+                if given.wide
+                else random_week(Path(room), seed)
+            )
+            ran = solvers.run(
+                solvers.Work(files.scenario, files.history, [files.week], given.time), Path(room)
+            )
             nurses = files.scenario.read_text().partition("NURSES = ")[2].split()[0]
         is_proved = ran.proved == "yes" and ran.by == PROVER
         proved += is_proved
@@ -85,7 +126,9 @@ def main() -> None:
         figures = f"{ran.penalty:>8} {ran.bound:>8} {gap(ran):>6}  {best:8} {ran.seconds:8.1f} {ran.processor:14.1f}"
         print(f"{seed:6} {nurses:>6} {week:>4} {figures}", flush=True)
     within = f"within {given.within:g} s"
-    print(f"{proved} of {given.count} are proved: {by_clock} {within}, {by_processor} {within} of processors")
+    print(
+        f"{proved} of {given.count} are proved: {by_clock} {within}, {by_processor} {within} of processors"
+    )
 
 
 if __name__ == "__main__":

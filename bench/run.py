@@ -47,7 +47,9 @@ class Run(NamedTuple):
         """Runs it once."""
         with self.stdin.open("rb") as source, self.stdout.open("wb") as target:
             began = time.perf_counter()
-            status = subprocess.run(self.words, stdin=source, stdout=target, stderr=subprocess.DEVNULL).returncode
+            status = subprocess.run(
+                self.words, stdin=source, stdout=target, stderr=subprocess.DEVNULL
+            ).returncode
             took = time.perf_counter() - began
         if status != self.status:
             sys.exit(f"{' '.join(map(str, self.words))}: status {status}")
@@ -60,11 +62,15 @@ class Run(NamedTuple):
     def maximum_memory(self) -> int:
         """The most memory that it uses, in bytes."""
         with tempfile.NamedTemporaryFile("r") as report:
-            self._replace(words=[GNU_TIME, "-q", "-f", "%M", "-o", report.name, *self.words]).seconds()
+            self._replace(
+                words=[GNU_TIME, "-q", "-f", "%M", "-o", report.name, *self.words]
+            ).seconds()
             return int(report.read().split()[-1]) * 1024
 
 
-def measure(title: str, files: Sequence[Path], run: Run, copy_to: Path = NOTHING, runs: int = RUNS) -> None:
+def measure(
+    title: str, files: Sequence[Path], run: Run, copy_to: Path = NOTHING, runs: int = RUNS
+) -> None:
     """Prints a line for the run, next to `dd` and `cat` of these files. The three take turns, so that a slow moment of the machine
     slows all of them."""
     copies = {"cat": Run(["cat", *files], stdout=copy_to)}
@@ -76,9 +82,18 @@ def measure(title: str, files: Sequence[Path], run: Run, copy_to: Path = NOTHING
             times[name].append(each.seconds())
     shortest = {name: min(seconds) for name, seconds in times.items()}
     own = shortest.pop("program")
-    ratios = "".join(f"{own / shortest[name]:>6.1f} {name}" if name in shortest else f"{'':>9}" for name in ("dd", "cat"))
-    size, memory = sum(file.stat().st_size for file in files) / MEGABYTE, run.maximum_memory() / MEGABYTE
-    print(f"{title:<45}{size:>8.1f} MB{own:>8.3f} s{size / own:>7.0f} MB/s{ratios}{memory:>7.1f} MB held", flush=True)
+    ratios = "".join(
+        f"{own / shortest[name]:>6.1f} {name}" if name in shortest else f"{'':>9}"
+        for name in ("dd", "cat")
+    )
+    size, memory = (
+        sum(file.stat().st_size for file in files) / MEGABYTE,
+        run.maximum_memory() / MEGABYTE,
+    )
+    print(
+        f"{title:<45}{size:>8.1f} MB{own:>8.3f} s{size / own:>7.0f} MB/s{ratios}{memory:>7.1f} MB held",
+        flush=True,
+    )
 
 
 class WeekFolder:
@@ -94,7 +109,17 @@ class WeekFolder:
 
     def command(self, program: Path, name: str, *more: Union[str, Path]) -> Words:
         """The command of the program, such as `encode`, on this week."""
-        return [program, name, "--sce", self.scenario, "--his", self.history, "--week", self.week, *more]
+        return [
+            program,
+            name,
+            "--sce",
+            self.scenario,
+            "--his",
+            self.history,
+            "--week",
+            self.week,
+            *more,
+        ]
 
 
 def bench_week(program: Path, name: str, room: Path) -> None:
@@ -102,10 +127,19 @@ def bench_week(program: Path, name: str, room: Path) -> None:
     folder, model, copy = room / name, room / f"{name}.opb", room / f"{name}.copy"
     weeks.write_files(weeks.SIZES[name], str(folder))
     week, late = WeekFolder(folder), WeekFolder(folder, late=True)
-    measure(f"{name}: read the files (a late week)", late.files(), Run(late.command(program, "encode"), status=1))
+    measure(
+        f"{name}: read the files (a late week)",
+        late.files(),
+        Run(late.command(program, "encode"), status=1),
+    )
     subprocess.run(week.command(program, "encode", "--opb", model), check=True)
     measure(f"{name}: encode to /dev/null", [model], Run(week.command(program, "encode")))
-    measure(f"{name}: encode to a file", [model], Run(week.command(program, "encode", "--opb", copy)), copy_to=copy)
+    measure(
+        f"{name}: encode to a file",
+        [model],
+        Run(week.command(program, "encode", "--opb", copy)),
+        copy_to=copy,
+    )
     copy.unlink()
     bench_answers(program, name, model, room)
     model.unlink()
@@ -114,17 +148,25 @@ def bench_week(program: Path, name: str, room: Path) -> None:
 def bench_answers(program: Path, name: str, model: Path, room: Path) -> None:
     """Measures `decode` and `extend` on a week of this size."""
     week = WeekFolder(room / name)
-    answer, solution, unknown, extended = (room / f"{name}.{kind}" for kind in ("answer", "solution", "unknown", "extended"))
+    answer, solution, unknown, extended = (
+        room / f"{name}.{kind}" for kind in ("answer", "solution", "unknown", "extended")
+    )
     weeks.write_answer(weeks.SIZES[name], str(model), str(answer))
     unknown.write_text(answer.read_text().replace("s SATISFIABLE", "s UNKNOWN", 1))
     decode = week.command(program, "decode", "--sol", solution)
     extend = week.command(program, "extend", "--from", solution)
-    measure(f"{name}: read the answer (status UNKNOWN)", [unknown], Run([*decode, "--answer", unknown], status=5))
+    measure(
+        f"{name}: read the answer (status UNKNOWN)",
+        [unknown],
+        Run([*decode, "--answer", unknown], status=5),
+    )
     measure(f"{name}: decode, the answer from a file", [answer], Run([*decode, "--answer", answer]))
     measure(f"{name}: decode, from standard input", [answer], Run(decode, stdin=answer))
     Run(extend, stdout=extended).seconds()
     measure(f"{name}: extend to /dev/null", [extended], Run(extend))
-    measure(f"{name}: decode of lines of ten literals", [extended], Run([*decode, "--answer", extended]))
+    measure(
+        f"{name}: decode of lines of ten literals", [extended], Run([*decode, "--answer", extended])
+    )
 
 
 def bench_greatest(program: Path, room: Path) -> None:
@@ -133,7 +175,12 @@ def bench_greatest(program: Path, room: Path) -> None:
     weeks.write_greatest(str(folder))
     week = WeekFolder(folder)
     subprocess.run(week.command(program, "encode", "--opb", model), check=True)
-    measure("greatest: encode to /dev/null", [model], Run(week.command(program, "encode")), runs=FEW_RUNS)
+    measure(
+        "greatest: encode to /dev/null",
+        [model],
+        Run(week.command(program, "encode")),
+        runs=FEW_RUNS,
+    )
     model.unlink()
 
 
@@ -144,7 +191,9 @@ def bench_worst(program: Path, room: Path) -> None:
         measure(title, week.files(), Run(week.command(program, "encode")))
     plain, answer = room / "plain", room / "answer"
     worst.write_texts(plain, worst.week_of_names(["Ann"]))
-    decode = WeekFolder(plain).command(program, "decode", "--sol", room / "solution", "--answer", answer)
+    decode = WeekFolder(plain).command(
+        program, "decode", "--sol", room / "solution", "--answer", answer
+    )
     for title, write, status in worst.answers():
         with answer.open("w") as file:
             write(file)
@@ -153,7 +202,8 @@ def bench_worst(program: Path, room: Path) -> None:
 
 class Growth(NamedTuple):
     """A week of a growing ward: the terms of its model, the bytes of its files, and nanoseconds for each of them. The time of a
-    byte is missing if reading takes less than a tenth of the time that the program needs to start."""
+    byte is missing if reading takes less than a tenth of the time that the program needs to start.
+    """
 
     nurses: int
     terms: int
@@ -163,7 +213,9 @@ class Growth(NamedTuple):
 
     def __str__(self) -> str:
         per_byte = "-" if self.per_byte is None else f"{self.per_byte:.2f}"
-        return f"{self.nurses:>7}{self.terms:>12}{self.per_term:>12.2f}{self.size:>12}{per_byte:>12}"
+        return (
+            f"{self.nurses:>7}{self.terms:>12}{self.per_term:>12.2f}{self.size:>12}{per_byte:>12}"
+        )
 
 
 def growth(program: Path, room: Path, nurses: int, start: float) -> Growth:
@@ -171,7 +223,9 @@ def growth(program: Path, room: Path, nurses: int, start: float) -> Growth:
     folder = room / f"growth{nurses}"
     weeks.write_files(weeks.GROWTH[nurses], str(folder))
     week, late = WeekFolder(folder), WeekFolder(folder, late=True)
-    model = subprocess.run(week.command(program, "encode"), stdout=subprocess.PIPE, check=True).stdout
+    model = subprocess.run(
+        week.command(program, "encode"), stdout=subprocess.PIPE, check=True
+    ).stdout
     terms, size = len(re.findall(rb"x\d", model)), sum(file.stat().st_size for file in week.files())
     encoding = Run(week.command(program, "encode")).minimum_seconds(SHORT_RUNS)
     reading = Run(late.command(program, "encode"), status=1).minimum_seconds(SHORT_RUNS)
@@ -189,14 +243,29 @@ def bench_growth(program: Path, room: Path, drawing: Optional[Path]) -> None:
         rows.append(growth(program, room, nurses, start))
         print(rows[-1], flush=True)
     if drawing:
-        lines: Dict[str, picture.Line] = {"a term written": [row.per_term for row in rows], "a byte read": [row.per_byte for row in rows]}
-        drawing.write_text(picture.picture("nanoseconds", "nurses in the week", lines, list(weeks.GROWTH)))
+        lines: Dict[str, picture.Line] = {
+            "a term written": [row.per_term for row in rows],
+            "a byte read": [row.per_byte for row in rows],
+        }
+        drawing.write_text(
+            picture.picture("nanoseconds", "nurses in the week", lines, list(weeks.GROWTH))
+        )
 
 
 def main() -> None:
     """Reads the command line."""
-    parser = argparse.ArgumentParser(description=__doc__, formatter_class=argparse.RawDescriptionHelpFormatter, usage=argparse.SUPPRESS)
-    parser.add_argument("program", metavar="PROGRAM", nargs="?", type=Path, default=HERE.parent / "crates/inrc2pb/out/inrc2pb")
+    parser = argparse.ArgumentParser(
+        description=__doc__,
+        formatter_class=argparse.RawDescriptionHelpFormatter,
+        usage=argparse.SUPPRESS,
+    )
+    parser.add_argument(
+        "program",
+        metavar="PROGRAM",
+        nargs="?",
+        type=Path,
+        default=HERE.parent / "crates/inrc2pb/out/inrc2pb",
+    )
     parser.add_argument("--growth", action="store_true")
     parser.add_argument("--picture", metavar="FILE", type=Path)
     words = parser.parse_args()

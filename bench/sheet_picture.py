@@ -37,7 +37,9 @@ def draw_sheet(spreadsheet: Path, sheet: str, columns: int, picture: Path) -> No
     """Draws the first columns of a sheet of an .ods file; needs `soffice` and `pdftoppm`."""
     with zipfile.ZipFile(spreadsheet) as old:
         content = part_of_sheet(old.read("content.xml").decode(), sheet, columns)
-        manifest = old.read("META-INF/manifest.xml").decode().replace("</manifest:manifest>", STYLES_ENTRY)
+        manifest = (
+            old.read("META-INF/manifest.xml").decode().replace("</manifest:manifest>", STYLES_ENTRY)
+        )
     with tempfile.TemporaryDirectory() as folder:
         page = Path(folder, "page.ods")
         with zipfile.ZipFile(page, "w") as new:
@@ -46,8 +48,29 @@ def draw_sheet(spreadsheet: Path, sheet: str, columns: int, picture: Path) -> No
             new.writestr("content.xml", content)
             new.writestr("styles.xml", STYLES)
         profile = f"-env:UserInstallation=file://{folder}/profile"
-        subprocess.run(["soffice", "--headless", profile, "--convert-to", "pdf", "--outdir", folder, str(page)], check=True)
+        subprocess.run(
+            [
+                "soffice",
+                "--headless",
+                profile,
+                "--convert-to",
+                "pdf",
+                "--outdir",
+                folder,
+                str(page),
+            ],
+            check=True,
+        )
         wide, tall = HEADS + columns * COLUMN + 2, int(ROW * (len(ROWS.findall(content)) + 1)) + 3
         cut = ["-x", "8", "-y", "8", "-W", str(wide), "-H", str(tall)]
-        words = ["pdftoppm", "-r", str(PIXELS_PER_INCH), *cut, "-png", "-singlefile", f"{folder}/page.pdf", str(picture.with_suffix(""))]
+        words = [
+            "pdftoppm",
+            "-r",
+            str(PIXELS_PER_INCH),
+            *cut,
+            "-png",
+            "-singlefile",
+            f"{folder}/page.pdf",
+            str(picture.with_suffix("")),
+        ]
         subprocess.run(words, check=True)

@@ -64,7 +64,8 @@ class Work(NamedTuple):
 
 class Run(NamedTuple):
     """The penalty of the rosters, as `inrc2pb extend` has it, and the lower bound; whether it is proved that no plan costs less; the
-    seconds by the clock and of processors, the memory in MB, and what proved or computed the bound."""
+    seconds by the clock and of processors, the memory in MB, and what proved or computed the bound.
+    """
 
     penalty: str
     bound: str
@@ -77,7 +78,10 @@ class Run(NamedTuple):
 
 def works(folder: Path, seconds: float) -> Dict[str, Work]:
     """All weeks and periods by the names in the table. Weeks have these seconds."""
-    found = {name: Work(files.scenario, files.history, [files.week], seconds) for name, files in weeks(folder).items()}
+    found = {
+        name: Work(files.scenario, files.history, [files.week], seconds)
+        for name, files in weeks(folder).items()
+    }
     return {**found, **periods(folder)}
 
 
@@ -101,20 +105,42 @@ def weeks(folder: Path) -> Dict[str, WeekFiles]:
     for name, number in (("n005w4", 0), ("eight", 1), ("thirty", 3)):
         found[name] = named(EXAMPLES / name, name, number)
     middle = folder / "middle.txt"
-    middle.write_text(found["thirty"].history.read_text().replace("\n3 thirty\n", "\n1 thirty\n", 1))
+    middle.write_text(
+        found["thirty"].history.read_text().replace("\n3 thirty\n", "\n1 thirty\n", 1)
+    )
     found["thirty, second week"] = replace(found["thirty"], history=middle)
-    subprocess.run([sys.executable, str(ROOT / "bench/weeks.py"), "files", "ward", str(folder / "ward")], check=True)
+    subprocess.run(
+        [sys.executable, str(ROOT / "bench/weeks.py"), "files", "ward", str(folder / "ward")],
+        check=True,
+    )
     ward = folder / "ward"
     found["ward of 120"] = WeekFiles(ward / "scenario.txt", ward / "history.txt", ward / "week.txt")
     for name, number in LAST_WEEKS.items():
         home = EXAMPLES / name
-        found[name] = WeekFiles(home / "ward.txt", home / f"history-{number}.txt", home / f"week-{number}.txt")
+        found[name] = WeekFiles(
+            home / "ward.txt", home / f"history-{number}.txt", home / f"week-{number}.txt"
+        )
     for nurses in LARGE:
-        subprocess.run([sys.executable, str(ROOT / "bench/make_weeks.py"), str(folder), str(nurses)], check=True)
+        subprocess.run(
+            [sys.executable, str(ROOT / "bench/make_weeks.py"), str(folder), str(nurses)],
+            check=True,
+        )
         found[f"{nurses} nurses"] = named(folder / f"ward{nurses}", f"ward{nurses}", 3)
     for nurses, kinds, seed in WIDE:
-        subprocess.run([sys.executable, str(ROOT / "bench/wide_weeks.py"), str(folder), str(nurses), str(kinds), str(seed)], check=True)
-        found[f"{nurses} nurses, {kinds} x {kinds}"] = named(folder / f"wide{kinds}x{seed}", "wide", 3)
+        subprocess.run(
+            [
+                sys.executable,
+                str(ROOT / "bench/wide_weeks.py"),
+                str(folder),
+                str(nurses),
+                str(kinds),
+                str(seed),
+            ],
+            check=True,
+        )
+        found[f"{nurses} nurses, {kinds} x {kinds}"] = named(
+            folder / f"wide{kinds}x{seed}", "wide", 3
+        )
     return found
 
 
@@ -128,7 +154,14 @@ def run(work: Work, folder: Path, seed: int = 1) -> Run:
     by the certificate, if there is such a program."""
     is_week, proof = len(work.weeks) == 1, folder / "certificate.txt"
     target = ["--out", str(folder / "roster-0.txt" if is_week else folder)]
-    limits = ["--time", f"{work.seconds / len(work.weeks):g}", "--seed", str(seed), "--proof", str(proof)]
+    limits = [
+        "--time",
+        f"{work.seconds / len(work.weeks):g}",
+        "--seed",
+        str(seed),
+        "--proof",
+        str(proof),
+    ]
     for old in (*folder.glob("roster-*.txt"), proof):
         old.unlink(missing_ok=True)
     words = [sys.executable, str(ROOT / "python/inrc2pb-solve"), *work.options(), *target, *limits]
@@ -138,7 +171,9 @@ def run(work: Work, folder: Path, seed: int = 1) -> Run:
         text = said.read()
     none = re.search(r"no rosters? keeps? the hard rules", text)
     penalty, bound, proved, by = checked(work, folder, text)
-    return Run("none exists" if none else penalty, bound, "yes" if none else proved, took, used, memory, by)
+    return Run(
+        "none exists" if none else penalty, bound, "yes" if none else proved, took, used, memory, by
+    )
 
 
 def measured(words: Sequence[str], said: TextIO) -> Tuple[float, float, int]:
@@ -161,15 +196,23 @@ def checked(work: Work, folder: Path, said: str) -> Tuple[str, str, str, str]:
     rosters = [folder / f"roster-{number}.txt" for number in range(len(work.weeks))]
     if not all(roster.exists() for roster in rosters):
         return "none", "", "no", ""
-    histories = [work.history, *(folder / f"history-{number}.txt" for number in range(1, len(work.weeks)))]
-    penalty = sum(penalty_of(WeekFiles(work.scenario, *of_week[:2]), of_week[2]) for of_week in zip(histories, work.weeks, rosters))
+    histories = [
+        work.history,
+        *(folder / f"history-{number}.txt" for number in range(1, len(work.weeks))),
+    ]
+    penalty = sum(
+        penalty_of(WeekFiles(work.scenario, *of_week[:2]), of_week[2])
+        for of_week in zip(histories, work.weeks, rosters)
+    )
     line = re.search(r"^lower bound ([0-9]+)[^(]*\((.*?)\)", said, re.MULTILINE)
     bound, by = (line[1], line[2]) if line else ("", "")
     prover = find_prover()
     if prover and PROOF in run_program("--help", program=prover):
         given = [word for roster in rosters for word in ("--roster", str(roster))]
         try:
-            answer = run_program(*work.options(), PROOF, str(folder / "certificate.txt"), *given, program=prover)
+            answer = run_program(
+                *work.options(), PROOF, str(folder / "certificate.txt"), *given, program=prover
+            )
             bound, by = answer.split()[2], prover.name
             assert f"penalty {penalty}\n" in answer
         except ProgramFault as fault:
@@ -180,16 +223,25 @@ def checked(work: Work, folder: Path, said: str) -> Tuple[str, str, str, str]:
 def machine() -> str:
     """This machine in words."""
     info = Path("/proc/cpuinfo")
-    model = re.search(r"^model name\s*: (.*)$", info.read_text(), re.MULTILINE) if info.exists() else None
+    model = (
+        re.search(r"^model name\s*: (.*)$", info.read_text(), re.MULTILINE)
+        if info.exists()
+        else None
+    )
     used = f"{len(os.sched_getaffinity(0))} of its {os.cpu_count()} processors"
     return f"{model[1].strip() if model else platform.machine()}, {used}, {platform.system()}"
 
 
 def table(runs: Dict[str, Run]) -> str:
     """The table of these runs."""
-    lines = ["| week or period | penalty | lower bound | the best | seconds | of processors | MB |", "|---|---:|---:|---|---:|---:|---:|"]
+    lines = [
+        "| week or period | penalty | lower bound | the best | seconds | of processors | MB |",
+        "|---|---:|---:|---|---:|---:|---:|",
+    ]
     for name, run in runs.items():
-        lines.append(f"| `{name}` | {run.penalty} | {run.bound} | {run.proved} | {run.seconds:.1f} | {run.processor:.1f} | {run.memory} |")
+        lines.append(
+            f"| `{name}` | {run.penalty} | {run.bound} | {run.proved} | {run.seconds:.1f} | {run.processor:.1f} | {run.memory} |"
+        )
     return "\n".join(lines)
 
 
@@ -201,9 +253,17 @@ def write_page(text: str) -> None:
 
 def main() -> None:
     """Plans the weeks and periods."""
-    options = argparse.ArgumentParser(description=__doc__, formatter_class=argparse.RawDescriptionHelpFormatter)
+    options = argparse.ArgumentParser(
+        description=__doc__, formatter_class=argparse.RawDescriptionHelpFormatter
+    )
     options.add_argument("names", nargs="*", metavar="NAME", help="only these weeks and periods")
-    options.add_argument("--time", type=float, default=120, metavar="SECONDS", help="the most seconds for a week (default: 120)")
+    options.add_argument(
+        "--time",
+        type=float,
+        default=120,
+        metavar="SECONDS",
+        help="the most seconds for a week (default: 120)",
+    )
     options.add_argument("--only-print", action="store_true", help="leave the page as it is")
     given = options.parse_args()
     runs: Dict[str, Run] = {}

@@ -60,10 +60,18 @@ class Tree:
             leaf = self._take(5 + int(self.words[4]))
             self.leaves += 1
             return Drawn((), self._bound(leaf, facts), self.leaves - 1, len(facts), ())
-        length = FACT_WORDS[self.words[1]] + (self.words[1] == "CHARGES" and self.words[3] == "NURSE")
+        length = FACT_WORDS[self.words[1]] + (
+            self.words[1] == "CHARGES" and self.words[3] == "NURSE"
+        )
         fact = self._take(1 + length)[1:]
         parts = tuple(self.case((*facts, f"{word} {' '.join(fact)}")) for word in ("HOLDS", "NOT"))
-        return Drawn(fact, min(part.bound for part in parts), sum(part.column for part in parts) / 2, len(facts), parts)
+        return Drawn(
+            fact,
+            min(part.bound for part in parts),
+            sum(part.column for part in parts) / 2,
+            len(facts),
+            parts,
+        )
 
     def _bound(self, leaf: Sequence[str], facts: Facts) -> int:
         with tempfile.TemporaryDirectory() as folder:
@@ -82,7 +90,10 @@ def question(fact: Sequence[str]) -> List[str]:
         return ["Is the number of charges", "for runs of a shift type even?"]
     if kind == "CHOICE":
         week, nurse, day, shift = words
-        return [f"Has {nurse} on {day} of week {week}", "a day off?" if shift == "None" else f"the shift {shift}?"]
+        return [
+            f"Has {nurse} on {day} of week {week}",
+            "a day off?" if shift == "None" else f"the shift {shift}?",
+        ]
     if kind == "PLACE":
         week, day, shift, skill, most = words
         return [f"{shift} {skill} on {day} of week {week}:", f"at most {most} nurses?"]

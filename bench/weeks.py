@@ -20,7 +20,18 @@ from typing import List, NamedTuple
 ROOT = Path(__file__).resolve().parent.parent
 sys.path.append(str(ROOT / "python"))
 
-from inrc2pb.week.records import DAYS, Contract, History, Limits, Nurse, NurseHistory, Place, Request, Requirement, Scenario  # noqa: E402
+from inrc2pb.week.records import (
+    DAYS,
+    Contract,
+    History,
+    Limits,
+    Nurse,
+    NurseHistory,
+    Place,
+    Request,
+    Requirement,
+    Scenario,
+)  # noqa: E402
 from inrc2pb.week.records import ShiftType, Week, WeekData  # noqa: E402
 from inrc2pb.week.files import history_text, scenario_text, week_text  # noqa: E402
 from inrc2pb.week.writing import write_text  # noqa: E402
@@ -61,7 +72,10 @@ SIZES = {
 FEWEST_OF_PERIOD, MOST_OF_PERIOD = 3 * SIZES["ward"].block_size(), 1000
 
 # Weeks that differ only in the number of nurses, as wards do: requests grow with it.
-GROWTH = {nurses: Size(nurses=nurses, shifts=4, skills=4, contracts=4, requests=9 * nurses) for nurses in (10, 30, 120, 300, 1000)}
+GROWTH = {
+    nurses: Size(nurses=nurses, shifts=4, skills=4, contracts=4, requests=9 * nurses)
+    for nurses in (10, 30, 120, 300, 1000)
+}
 
 
 def named(kind: str, count: int) -> List[str]:
@@ -73,14 +87,26 @@ def scenario(size: Size, weeks: int = WEEKS) -> Scenario:
     """A scenario of this size, with this number of weeks."""
     shifts, skills = named("shift", size.shifts), named("skill", size.skills)
     types = {
-        name: ShiftType(name, Limits(2, 3 + number % 3), tuple(shifts[max(0, number - 2) : number])) for number, name in enumerate(shifts)
+        name: ShiftType(name, Limits(2, 3 + number % 3), tuple(shifts[max(0, number - 2) : number]))
+        for number, name in enumerate(shifts)
     }
     contracts = {
-        name: Contract(name, Limits(7 + c % 9, 11 + c % 12), Limits(3, 4 + c % 3), Limits(2, 3 + c % 3), 1 + c % 2, c % 2 == 1)
+        name: Contract(
+            name,
+            Limits(7 + c % 9, 11 + c % 12),
+            Limits(3, 4 + c % 3),
+            Limits(2, 3 + c % 3),
+            1 + c % 2,
+            c % 2 == 1,
+        )
         for c, name in enumerate(named("contract", size.contracts))
     }
     nurses = {
-        name: Nurse(name, f"contract{number % size.contracts}", tuple(skills[skill] for skill in size.skills_of(number)))
+        name: Nurse(
+            name,
+            f"contract{number % size.contracts}",
+            tuple(skills[skill] for skill in size.skills_of(number)),
+        )
         for number, name in enumerate(named("nurse", size.nurses))
     }
     return Scenario(NAME, weeks, tuple(skills), types, contracts, nurses)
@@ -88,7 +114,14 @@ def scenario(size: Size, weeks: int = WEEKS) -> Scenario:
 
 def first_history(size: Size) -> History:
     """The history of a first week: each nurse was off on the last days."""
-    return History(0, NAME, {name: NurseHistory(name, 0, 0, None, 0, 0, 1 + n % 4) for n, name in enumerate(named("nurse", size.nurses))})
+    return History(
+        0,
+        NAME,
+        {
+            name: NurseHistory(name, 0, 0, None, 0, 0, 1 + n % 4)
+            for n, name in enumerate(named("nurse", size.nurses))
+        },
+    )
 
 
 def history(size: Size) -> History:
@@ -96,7 +129,11 @@ def history(size: Size) -> History:
     pasts = {}
     for n, name in enumerate(named("nurse", size.nurses)):
         works = n >= 3 * size.block_size() and n % 2 == 0
-        run = (f"shift{n % size.shifts}", 1 + n % 3, 2 + n % 3, 0) if works else (None, 0, 0, 1 + n % 4)
+        run = (
+            (f"shift{n % size.shifts}", 1 + n % 3, 2 + n % 3, 0)
+            if works
+            else (None, 0, 0, 1 + n % 4)
+        )
         pasts[name] = NurseHistory(name, 6 + n % 12, n % 4, *run)
     return History(WEEKS - 1, NAME, pasts)
 
@@ -109,20 +146,39 @@ def week(size: Size) -> WeekData:
         for skill in range(size.skills)
         for day in range(len(DAYS))
     }
-    requests = [Request(f"nurse{r * 7 % size.nurses}", f"shift{r % size.shifts}" if r % 3 else None, r % 7) for r in range(size.requests)]
+    requests = [
+        Request(f"nurse{r * 7 % size.nurses}", f"shift{r % size.shifts}" if r % 3 else None, r % 7)
+        for r in range(size.requests)
+    ]
     return WeekData(NAME, requirements, tuple(requests))
 
 
 def greatest() -> Week:
     """The week with the longest model. Each succession is forbidden, no nurse has a skill, and limits whose minimum is above the
     maximum charge both."""
-    shifts, skills, nurses = tuple(named("shift", 16)), tuple(named("skill", 16)), named("nurse", 1000)
+    shifts, skills, nurses = (
+        tuple(named("shift", 16)),
+        tuple(named("skill", 16)),
+        named("nurse", 1000),
+    )
     both = Limits(9999, 0)
     contract = Contract("contract0", both, both, both, 0, True)
     types = {name: ShiftType(name, both, shifts) for name in shifts}
-    ward = Scenario(NAME, WEEKS, skills, types, {contract.name: contract}, {name: Nurse(name, contract.name, ()) for name in nurses})
+    ward = Scenario(
+        NAME,
+        WEEKS,
+        skills,
+        types,
+        {contract.name: contract},
+        {name: Nurse(name, contract.name, ()) for name in nurses},
+    )
     pasts = {name: NurseHistory(name, 0, 0, shifts[0], 1, 1, 1) for name in nurses}
-    requirements = {Place(day, shift, skill): Requirement(1, 9999) for shift in shifts for skill in skills for day in range(len(DAYS))}
+    requirements = {
+        Place(day, shift, skill): Requirement(1, 9999)
+        for shift in shifts
+        for skill in skills
+        for day in range(len(DAYS))
+    }
     requests = tuple(Request(nurses[r // 7 % 1000], None, r % 7) for r in range(9999))
     return Week(ward, History(WEEKS - 1, NAME, pasts), WeekData(NAME, requirements, requests))
 

@@ -16,7 +16,17 @@ sys.path.insert(0, str(Path(__file__).resolve().parent))
 
 from make_weeks import CONTRACTS, WEEKS, Numbers, write_week  # noqa: E402
 
-from inrc2pb.week.records import DAYS, History, Limits, Nurse, NurseHistory, Place, Request, Requirement, Scenario  # noqa: E402
+from inrc2pb.week.records import (
+    DAYS,
+    History,
+    Limits,
+    Nurse,
+    NurseHistory,
+    Place,
+    Request,
+    Requirement,
+    Scenario,
+)  # noqa: E402
 from inrc2pb.week.records import ShiftType, WeekData  # noqa: E402
 
 # The days that a nurse works in the made-up roster, and in each of the weeks before, at least.
@@ -26,7 +36,10 @@ MOST_SKILLS = 5
 
 def skills_of(numbers: Numbers, kinds: int) -> List[int]:
     """The skills of a nurse: small numbers are more frequent."""
-    drawn = (min(numbers.below(kinds), numbers.below(kinds)) for _ in range(1 + numbers.below(MOST_SKILLS)))
+    drawn = (
+        min(numbers.below(kinds), numbers.below(kinds))
+        for _ in range(1 + numbers.below(MOST_SKILLS))
+    )
     return sorted(set(drawn))
 
 
@@ -36,7 +49,9 @@ def shift_types(numbers: Numbers, kinds: int) -> List[ShiftType]:
     for number in range(kinds):
         minimum = 1 + numbers.below(3)
         earlier = tuple(f"shift{other}" for other in range(number - kinds // 3))
-        types.append(ShiftType(f"shift{number}", Limits(minimum, minimum + 2 + numbers.below(3)), earlier))
+        types.append(
+            ShiftType(f"shift{number}", Limits(minimum, minimum + 2 + numbers.below(3)), earlier)
+        )
     return types
 
 
@@ -46,19 +61,33 @@ def ward(name: str, nurses: int, kinds: int, numbers: Numbers) -> Scenario:
     types = {named.name: named for named in shift_types(numbers, kinds)}
     staff = {
         f"nurse{number}": Nurse(
-            f"nurse{number}", numbers.one_of(CONTRACTS).name, tuple(skills[index] for index in skills_of(numbers, kinds))
+            f"nurse{number}",
+            numbers.one_of(CONTRACTS).name,
+            tuple(skills[index] for index in skills_of(numbers, kinds)),
         )
         for number in range(nurses)
     }
-    return Scenario(name, WEEKS, tuple(skills), types, {named.name: named for named in CONTRACTS}, staff)
+    return Scenario(
+        name, WEEKS, tuple(skills), types, {named.name: named for named in CONTRACTS}, staff
+    )
 
 
 def past(nurse: Nurse, shifts: List[str], numbers: Numbers) -> NurseHistory:
     """A nurse's past: she worked on the last days, or was off."""
-    assignments, weekends = (WEEKS - 1) * WORKS[nurse.contract][1] + numbers.below(6), numbers.below(3)
+    assignments, weekends = (WEEKS - 1) * WORKS[nurse.contract][1] + numbers.below(
+        6
+    ), numbers.below(3)
     if numbers.below(5) < 3:
         run = 1 + numbers.below(4)
-        return NurseHistory(nurse.name, assignments, weekends, numbers.one_of(shifts), 1 + numbers.below(run), run, 0)
+        return NurseHistory(
+            nurse.name,
+            assignments,
+            weekends,
+            numbers.one_of(shifts),
+            1 + numbers.below(run),
+            run,
+            0,
+        )
     return NurseHistory(nurse.name, assignments, weekends, None, 0, 0, 1 + numbers.below(3))
 
 
@@ -72,7 +101,9 @@ def made_up_numbers(scenario: Scenario, history: History, numbers: Numbers) -> D
             left -= works
             forbidden = scenario.shift_types[last].forbidden_next if last else ()
             if works and (last is None or numbers.below(5) < 2):
-                last = numbers.one_of([shift for shift in scenario.shift_types if shift not in forbidden])
+                last = numbers.one_of(
+                    [shift for shift in scenario.shift_types if shift not in forbidden]
+                )
             last = last if works else None
             if last:
                 place = Place(day, last, numbers.one_of(nurse.skills))
@@ -84,14 +115,24 @@ def last_week(scenario: Scenario, history: History, percent: int, numbers: Numbe
     """A week with a request for each nurse."""
     there = made_up_numbers(scenario, history, numbers)
     asked = {}
-    for place in (Place(day, shift, skill) for day in range(len(DAYS)) for shift in scenario.shift_types for skill in scenario.skills):
+    for place in (
+        Place(day, shift, skill)
+        for day in range(len(DAYS))
+        for shift in scenario.shift_types
+        for skill in scenario.skills
+    ):
         number = there.get(place, 0)
         minimum = min(number, (6 * number + numbers.below(9)) // 10)
-        best = max(minimum, (number * percent + numbers.below(100)) // 100) + (numbers.below(100) < 15)
+        best = max(minimum, (number * percent + numbers.below(100)) // 100) + (
+            numbers.below(100) < 15
+        )
         if best:
             asked[place] = Requirement(minimum, best)
     nurses, shifts = list(scenario.nurses), [None, *scenario.shift_types]
-    requests = (Request(numbers.one_of(nurses), numbers.one_of(shifts), numbers.below(len(DAYS))) for _ in nurses)
+    requests = (
+        Request(numbers.one_of(nurses), numbers.one_of(shifts), numbers.below(len(DAYS)))
+        for _ in nurses
+    )
     return WeekData(scenario.name, asked, tuple(requests))
 
 
@@ -102,7 +143,10 @@ def main() -> None:
     nurses, kinds, seed, percent = (*map(int, sys.argv[2:]), 100)[:4]
     numbers = Numbers(seed)
     scenario = ward(f"wide{kinds}x{seed}", nurses, kinds, numbers)
-    pasts = {nurse.name: past(nurse, list(scenario.shift_types), numbers) for nurse in scenario.nurses.values()}
+    pasts = {
+        nurse.name: past(nurse, list(scenario.shift_types), numbers)
+        for nurse in scenario.nurses.values()
+    }
     history = History(WEEKS - 1, scenario.name, pasts)
     write_week(Path(sys.argv[1]), scenario, last_week(scenario, history, percent, numbers), history)
 

@@ -28,13 +28,17 @@ Texts = Dict[str, str]
 Writer = Callable[[TextIO], None]
 
 
-def week_of_names(nurses: Sequence[str], requests: Sequence[str] = (), name: str = "s1", weeks: str = "2") -> Texts:
+def week_of_names(
+    nurses: Sequence[str], requests: Sequence[str] = (), name: str = "s1", weeks: str = "2"
+) -> Texts:
     """A week of these nurses. Each word of `requests` names a nurse who asks for a day off."""
     rows = "".join(f"{nurse} Full 1 Nurse\n" for nurse in nurses)
     return {
         "scenario": SCENARIO.format(name=name, weeks=weeks, count=len(nurses), nurses=rows),
         "history": HISTORY.format(rows="".join(f"{nurse} 0 0 None 0 0 0\n" for nurse in nurses)),
-        "week": WEEK.format(count=len(requests), rows="".join(f"{nurse} Any Mon\n" for nurse in requests)),
+        "week": WEEK.format(
+            count=len(requests), rows="".join(f"{nurse} Any Mon\n" for nurse in requests)
+        ),
     }
 
 
@@ -53,9 +57,13 @@ def weeks() -> Iterator[Tuple[str, Texts]]:
     yield "four megabytes of digits", week_of_names(["Ann"], weeks="0" * (LARGEST_FILE - 400) + "2")
     alike = [f"{'n' * 396}{number:04}" for number in range(1000)]
     yield "1000 nurses whose names differ at the end", week_of_names(alike)
-    yield "9999 requests with long names", week_of_names(alike, [alike[request * 7 % 1000] for request in range(9999)])
+    yield "9999 requests with long names", week_of_names(
+        alike, [alike[request * 7 % 1000] for request in range(9999)]
+    )
     short = [f"n{number}" for number in range(1000)]
-    yield "9999 requests with short names", week_of_names(short, [short[request * 7 % 1000] for request in range(9999)])
+    yield "9999 requests with short names", week_of_names(
+        short, [short[request * 7 % 1000] for request in range(9999)]
+    )
 
 
 def repeated(start: str, piece: str, times: int) -> Writer:

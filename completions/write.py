@@ -31,7 +31,10 @@ ANSWER = {"--answer": ("file", "The solver's answer")}
 FROM = {"--from": ("file", "The roster, as a solution file")}
 COMMANDS: Dict[str, Tuple[str, Options]] = {
     "encode": ("Writes the week as a pseudo-Boolean model", {**WEEK, **OPB, **HELP}),
-    "decode": ("Turns a solver's answer into a solution file, and reports its costs", {**WEEK, **SOL, **ANSWER, **HELP}),
+    "decode": (
+        "Turns a solver's answer into a solution file, and reports its costs",
+        {**WEEK, **SOL, **ANSWER, **HELP},
+    ),
     "extend": ("Turns a roster into a solver's answer", {**WEEK, **FROM, **HELP}),
 }
 BOUND: Options = {
@@ -50,7 +53,14 @@ BOUND: Options = {
 PLAIN: Dict[str, Tuple[Options, List[str]]] = {
     "inrc2pb-bound": (BOUND, ["--week", "--fix", "--roster"]),
 }
-FILES = list(dict.fromkeys(name for _, options in COMMANDS.values() for name, (kind, _) in options.items() if kind == "file"))
+FILES = list(
+    dict.fromkeys(
+        name
+        for _, options in COMMANDS.values()
+        for name, (kind, _) in options.items()
+        if kind == "file"
+    )
+)
 
 BASH = """\
 # shellcheck shell=bash
@@ -193,7 +203,10 @@ def quoted(text: str) -> str:
 
 def bash() -> str:
     """The completion for bash."""
-    choices = [f"        {name}) choices='{' '.join(options)}' ;;" for name, (_, options) in COMMANDS.items()]
+    choices = [
+        f"        {name}) choices='{' '.join(options)}' ;;"
+        for name, (_, options) in COMMANDS.items()
+    ]
     return BASH % {
         "names": " | ".join(COMMANDS),
         "files": " | ".join(FILES),
@@ -223,7 +236,9 @@ def argument(name: str, kind: str, about: str) -> str:
 def plain_zsh(program: str) -> str:
     """The completion of a program of one command for zsh."""
     options, again = PLAIN[program]
-    arguments = " \\\n".join(f"    {argument('*' * (name in again) + name, *what)}" for name, what in options.items())
+    arguments = " \\\n".join(
+        f"    {argument('*' * (name in again) + name, *what)}" for name, what in options.items()
+    )
     return f"""#compdef {program}
 # Completion of {program}'s options and file names, for zsh. Written by completions/write.py.
 _arguments \\
@@ -235,11 +250,17 @@ def zsh() -> str:
     """The completion for zsh."""
     cases = []
     for name, (_, options) in COMMANDS.items():
-        arguments = " \\\n".join(" " * 24 + argument(option, *what) for option, what in options.items())
-        cases.append(f"                {name})\n                    _arguments \\\n{arguments}\n                    ;;")
+        arguments = " \\\n".join(
+            " " * 24 + argument(option, *what) for option, what in options.items()
+        )
+        cases.append(
+            f"                {name})\n                    _arguments \\\n{arguments}\n                    ;;"
+        )
     return ZSH % {
         "top": "\n".join(f"        {argument(name, *what)} \\" for name, what in ANY.items()),
-        "commands": " \\\n".join(f"                {quoted(f'{name}[{about}]')}" for name, (about, _) in COMMANDS.items()),
+        "commands": " \\\n".join(
+            f"                {quoted(f'{name}[{about}]')}" for name, (about, _) in COMMANDS.items()
+        ),
         "cases": "\n".join(cases),
     }
 
@@ -269,13 +290,23 @@ def main() -> None:
     """Writes the files."""
     parser = argparse.ArgumentParser(description="Writes the completions for bash, zsh and fish.")
     here = Path(__file__).resolve().parent
-    parser.add_argument("folder", nargs="?", type=Path, default=here, help="where the files go [default: beside this script]")
+    parser.add_argument(
+        "folder",
+        nargs="?",
+        type=Path,
+        default=here,
+        help="where the files go [default: beside this script]",
+    )
     folder = parser.parse_args().folder
     (folder / "inrc2pb.bash").write_text(bash())
     (folder / "_inrc2pb").write_text(zsh())
     (folder / "inrc2pb.fish").write_text("\n".join(fish()) + "\n")
     names = " ".join(sorted(path.name for path in (here.parent / "python").glob("inrc2pb-*")))
-    texts = {"inrc2pb-commands.bash": COMMANDS_BASH, "_inrc2pb-commands": COMMANDS_ZSH, "inrc2pb-commands.fish": COMMANDS_FISH}
+    texts = {
+        "inrc2pb-commands.bash": COMMANDS_BASH,
+        "_inrc2pb-commands": COMMANDS_ZSH,
+        "inrc2pb-commands.fish": COMMANDS_FISH,
+    }
     for name, text in texts.items():
         (folder / name).write_text(text % {"names": names})
     for program in PLAIN:

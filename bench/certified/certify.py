@@ -95,7 +95,9 @@ class Proved(NamedTuple):
 
 def proved(files: PeriodFiles, folder: Path) -> Optional[Proved]:
     """What the certificate and the rosters of a folder prove; None without them."""
-    prover, rosters = find_prover(), sorted(folder.glob("roster-*.txt"), key=lambda path: int(path.stem.partition("-")[2]))
+    prover, rosters = find_prover(), sorted(
+        folder.glob("roster-*.txt"), key=lambda path: int(path.stem.partition("-")[2])
+    )
     if prover is None:
         sys.exit("certify.py: there is no inrc2pb-bound beside inrc2pb: type make")
     if not (folder / CERTIFICATE).exists():
@@ -104,16 +106,27 @@ def proved(files: PeriodFiles, folder: Path) -> Optional[Proved]:
     if not rosters:
         none = run_program(*words, "--minimums", program=prover).startswith(EXISTS_NONE)
         return Proved(NONE, None) if none else None
-    said = run_program(*words, *(word for roster in rosters for word in ("--roster", str(roster))), program=prover)
+    said = run_program(
+        *words, *(word for roster in rosters for word in ("--roster", str(roster))), program=prover
+    )
     values = dict(line.rsplit(" ", 1) for line in said.splitlines() if line != "optimal")
     return Proved(values["lower bound"], int(values["penalty"]))
 
 
 def search(one: Instance, files: PeriodFiles, folder: Path, seconds: float) -> None:
     """Plans an instance in this folder, which gets its rosters and its certificate."""
-    target = folder if one.weeks > 1 else folder / f"roster-{files.history.stem.partition('-')[2]}.txt"
+    target = (
+        folder if one.weeks > 1 else folder / f"roster-{files.history.stem.partition('-')[2]}.txt"
+    )
     limits = ["--time", f"{seconds / one.weeks:g}", "--proof", str(folder / CERTIFICATE)]
-    words = [sys.executable, str(ROOT / "python/inrc2pb-solve"), *options_of(files), "--out", str(target), *limits]
+    words = [
+        sys.executable,
+        str(ROOT / "python/inrc2pb-solve"),
+        *options_of(files),
+        "--out",
+        str(target),
+        *limits,
+    ]
     subprocess.run(words, stdout=subprocess.DEVNULL, stderr=subprocess.DEVNULL)
 
 
@@ -125,7 +138,9 @@ def keep(one: Instance, files: PeriodFiles, new: Path, seconds: float) -> Option
         old.mkdir(parents=True, exist_ok=True)
         for roster in new.glob("roster-*.txt"):
             shutil.copy(roster, old)
-    if found and (before is None or int(found.bound.replace(NONE, "0")) > int(before.bound.replace(NONE, "0"))):
+    if found and (
+        before is None or int(found.bound.replace(NONE, "0")) > int(before.bound.replace(NONE, "0"))
+    ):
         shutil.copy(new / CERTIFICATE, old)
     best = proved(files, old) if old.exists() else None
     if best is None:
@@ -133,7 +148,17 @@ def keep(one: Instance, files: PeriodFiles, new: Path, seconds: float) -> Option
     variables, constraints, model = model_of(files)
     penalty = NONE if best.penalty is None else str(best.penalty)
     sums = sum_of(files), model
-    return Row(one.name, one.nurses, one.weeks, int(variables), int(constraints), *sums, penalty, best.bound, f"{seconds:.1f}")
+    return Row(
+        one.name,
+        one.nurses,
+        one.weeks,
+        int(variables),
+        int(constraints),
+        *sums,
+        penalty,
+        best.bound,
+        f"{seconds:.1f}",
+    )
 
 
 def certify(one: Instance, seconds: float) -> Optional[Row]:
@@ -168,9 +193,16 @@ def write_page(found: Dict[str, Row]) -> None:
 
 def main() -> None:
     """Certifies instances, or writes the page."""
-    options = argparse.ArgumentParser(description=__doc__, formatter_class=argparse.RawDescriptionHelpFormatter)
+    options = argparse.ArgumentParser(
+        description=__doc__, formatter_class=argparse.RawDescriptionHelpFormatter
+    )
     options.add_argument("names", metavar="NAME", nargs="*")
-    options.add_argument("--time", type=float, metavar="SECONDS", help=f"default: {WEEK_SECONDS:.0f} for a week, {PERIOD_SECONDS:.0f} else")
+    options.add_argument(
+        "--time",
+        type=float,
+        metavar="SECONDS",
+        help=f"default: {WEEK_SECONDS:.0f} for a week, {PERIOD_SECONDS:.0f} else",
+    )
     options.add_argument("--page", action="store_true")
     given = options.parse_args()
     for one in [] if given.page else map(named, given.names) if given.names else INSTANCES:

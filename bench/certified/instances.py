@@ -19,17 +19,41 @@ sys.path.insert(0, str(Path(__file__).resolve().parents[1]))
 
 import make_weeks  # noqa: E402
 import wide_weeks  # noqa: E402
-from make_weeks import NAMES, WEEKS, Numbers, first_history, history, nurses_of_ward, week_of_ward, write, write_week  # noqa: E402
+from make_weeks import (
+    NAMES,
+    WEEKS,
+    Numbers,
+    first_history,
+    history,
+    nurses_of_ward,
+    week_of_ward,
+    write,
+    write_week,
+)  # noqa: E402
 
 from inrc2pb.search.planned_weeks import PeriodFiles  # noqa: E402
 from inrc2pb.week.files import solution_text  # noqa: E402
-from inrc2pb.week.records import DAYS, Cell, History, Nurse, Place, Requirement, Scenario, Solution, WeekData  # noqa: E402
+from inrc2pb.week.records import (
+    DAYS,
+    Cell,
+    History,
+    Nurse,
+    Place,
+    Requirement,
+    Scenario,
+    Solution,
+    WeekData,
+)  # noqa: E402
 
 FIRST, SECOND, THIRD, LAST = range(WEEKS)
 # The numbers that a generator draws before it is used: the first ones of near seeds are alike.
 WARM = 8
 # The shift types of small wards, the mixes of skills of their nurses, and the part of each nurse who is needed on each shift, in percent.
-SMALL_SHIFTS, SMALL_SKILLS, SMALL_SHARE = ("Early", "Late", "Night"), (("HeadNurse", "Nurse"), ("Nurse",), ("Nurse",)), 15
+SMALL_SHIFTS, SMALL_SKILLS, SMALL_SHARE = (
+    ("Early", "Late", "Night"),
+    (("HeadNurse", "Nurse"), ("Nurse",), ("Nurse",)),
+    15,
+)
 SMALL_CONTRACTS = ("FullTime", "PartTime", "FullTime", "HalfTime")
 
 # A ward, the history with which its week begins, and the week.
@@ -38,7 +62,8 @@ Made = Tuple[Scenario, History, WeekData]
 
 class Instance(NamedTuple):
     """A week, or a period of several weeks: its name, what makes it, its number of nurses, that of its week or weeks, its demand in
-    percent, whether totals are charged early, how many cells are held, and how many shift types and skills a wide week has."""
+    percent, whether totals are charged early, how many cells are held, and how many shift types and skills a wide week has.
+    """
 
     name: str
     kind: str
@@ -57,10 +82,15 @@ class Instance(NamedTuple):
 
 def _small(one: Instance, numbers: Numbers) -> Made:
     """A ward of a few nurses with three shift types and two skills."""
-    nurses = [Nurse(NAMES[n], SMALL_CONTRACTS[n % 4], SMALL_SKILLS[n % 3]) for n in range(one.nurses)]
+    nurses = [
+        Nurse(NAMES[n], SMALL_CONTRACTS[n % 4], SMALL_SKILLS[n % 3]) for n in range(one.nurses)
+    ]
     ward = make_weeks.scenario(one.name, nurses)
     types = {name: ward.shift_types[name] for name in SMALL_SHIFTS}
-    types = {name: replace(kind, forbidden_next=tuple(filter(types.get, kind.forbidden_next))) for name, kind in types.items()}
+    types = {
+        name: replace(kind, forbidden_next=tuple(filter(types.get, kind.forbidden_next)))
+        for name, kind in types.items()
+    }
     ward = replace(ward, skills=ward.skills[:2], shift_types=types)
     asked: Dict[Place, Requirement] = {}
     for day, shift in itertools.product(range(len(DAYS)), SMALL_SHIFTS):
@@ -68,10 +98,13 @@ def _small(one: Instance, numbers: Numbers) -> Made:
         asked[Place(day, shift, "HeadNurse")] = Requirement(0, numbers.below(2))
         asked[Place(day, shift, "Nurse")] = Requirement(minimum, minimum + numbers.below(2))
     data = make_weeks.week(ward, asked, one.nurses, numbers)
-    requests = tuple(wish if wish.shift != "Day" else replace(wish, shift="Early") for wish in data.requests)
+    requests = tuple(
+        wish if wish.shift != "Day" else replace(wish, shift="Early") for wish in data.requests
+    )
     past = _past(one, ward, numbers)
     pasts = {
-        name: of_nurse if of_nurse.last_shift != "Day" else replace(of_nurse, last_shift="Early") for name, of_nurse in past.nurses.items()
+        name: of_nurse if of_nurse.last_shift != "Day" else replace(of_nurse, last_shift="Early")
+        for name, of_nurse in past.nurses.items()
     }
     return ward, replace(past, nurses=pasts), replace(data, requests=requests)
 
@@ -90,15 +123,23 @@ def _usual(one: Instance, numbers: Numbers) -> Made:
 def _short(one: Instance, numbers: Numbers) -> Made:
     """A usual week that asks for all head nurses on one night, and for one of them early on the day after it: no roster meets it."""
     ward, past, data = _usual(one, numbers)
-    heads, night = sum("HeadNurse" in nurse.skills for nurse in ward.nurses.values()), 1 + numbers.below(5)
-    more = {Place(night, "Night", "HeadNurse"): Requirement(heads, heads), Place(night + 1, "Early", "HeadNurse"): Requirement(1, 1)}
+    heads, night = sum(
+        "HeadNurse" in nurse.skills for nurse in ward.nurses.values()
+    ), 1 + numbers.below(5)
+    more = {
+        Place(night, "Night", "HeadNurse"): Requirement(heads, heads),
+        Place(night + 1, "Early", "HeadNurse"): Requirement(1, 1),
+    }
     return ward, past, replace(data, requirements={**data.requirements, **more})
 
 
 def _wide(one: Instance, numbers: Numbers) -> Made:
     """A last week with many shift types and skills."""
     ward = wide_weeks.ward(one.name, one.nurses, one.kinds, numbers)
-    pasts = {nurse.name: wide_weeks.past(nurse, list(ward.shift_types), numbers) for nurse in ward.nurses.values()}
+    pasts = {
+        nurse.name: wide_weeks.past(nurse, list(ward.shift_types), numbers)
+        for nurse in ward.nurses.values()
+    }
     past = History(one.week, ward.name, pasts)
     return ward, past, wide_weeks.last_week(ward, past, one.percent, numbers)
 
@@ -111,14 +152,25 @@ def _held(one: Instance, ward: Scenario, past: History, numbers: Numbers) -> Ite
     nurses = list(ward.nurses.values())
     for number in range(one.held):
         nurse = nurses[(number * len(nurses)) // one.held]
-        yield Cell(nurse.name, 1 + numbers.below(len(DAYS) - 1), numbers.one_of(list(ward.shift_types)), numbers.one_of(nurse.skills))
+        yield Cell(
+            nurse.name,
+            1 + numbers.below(len(DAYS) - 1),
+            numbers.one_of(list(ward.shift_types)),
+            numbers.one_of(nurse.skills),
+        )
 
 
 def _all() -> Iterator[Instance]:
     """All instances, the smallest of each kind first."""
     for nurses in (5, 6, 8, 10):
         for name, week in (("first", FIRST), ("second", SECOND), ("last", LAST)):
-            yield Instance(f"small-{nurses}-{name}", "small", nurses, week, {FIRST: 100, SECOND: 120, LAST: 90}[week])
+            yield Instance(
+                f"small-{nurses}-{name}",
+                "small",
+                nurses,
+                week,
+                {FIRST: 100, SECOND: 120, LAST: 90}[week],
+            )
     for nurses in (12, 20, 30, 45, 60, 80, 100, 120, 150, 200):
         yield Instance(f"first-{nurses}", "usual", nurses, FIRST)
         yield Instance(f"last-{nurses}", "usual", nurses, LAST)
@@ -153,7 +205,11 @@ def _period(one: Instance, home: Path, seed: int) -> PeriodFiles:
     for path in home.glob("week-*.txt"):
         if int(path.stem.partition("-")[2]) >= one.week:
             path.unlink()
-    return PeriodFiles(home / "ward.txt", home / "history-0.txt", [home / f"week-{number}.txt" for number in range(one.week)])
+    return PeriodFiles(
+        home / "ward.txt",
+        home / "history-0.txt",
+        [home / f"week-{number}.txt" for number in range(one.week)],
+    )
 
 
 def make(one: Instance, folder: Path) -> PeriodFiles:
@@ -169,15 +225,36 @@ def make(one: Instance, folder: Path) -> PeriodFiles:
     fixes = {}
     if one.held:
         fixes[0] = home / "fix.txt"
-        write(home, {"fix.txt": solution_text(Solution(past.week, ward.name, tuple(_held(one, ward, past, numbers))))})
-    return PeriodFiles(home / "ward.txt", home / f"history-{past.week}.txt", [home / f"week-{past.week}.txt"], fixes, one.early)
+        write(
+            home,
+            {
+                "fix.txt": solution_text(
+                    Solution(past.week, ward.name, tuple(_held(one, ward, past, numbers)))
+                )
+            },
+        )
+    return PeriodFiles(
+        home / "ward.txt",
+        home / f"history-{past.week}.txt",
+        [home / f"week-{past.week}.txt"],
+        fixes,
+        one.early,
+    )
 
 
 def options_of(files: PeriodFiles) -> List[str]:
     """The files of an instance as options of the programs and of `inrc2pb-solve`."""
     weeks = [word for path in files.weeks for word in ("--week", str(path))]
     fixes = ["--fix", str(files.fixes[0])] if files.fixes else []
-    return ["--sce", str(files.scenario), "--his", str(files.history), *weeks, *fixes, *["--early"] * files.early]
+    return [
+        "--sce",
+        str(files.scenario),
+        "--his",
+        str(files.history),
+        *weeks,
+        *fixes,
+        *["--early"] * files.early,
+    ]
 
 
 def named(name: str) -> Instance:
@@ -190,7 +267,9 @@ def named(name: str) -> Instance:
 
 def main() -> None:
     """Writes instances, or prints their names."""
-    options = argparse.ArgumentParser(description=__doc__, formatter_class=argparse.RawDescriptionHelpFormatter)
+    options = argparse.ArgumentParser(
+        description=__doc__, formatter_class=argparse.RawDescriptionHelpFormatter
+    )
     options.add_argument("folder", metavar="FOLDER", nargs="?", type=Path)
     options.add_argument("names", metavar="NAME", nargs="*")
     options.add_argument("--list", action="store_true")

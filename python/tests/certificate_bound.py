@@ -19,13 +19,27 @@ sys.path.insert(0, str(Path(__file__).resolve().parents[2] / "python"))
 from inrc2pb.judging.next_history import next_history  # noqa: E402
 from inrc2pb.judging.rules import broken, charges  # noqa: E402
 from inrc2pb.week.files import read_history, read_scenario, read_week  # noqa: E402
-from inrc2pb.week.records import DAYS, Cell, History, Place, Requirement, Scenario, Week, WeekData  # noqa: E402
+from inrc2pb.week.records import (
+    DAYS,
+    Cell,
+    History,
+    Place,
+    Requirement,
+    Scenario,
+    Week,
+    WeekData,
+)  # noqa: E402
 
 POINT, MISSING, NEVER = 1000, 30, 1 << 60
 # The weight of each kind of charges, and the rules that charge them.
 WEIGHTS = {"SHIFT_RUNS": 15, "WORK_DAYS": 30, "SHIFTS": 20, "WEEKENDS": 30}
 KINDS = tuple(WEIGHTS)
-CHARGED = {("S2", "shift"): "SHIFT_RUNS", ("S2", "work above"): "WORK_DAYS", ("S6", "above"): "SHIFTS", ("S7", "above"): "WEEKENDS"}
+CHARGED = {
+    ("S2", "shift"): "SHIFT_RUNS",
+    ("S2", "work above"): "WORK_DAYS",
+    ("S6", "above"): "SHIFTS",
+    ("S7", "above"): "WEEKENDS",
+}
 
 
 class Literal(NamedTuple):
@@ -124,13 +138,19 @@ def read_certificate(text: str, weeks: int, given: List[Literal]) -> List[Leaf]:
 class Period:
     """The weeks, with what each week of choices of a nurse costs and charges after each history."""
 
-    def __init__(self, scenario: Scenario, history: History, weeks: List[WeekData], early: bool = False) -> None:
+    def __init__(
+        self, scenario: Scenario, history: History, weeks: List[WeekData], early: bool = False
+    ) -> None:
         self.scenario, self.history, self.weeks, self.early = scenario, history, weeks, early
         self.choices = [None, *scenario.shift_types]
-        self._alone = {name: replace(scenario, nurses={name: nurse}) for name, nurse in scenario.nurses.items()}
+        self._alone = {
+            name: replace(scenario, nurses={name: nurse}) for name, nurse in scenario.nurses.items()
+        }
         self._known: Dict[tuple, tuple] = {}
 
-    def week_of(self, nurse: str, number: int, past: tuple, choices: Tuple[Optional[str], ...]) -> Optional[tuple]:
+    def week_of(
+        self, nurse: str, number: int, past: tuple, choices: Tuple[Optional[str], ...]
+    ) -> Optional[tuple]:
         """What a nurse's week costs, its charges by kind, and her history after it; None if she breaks the rule of successions."""
         key = (nurse, number, past, choices)
         if key not in self._known:
@@ -140,8 +160,16 @@ class Period:
     def _week_of(self, nurse: str, number: int, past, choices) -> Optional[tuple]:
         skill = (self.scenario.nurses[nurse].skills or ("",))[0]
         cells = [Cell(nurse, day, shift, skill) for day, shift in enumerate(choices) if shift]
-        data = WeekData("", {}, tuple(request for request in self.weeks[number].requests if request.nurse == nurse))
-        week = Week(self._alone[nurse], History(self.history.week + number, self.history.scenario, {nurse: past}), data)
+        data = WeekData(
+            "",
+            {},
+            tuple(request for request in self.weeks[number].requests if request.nurse == nurse),
+        )
+        week = Week(
+            self._alone[nurse],
+            History(self.history.week + number, self.history.scenario, {nurse: past}),
+            data,
+        )
         if "H3" in broken(week, cells):
             return None
         counts, cost = dict.fromkeys(KINDS, 0), 0
@@ -150,7 +178,9 @@ class Period:
             what = "shift" if charge.what.startswith("shift") else charge.what
             if (charge.rule, what) in CHARGED:
                 counts[CHARGED[charge.rule, what]] += charge.times
-        after = None if week.is_last else next_history(self.scenario, week.history, cells).nurses[nurse]
+        after = (
+            None if week.is_last else next_history(self.scenario, week.history, cells).nurses[nurse]
+        )
         return cost, tuple(counts.values()), after
 
 
@@ -169,7 +199,9 @@ def _weights(leaf: Leaf) -> Tuple[Dict[tuple, int], int, "set[tuple]"]:
     """What a charge of a kind costs a nurse (None: all nurses) more or less, what the bound gains, and the charges that are forbidden."""
     changes: Dict[tuple, int] = {}
     gains, never = 0, set()
-    for ((kind, *words), holds), surcharge in itertools.zip_longest(leaf.case, leaf.surcharges[: len(leaf.case)], fillvalue=0):
+    for ((kind, *words), holds), surcharge in itertools.zip_longest(
+        leaf.case, leaf.surcharges[: len(leaf.case)], fillvalue=0
+    ):
         if kind == "EVEN" and not holds:
             counted, number = ("SHIFT_RUNS", None), 1
         elif kind == "CHARGES":
@@ -184,7 +216,9 @@ def _weights(leaf: Leaf) -> Tuple[Dict[tuple, int], int, "set[tuple]"]:
     return changes, gains, never
 
 
-def _minimum(period: Period, leaf: Leaf, nurse: str, changes: Dict[tuple, int], never: "set[tuple]") -> int:
+def _minimum(
+    period: Period, leaf: Leaf, nurse: str, changes: Dict[tuple, int], never: "set[tuple]"
+) -> int:
     """The minimum that a nurse costs less what she earns, in thousandths."""
     forbidden, skills = _forbidden(period, leaf, nurse), period.scenario.nurses[nurse].skills
     added = [sum(changes.get((kind, who), 0) for who in (None, nurse)) for kind in KINDS]
@@ -192,15 +226,30 @@ def _minimum(period: Period, leaf: Leaf, nurse: str, changes: Dict[tuple, int], 
     layer = {period.history.nurses[nurse]: 0}
     for number in range(len(period.weeks)):
         later: Dict[object, int] = {}
-        days = [[one for one in period.choices if (7 * number + day, one) not in forbidden and (one is None or skills)] for day in range(7)]
+        days = [
+            [
+                one
+                for one in period.choices
+                if (7 * number + day, one) not in forbidden and (one is None or skills)
+            ]
+            for day in range(7)
+        ]
         for choices in itertools.product(*days):
             worked = [(7 * number + day, one) for day, one in enumerate(choices) if one]
-            earned = sum(max(leaf.prices.get(Place(day, one, skill), 0) for skill in skills) for day, one in worked)
+            earned = sum(
+                max(leaf.prices.get(Place(day, one, skill), 0) for skill in skills)
+                for day, one in worked
+            )
             for past, before in layer.items():
                 found = period.week_of(nurse, number, past, choices)
                 if found is None or any(ban and count for ban, count in zip(banned, found[1])):
                     continue
-                cost = before + found[0] * POINT - earned + sum(more * count for more, count in zip(added, found[1]))
+                cost = (
+                    before
+                    + found[0] * POINT
+                    - earned
+                    + sum(more * count for more, count in zip(added, found[1]))
+                )
                 later[found[2]] = min(later.get(found[2], NEVER), cost)
         layer = later
     return min(layer.values(), default=NEVER)
@@ -212,10 +261,14 @@ def _asked(period: Period, leaf: Leaf) -> Tuple[Dict[Place, Requirement], int, b
     given_up, none = 0, False
     for number, week in enumerate(period.weeks):
         for place, one in week.requirements.items():
-            asked[place._replace(day=7 * number + place.day)] = Requirement(one.minimum, max(one.minimum, one.optimal))
+            asked[place._replace(day=7 * number + place.day)] = Requirement(
+                one.minimum, max(one.minimum, one.optimal)
+            )
     for (kind, *words), holds in leaf.case:
         if kind == "PLACE":
-            place, most = Place(7 * (int(words[0]) - 1) + DAYS.index(words[1]), words[2], words[3]), int(words[4])
+            place, most = Place(
+                7 * (int(words[0]) - 1) + DAYS.index(words[1]), words[2], words[3]
+            ), int(words[4])
             present = asked.get(place, Requirement(0, 0))
             least, best = present.minimum, present.optimal
             if holds:
@@ -232,7 +285,10 @@ def leaf_bound(period: Period, leaf: Leaf) -> int:
     """The bound of a leaf in points; NEVER if no plan is in it."""
     changes, gains, never = _weights(leaf)
     nurses = period.scenario.nurses
-    lowest = {kind: min(changes.get((kind, None), 0) + changes.get((kind, nurse), 0) for nurse in nurses) for kind in KINDS}
+    lowest = {
+        kind: min(changes.get((kind, None), 0) + changes.get((kind, nurse), 0) for nurse in nurses)
+        for kind in KINDS
+    }
     if any(WEIGHTS[kind] * POINT + change < 0 for kind, change in lowest.items()):
         return 0
     asked, given_up, none = _asked(period, leaf)
@@ -253,7 +309,11 @@ def leaf_bound(period: Period, leaf: Leaf) -> int:
 def bound(period: Period, certificate: Optional[str], given: str = "FACTS x ROWS = 0") -> int:
     """The bound of a certificate; without one all prices are 0."""
     facts = read_given(given)
-    leaves = [Leaf(facts, {}, [])] if certificate is None else read_certificate(certificate, len(period.weeks), facts)
+    leaves = (
+        [Leaf(facts, {}, [])]
+        if certificate is None
+        else read_certificate(certificate, len(period.weeks), facts)
+    )
     return min(leaf_bound(period, leaf) for leaf in leaves)
 
 
@@ -274,7 +334,10 @@ def main() -> None:
     proof = Path(words.proof).read_text() if words.proof else None
     if words.leaves and proof:
         for leaf in read_certificate(proof, len(period.weeks), read_given(given)):
-            print(leaf_bound(period, leaf), *(f"{'' if holds else 'NOT '}{' '.join(fact)};" for fact, holds in leaf.case))
+            print(
+                leaf_bound(period, leaf),
+                *(f"{'' if holds else 'NOT '}{' '.join(fact)};" for fact, holds in leaf.case),
+            )
     print("lower bound", bound(period, proof, given))
 
 

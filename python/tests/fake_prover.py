@@ -17,7 +17,11 @@ from pathlib import Path
 
 def main():
     how, log, *words = sys.argv[1:]
-    texts = {option: Path(path).read_text() for option, path in zip(words, words[1:]) if option in ("--proof", "--given")}
+    texts = {
+        option: Path(path).read_text()
+        for option, path in zip(words, words[1:])
+        if option in ("--proof", "--given")
+    }
     Path(log).write_text(json.dumps({"words": words, "texts": texts, "process": os.getpid()}))
     if how == "hang":
         signal.signal(signal.SIGTERM, signal.SIG_IGN)

@@ -18,10 +18,19 @@ PREPOSITIONS = ("of", "at")
 
 def python_files() -> List[Path]:
     """The Python files of the repository, those without an ending too."""
-    listed = subprocess.run(["git", "ls-files", "-z"], cwd=ROOT, stdout=subprocess.PIPE, check=True, universal_newlines=True).stdout
+    listed = subprocess.run(
+        ["git", "ls-files", "-z"],
+        cwd=ROOT,
+        stdout=subprocess.PIPE,
+        check=True,
+        universal_newlines=True,
+    ).stdout
     files = [ROOT / name for name in listed.split("\0") if name]
     return [
-        file for file in files if file.is_file() and (file.suffix == ".py" or file.read_bytes()[:40].startswith(b"#!/usr/bin/env python3"))
+        file
+        for file in files
+        if file.is_file()
+        and (file.suffix == ".py" or file.read_bytes()[:40].startswith(b"#!/usr/bin/env python3"))
     ]
 
 
@@ -41,7 +50,9 @@ def faults(file: Path) -> Iterator[str]:
 
 def main(words: List[str]) -> int:
     """Prints the places; the exit status."""
-    found = [fault for file in (map(Path, words) if words else python_files()) for fault in faults(file)]
+    found = [
+        fault for file in (map(Path, words) if words else python_files()) for fault in faults(file)
+    ]
     for fault in found:
         print(fault)
     return int(bool(found))

@@ -18,14 +18,19 @@ Module = Tuple[str, ...]
 
 def modules_of(folder: Path) -> Dict[Module, Path]:
     """The modules of a folder."""
-    return {path.relative_to(folder).with_suffix("").parts: path for path in sorted(folder.rglob("*.py"))}
+    return {
+        path.relative_to(folder).with_suffix("").parts: path
+        for path in sorted(folder.rglob("*.py"))
+    }
 
 
 def imports_of(module: Module, modules: Dict[Module, Path]) -> Iterator[Tuple[Module, str]]:
     """The modules that a module imports, each with the name that it takes from it."""
     for node in ast.walk(ast.parse(modules[module].read_text())):
         if isinstance(node, ast.ImportFrom) and node.level:
-            source = module[: len(module) - node.level] + tuple(filter(None, (node.module or "").split(".")))
+            source = module[: len(module) - node.level] + tuple(
+                filter(None, (node.module or "").split("."))
+            )
             for alias in node.names:
                 inner = (*source, alias.name)
                 yield (inner, "") if inner in modules else (source, alias.name)
@@ -36,7 +41,11 @@ def in_circles(imports: Dict[Module, Set[Module]]) -> List[Module]:
     left = dict(imports)
     while True:
         used = {other for module, needed in left.items() for other in needed & set(left)}
-        outer = [module for module, needed in left.items() if module not in used or not needed & set(left)]
+        outer = [
+            module
+            for module, needed in left.items()
+            if module not in used or not needed & set(left)
+        ]
         if not outer:
             return sorted(left)
         for module in outer:
@@ -63,7 +72,10 @@ def faults(folder: Path, allowed: Dict[str, Set[str]]) -> Iterator[str]:
 def main() -> int:
     """Reads the doors that are allowed, and prints the faults; the exit status."""
     here = Path(__file__).resolve().parent
-    folder, allowed = [*map(Path, sys.argv[1:]), *(here.parents[1] / "python" / "inrc2pb", here / "allowed.txt")[len(sys.argv) - 1 :]]
+    folder, allowed = [
+        *map(Path, sys.argv[1:]),
+        *(here.parents[1] / "python" / "inrc2pb", here / "allowed.txt")[len(sys.argv) - 1 :],
+    ]
     lines = (line.split(":") for line in allowed.read_text().splitlines())
     found = list(faults(folder, {package: set(others.split()) for package, others in lines}))
     for fault in found:

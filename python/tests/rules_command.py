@@ -16,7 +16,9 @@ from inrc2pb.week.files import read_files, read_solution  # noqa: E402
 
 def main() -> None:
     """Prints a line for each number."""
-    options = argparse.ArgumentParser(description="Prints what a roster costs, as docs/rules.md has it.")
+    options = argparse.ArgumentParser(
+        description="Prints what a roster costs, as docs/rules.md has it."
+    )
     for name in ("--sce", "--his", "--week"):
         options.add_argument(name, type=Path, required=True)
     options.add_argument("--fix", type=Path)
@@ -31,7 +33,11 @@ def main() -> None:
         print(f"roster breaks {rule}")
         return
     cost = costs(week, roster, given.early)
-    print(f"penalty {sum(cost.values())}", *(f"{rule} {paid}" for rule, paid in cost.items()), sep="\n")
+    print(
+        f"penalty {sum(cost.values())}",
+        *(f"{rule} {paid}" for rule, paid in cost.items()),
+        sep="\n",
+    )
 
 
 if __name__ == "__main__":

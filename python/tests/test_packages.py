@@ -14,7 +14,10 @@ class Imports(HelperTest):
             "low/two": "name = 1\n",
             "high/three": "from ..low.one import name\nfrom ..low import two\n",
         }
-        for module, text in {**texts, **{module.replace("_", "/"): text for module, text in modules.items()}}.items():
+        for module, text in {
+            **texts,
+            **{module.replace("_", "/"): text for module, text in modules.items()},
+        }.items():
             path = self.folder / f"{module}.py"
             path.parent.mkdir(exist_ok=True)
             path.write_text(text)
@@ -24,18 +27,27 @@ class Imports(HelperTest):
         self.assertEqual(self.faults(), [])
 
     def test_a_new_door(self):
-        self.assertEqual(self.faults(low_two="from ..high.four import other\n"), ["low.two imports high.four: low may not import high"])
+        self.assertEqual(
+            self.faults(low_two="from ..high.four import other\n"),
+            ["low.two imports high.four: low may not import high"],
+        )
 
     def test_a_door_in_a_function(self):
-        self.assertEqual(self.faults(low_two="def f():\n    from ..high import four\n"), ["low.two imports high: low may not import high"])
+        self.assertEqual(
+            self.faults(low_two="def f():\n    from ..high import four\n"),
+            ["low.two imports high: low may not import high"],
+        )
 
     def test_a_circle(self):
         found = self.faults(low_two="from .one import name\n")
-        self.assertEqual(found, ["low.one is in a circle of imports", "low.two is in a circle of imports"])
+        self.assertEqual(
+            found, ["low.one is in a circle of imports", "low.two is in a circle of imports"]
+        )
 
     def test_a_private_name(self):
         self.assertEqual(
-            self.faults(high_three="from ..low.two import _hidden\n"), ["high.three imports _hidden, a private name of low.two"]
+            self.faults(high_three="from ..low.two import _hidden\n"),
+            ["high.three imports _hidden, a private name of low.two"],
         )
 
 

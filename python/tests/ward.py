@@ -24,11 +24,15 @@ from inrc2pb.commands.command import launch  # noqa: E402
 from inrc2pb.judging.absences import with_requests  # noqa: E402
 
 WARD = ROOT / "examples" / "ward"
-SCENARIO, HISTORY, WEEK, ROSTER = (WARD / name for name in ("ward.txt", "history-0.txt", "week-0.txt", "roster-0.txt"))
+SCENARIO, HISTORY, WEEK, ROSTER = (
+    WARD / name for name in ("ward.txt", "history-0.txt", "week-0.txt", "roster-0.txt")
+)
 WEEK_OPTIONS = ("--sce", SCENARIO, "--his", HISTORY, "--week", WEEK)
 WEEK_FILES = program.WeekFiles(SCENARIO, HISTORY, WEEK)
 THIRTY = ROOT / "examples" / "thirty"
-THIRTY_FILES = program.WeekFiles(THIRTY / "ward.txt", THIRTY / "history-3.txt", THIRTY / "week-3.txt")
+THIRTY_FILES = program.WeekFiles(
+    THIRTY / "ward.txt", THIRTY / "history-3.txt", THIRTY / "week-3.txt"
+)
 # A roster of this week: clasp's answer to its model with --early.
 EARLY_ANSWER = ROOT / "tests" / "data" / "thirty_clasp_early.txt"
 # A shell lets its background ignore Ctrl-C, and so would the commands.
@@ -51,7 +55,11 @@ def run(command, *words, environment=None):
         text = pipe.read().decode()
         _, ended = os.waitpid(child, 0)
         said.seek(0)
-        return os.WEXITSTATUS(ended) if os.WIFEXITED(ended) else -os.WTERMSIG(ended), text, said.read().decode()
+        return (
+            os.WEXITSTATUS(ended) if os.WIFEXITED(ended) else -os.WTERMSIG(ended),
+            text,
+            said.read().decode(),
+        )
 
 
 def run_here(command, words, environment, printed, said):
@@ -109,7 +117,9 @@ class HelperTest(unittest.TestCase):
     def solution(self, *rows, week=0, ward="ward", name="rows.txt"):
         """A solution file with these rows, the first of them on line 5."""
         target = self.folder / name
-        target.write_text("\n".join([f"SOLUTION\n{week} {ward}\n", f"ASSIGNMENTS = {len(rows)}", *rows]) + "\n")
+        target.write_text(
+            "\n".join([f"SOLUTION\n{week} {ward}\n", f"ASSIGNMENTS = {len(rows)}", *rows]) + "\n"
+        )
         return target
 
     def away(self, *absences, week=WEEK, name="away.txt"):
@@ -118,16 +128,24 @@ class HelperTest(unittest.TestCase):
         found = []
         for text in absences:
             nurse, _, days = text.partition("=")
-            found += [records.Absence(nurse, records.DAYS.index(day), None) for day in (days.split(",") if days else records.DAYS)]
+            found += [
+                records.Absence(nurse, records.DAYS.index(day), None)
+                for day in (days.split(",") if days else records.DAYS)
+            ]
         target = self.folder / name
-        target.write_text(files.week_text(with_requests(scenario, files.read_week(week, scenario), found).data))
+        target.write_text(
+            files.week_text(with_requests(scenario, files.read_week(week, scenario), found).data)
+        )
         return target
 
     def swapped(self, one, two):
         """The ward's roster with the weeks of two nurses swapped, in the file start.txt."""
         names = {one: two, two: one}
         rows = files.read_solution(ROSTER).cells
-        return self.solution(*(row._replace(nurse=names.get(row.nurse, row.nurse)).row() for row in rows), name="start.txt")
+        return self.solution(
+            *(row._replace(nurse=names.get(row.nurse, row.nurse)).row() for row in rows),
+            name="start.txt",
+        )
 
     def script(self, name, text):
         """A shell script in the test's folder."""
@@ -145,7 +163,11 @@ class HelperTest(unittest.TestCase):
     def slow_to_encode(self, running):
         """The environment of a program whose `encode` makes the file `running`, and does not end in the time of a test."""
         encodes = f'[ "$1" != encode ] || {{ touch {running}; exec sleep 200; }}'
-        return {"INRC2PB": str(self.script("inrc2pb", f'{encodes}\nexec {program.find_program()} "$@"\n'))}
+        return {
+            "INRC2PB": str(
+                self.script("inrc2pb", f'{encodes}\nexec {program.find_program()} "$@"\n')
+            )
+        }
 
     def assert_fault(self, ran, line, status=1):
         """The run printed this line on standard error and nothing else."""

@@ -49,9 +49,16 @@ class Plan(NamedTuple):
 
 def crates_with_edits(names: List[str]) -> Tuple[Dict[str, build.Crate], List[str]]:
     """These crates, or all if none is named, with those below them; and the names of those that have edits."""
-    listed = [line.partition("#")[0].partition(":")[0].split() for line in (build.ROOT / "crates.txt").read_text().splitlines()]
+    listed = [
+        line.partition("#")[0].partition(":")[0].split()
+        for line in (build.ROOT / "crates.txt").read_text().splitlines()
+    ]
     crates = build.crates_below(names or [words[0] for words in listed if words])
-    return crates, [name for name in crates if (not names or name in names) and (crates[name].home / "must-fail").exists()]
+    return crates, [
+        name
+        for name in crates
+        if (not names or name in names) and (crates[name].home / "must-fail").exists()
+    ]
 
 
 def plan(crates: Dict[str, build.Crate], names: List[str], anew: bool) -> Plan:
@@ -91,7 +98,9 @@ def plural(count: int, what: str) -> str:
     return f"{count} {what}{'s' * (count != 1)}"
 
 
-def tried(crates: Dict[str, build.Crate], made: Plan, each_alone: bool, are_proved: bool) -> Dict[Edit, Outcome]:
+def tried(
+    crates: Dict[str, build.Crate], made: Plan, each_alone: bool, are_proved: bool
+) -> Dict[Edit, Outcome]:
     """Tries the edits of the plan. The record in `out/edits` has each as soon as it is refused, also if the run is ended."""
     by_crate: Dict[str, List[Edit]] = {}
     for edit in made.untried:
@@ -109,13 +118,17 @@ def tried(crates: Dict[str, build.Crate], made: Plan, each_alone: bool, are_prov
     finally:
         shutil.rmtree(ROOMS, ignore_errors=True)
     if made.untried:
-        print(f"edits: {plural(len(made.untried), 'edit')} in {plural(trials.checks, 'check')}, {trials.processor:.0f} s of processor time")
+        print(
+            f"edits: {plural(len(made.untried), 'edit')} in {plural(trials.checks, 'check')}, {trials.processor:.0f} s of processor time"
+        )
     return outcomes
 
 
 def entries_of(made: Plan, outcomes: Dict[Edit, Outcome]) -> Dict[Edit, Entry]:
     """The entries of the edits that were refused."""
-    return {edit: Entry(made.checksums[edit], one.goals) for edit, one in outcomes.items() if one.goals}
+    return {
+        edit: Entry(made.checksums[edit], one.goals) for edit, one in outcomes.items() if one.goals
+    }
 
 
 def leave(names: List[str], entries: Dict[Edit, Entry]) -> None:
@@ -135,29 +148,42 @@ def write() -> None:
             print(f"written: {home.relative_to(build.ROOT)}")
 
 
-def tell(made: Plan, outcomes: Dict[Edit, Outcome], entries: Dict[Edit, Entry], names: List[str]) -> int:
+def tell(
+    made: Plan, outcomes: Dict[Edit, Outcome], entries: Dict[Edit, Entry], names: List[str]
+) -> int:
     """Prints what is wrong, and the counts; the number of edits that failed."""
     failed = {edit: outcome for edit, outcome in outcomes.items() if not outcome.goals}
     for edit, outcome in failed.items():
         print(f"edits: {edit.crate}/{edit.name}: {outcome.fault}")
     for edit, entry in entries.items():
         if record.rests_on_answers(entry):
-            print(f"edits: note: only answers that no longer fit refuse {edit.crate}/{edit.name}; its line is in {VALUES}")
+            print(
+                f"edits: note: only answers that no longer fit refuse {edit.crate}/{edit.name}; its line is in {VALUES}"
+            )
     print(f"edits: {len(outcomes)} tried, {len(made.recorded)} taken from the record")
     if names:
-        print(f"edits: the record differs from that of the tree for {', '.join(names)}: 'tests/edits/main.py write' writes it there")
+        print(
+            f"edits: the record differs from that of the tree for {', '.join(names)}: 'tests/edits/main.py write' writes it there"
+        )
     return len(failed)
 
 
 def differing(names: List[str]) -> List[str]:
     """The crates whose new record is not that of the tree."""
-    return [name for name in names if record.read(NEW / f"{name}.txt") != record.read(build.ROOT / "crates" / name / "edits.txt")]
+    return [
+        name
+        for name in names
+        if record.read(NEW / f"{name}.txt")
+        != record.read(build.ROOT / "crates" / name / "edits.txt")
+    ]
 
 
 def commit() -> str:
     """The commit of the tree, as package/commit.sh has it."""
     words = ["bash", "-c", ". package/commit.sh && echo $commit"]
-    return subprocess.run(words, cwd=build.ROOT, stdout=subprocess.PIPE, text=True, check=True).stdout.strip()
+    return subprocess.run(
+        words, cwd=build.ROOT, stdout=subprocess.PIPE, text=True, check=True
+    ).stdout.strip()
 
 
 def run(words: List[str]) -> int:
@@ -169,7 +195,9 @@ def run(words: List[str]) -> int:
     both = "--both" in words
     made = plan(crates, names, both or "--anew" in words)
     if "--built" not in words and not build_below(crates, made.untried):
-        print("edits: a crate is not proved, so no edits of those above it were tried\n0 passed, 1 failed")
+        print(
+            "edits: a crate is not proved, so no edits of those above it were tried\n0 passed, 1 failed"
+        )
         return 1
     outcomes = tried(crates, made, "--alone" in words, "--built" in words)
     if made.checksums != plan(crates, names, True).checksums:
@@ -194,7 +222,10 @@ def main(words: List[str]) -> int:
     if words == ["write"]:
         write()
         return 0
-    if any(word.startswith("--") and word not in ("--anew", "--alone", "--both", "--built") for word in words):
+    if any(
+        word.startswith("--") and word not in ("--anew", "--alone", "--both", "--built")
+        for word in words
+    ):
         print(__doc__, file=sys.stderr)
         return 2
     for one in (signal.SIGINT, signal.SIGTERM, signal.SIGHUP):

@@ -21,7 +21,9 @@ class Trial(NamedTuple):
 
 def from_nothing() -> List[str]:
     """The word with which `rt must-fail` takes no result of an earlier run; none if this kit keeps no results."""
-    guide = subprocess.run(["rt", "help"], stdout=subprocess.PIPE, stderr=subprocess.STDOUT, text=True)
+    guide = subprocess.run(
+        ["rt", "help"], stdout=subprocess.PIPE, stderr=subprocess.STDOUT, text=True
+    )
     return ["--anew"] if "--anew" in guide.stdout else []
 
 
@@ -36,7 +38,14 @@ def trials_in(lines: Iterable[str]) -> Iterator[Tuple[Tuple[str, str], Trial]]:
 def must_fail(names: List[str]) -> Dict[Tuple[str, str], Trial]:
     """Tries the edits of these crates one by one."""
     words = ["rt", "must-fail", *from_nothing(), *names]
-    ran = subprocess.run(words, cwd=build.ROOT, stdout=subprocess.PIPE, stderr=subprocess.STDOUT, text=True, errors="replace")
+    ran = subprocess.run(
+        words,
+        cwd=build.ROOT,
+        stdout=subprocess.PIPE,
+        stderr=subprocess.STDOUT,
+        text=True,
+        errors="replace",
+    )
     print(ran.stdout, end="", flush=True)
     return dict(trials_in(ran.stdout.splitlines()))
 
@@ -52,7 +61,9 @@ def difference(entry: Entry, trial: Trial) -> str:
     return ""
 
 
-def differences(entries: Dict[Edit, Entry], trials: Dict[Tuple[str, str], Trial]) -> Dict[Edit, str]:
+def differences(
+    entries: Dict[Edit, Entry], trials: Dict[Tuple[str, str], Trial]
+) -> Dict[Edit, str]:
     """The edits, refused in their rounds, for which `rt must-fail` says something else."""
     found = {}
     for edit, entry in entries.items():

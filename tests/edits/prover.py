@@ -44,10 +44,18 @@ def library(name: str) -> Path:
     return build.ROOT / "crates" / name / "out" / "rlib" / f"{name}.rlib"
 
 
-def check_words(crate: build.Crate, crates: Dict[str, build.Crate], jobs: int, kept: Path) -> List[str]:
+def check_words(
+    crate: build.Crate, crates: Dict[str, build.Crate], jobs: int, kept: Path
+) -> List[str]:
     """The command that checks the crate in a folder with its sources, over what was kept."""
     folder, used = kit(), crate.line.partition("#")[0].partition(":")[2].split()
-    words = [f"{folder}/bin/rattle", "check", "--crate-name", crate.name, f"src/{'main' if crate.is_program else 'lib'}.rt"]
+    words = [
+        f"{folder}/bin/rattle",
+        "check",
+        "--crate-name",
+        crate.name,
+        f"src/{'main' if crate.is_program else 'lib'}.rt",
+    ]
     for name in ["std", *(name for name in used if name not in crates)]:
         words += ["--extern", f"{name}={folder}/rlibs/{name}.rlib"]
     words += ["-L", f"dependency={folder}/rlibs"]
@@ -55,7 +63,12 @@ def check_words(crate: build.Crate, crates: Dict[str, build.Crate], jobs: int, k
         words += ["--extern", f"{name}={library(name)}"]
     for name in sorted(crate.below):
         words += ["-L", f"dependency={library(name).parent}"]
-    words += ["--antt-project", f"{folder}/rattle/logic/antt-project.json", "--logic-built", f"{folder}/logic_built"]
+    words += [
+        "--antt-project",
+        f"{folder}/rattle/logic/antt-project.json",
+        "--logic-built",
+        f"{folder}/logic_built",
+    ]
     return [*words, "--jobs", str(jobs), "--incremental", str(kept)]
 
 
@@ -92,14 +105,25 @@ def copy_with(edits: Iterable[Edit], crate: build.Crate) -> Path:
     return folder
 
 
-def check(crate: build.Crate, crates: Dict[str, build.Crate], edits: Iterable[Edit], jobs: int, running: Set[int]) -> Check:
+def check(
+    crate: build.Crate,
+    crates: Dict[str, build.Crate],
+    edits: Iterable[Edit],
+    jobs: int,
+    running: Set[int],
+) -> Check:
     """Checks the crate with these edits, by this number of jobs. Its process, which leads a group, is among those that are running as long
     as it is. Raises Unfit if the edits do not fit."""
     folder, log = copy_with(edits, crate), ROOMS / crate.name / "log"
     words = check_words(crate, crates, jobs, kept_work(crate))
     with log.open("wb") as out:
         process = subprocess.Popen(
-            words, cwd=folder, stdin=subprocess.DEVNULL, stdout=out, stderr=subprocess.STDOUT, start_new_session=True
+            words,
+            cwd=folder,
+            stdin=subprocess.DEVNULL,
+            stdout=out,
+            stderr=subprocess.STDOUT,
+            start_new_session=True,
         )
     running.add(process.pid)
     _, status, used = os.wait4(process.pid, 0)

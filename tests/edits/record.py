@@ -34,12 +34,19 @@ def checksum(edit: Edit, sources: str) -> str:
 
 def line(name: str, entry: Entry, goal: Goal) -> str:
     """The line of the record."""
-    return " ".join([name, entry.checksum, goal.function, goal.name, *[ANSWER] * goal.only_answer]) + "\n"
+    return (
+        " ".join([name, entry.checksum, goal.function, goal.name, *[ANSWER] * goal.only_answer])
+        + "\n"
+    )
 
 
 def text_of(entries: Dict[str, Entry]) -> str:
     """The text of the record of these edits."""
-    return HEAD + "".join(line(name, entry, goal) for name, entry in sorted(entries.items()) for goal in sorted(entry.goals))
+    return HEAD + "".join(
+        line(name, entry, goal)
+        for name, entry in sorted(entries.items())
+        for goal in sorted(entry.goals)
+    )
 
 
 def read_lines(lines: Iterable[str]) -> Dict[str, Entry]:
@@ -47,14 +54,19 @@ def read_lines(lines: Iterable[str]) -> Dict[str, Entry]:
     found: Dict[str, List[Entry]] = {}
     for words in (one.split() for one in lines if not one.startswith("#")):
         if len(words) in (4, 5):
-            found.setdefault(words[0], []).append(Entry(words[1], frozenset([Goal(words[2], words[3], words[4:] == [ANSWER])])))
+            found.setdefault(words[0], []).append(
+                Entry(words[1], frozenset([Goal(words[2], words[3], words[4:] == [ANSWER])]))
+            )
     return {name: joined(entries) for name, entries in found.items()}
 
 
 def joined(entries: List[Entry]) -> Entry:
     """The entry of all goals; without a checksum if these have several."""
     checksums = {one.checksum for one in entries}
-    return Entry(checksums.pop() if len(checksums) == 1 else "", frozenset().union(*(one.goals for one in entries)))
+    return Entry(
+        checksums.pop() if len(checksums) == 1 else "",
+        frozenset().union(*(one.goals for one in entries)),
+    )
 
 
 def read(file: Path) -> Dict[str, Entry]:

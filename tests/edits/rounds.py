@@ -13,7 +13,9 @@ from typing import Dict, FrozenSet, List, NamedTuple, Optional, Tuple
 from edit import Edit, Unfit, edited
 
 FUNCTION = re.compile(r"^[ \t]*(?:pub(?:\(\w+\))? )?(?:const |unsafe |ghost )*fn (\w+)")
-BLOCK = re.compile(r"^(?:pub(?:\(\w+\))? |unsafe )*(?:impl\b(?:<.*?>(?= ))?|trait) (.*?)\s*(?:\{|where|$)")
+BLOCK = re.compile(
+    r"^(?:pub(?:\(\w+\))? |unsafe )*(?:impl\b(?:<.*?>(?= ))?|trait) (.*?)\s*(?:\{|where|$)"
+)
 
 
 class Place(NamedTuple):
@@ -45,7 +47,10 @@ class Round(NamedTuple):
 
 def owner_of(header: str) -> str:
     """The name that the prover gives an `impl` with this header: its type's, and its trait's behind it."""
-    parts = [re.match(r"(?:&(?:'\w+ )?(?:mut )?)?(?:\w+::)*(\w+)", part.strip()) for part in header.split(" for ")]
+    parts = [
+        re.match(r"(?:&(?:'\w+ )?(?:mut )?)?(?:\w+::)*(\w+)", part.strip())
+        for part in header.split(" for ")
+    ]
     return "".join(part[1] for part in reversed(parts) if part)
 
 
@@ -71,7 +76,9 @@ def functions_of(path: str, text: str) -> List[Place]:
         if head:
             heads.append((owner, head[1], number - above(lines[: number - 1])))
     lasts = [number - 1 for _, _, number in heads[1:]] + [len(lines)]
-    return [Place(path, owner, name, first, last) for (owner, name, first), last in zip(heads, lasts)]
+    return [
+        Place(path, owner, name, first, last) for (owner, name, first), last in zip(heads, lasts)
+    ]
 
 
 def places_of(edit: Edit, texts: Dict[str, str]) -> Optional[FrozenSet[Place]]:
@@ -102,13 +109,25 @@ def can_join(edit: Edit, changed: FrozenSet[Place], round: Round, folder: Path) 
 
 def rounds_of(edits: List[Edit], folder: Path) -> List[Round]:
     """The rounds in which these edits of a crate, whose folder is given, are tried: each in the first one that it can join."""
-    texts = {str(file.relative_to(folder)): file.read_text(encoding="utf-8") for file in (folder / "src").rglob("*.rt")}
+    texts = {
+        str(file.relative_to(folder)): file.read_text(encoding="utf-8")
+        for file in (folder / "src").rglob("*.rt")
+    }
     rounds: List[Round] = []
     for edit in edits:
         changed = places_of(edit, texts) or frozenset()
-        number = next((number for number, one in enumerate(rounds) if changed and can_join(edit, changed, one, folder)), None)
+        number = next(
+            (
+                number
+                for number, one in enumerate(rounds)
+                if changed and can_join(edit, changed, one, folder)
+            ),
+            None,
+        )
         if number is None:
             rounds.append(Round((edit,), (changed,)))
         else:
-            rounds[number] = Round((*rounds[number].edits, edit), (*rounds[number].changes, changed))
+            rounds[number] = Round(
+                (*rounds[number].edits, edit), (*rounds[number].changes, changed)
+            )
     return rounds

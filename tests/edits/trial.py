@@ -39,11 +39,18 @@ class Outcome(NamedTuple):
 def place_of(function: Function, places: List[Place]) -> Optional[Place]:
     """The function of the source that a check names, by where its goals stand, or else by its name; None if that is not clear."""
     if function.lines:
-        found = {next((one for one in places if one.path == path and one.first <= line <= one.last), None) for path, line in function.lines}
+        found = {
+            next(
+                (one for one in places if one.path == path and one.first <= line <= one.last), None
+            )
+            for path, line in function.lines
+        }
     else:
         owner, name = function.path.split("::")[-2:]
         named = [one for one in places if one.function == name]
-        found = {one for one in named if one.owner == owner} or {one for one in named if owner.startswith(one.owner)}
+        found = {one for one in named if one.owner == owner} or {
+            one for one in named if owner.startswith(one.owner)
+        }
     return found.pop() if len(found) == 1 else None
 
 
@@ -58,7 +65,10 @@ def refused(round: Round, said: Verdict, places: List[Place]) -> Dict[Edit, Froz
         if place not in goals:
             return {}
         goals[place] |= function.goals
-    found = {edit: frozenset().union(*(goals[place] for place in changed)) for edit, changed in zip(round.edits, round.changes)}
+    found = {
+        edit: frozenset().union(*(goals[place] for place in changed))
+        for edit, changed in zip(round.edits, round.changes)
+    }
     return {edit: one for edit, one in found.items() if one}
 
 
@@ -74,7 +84,9 @@ def alone(edit: Edit, made: Check) -> Outcome:
         file, _, message = other.partition(": ")
         module = re.sub(r"\.(antt|rt)$", "", file).replace("/", "::")
         goals.add(Goal(f"{edit.crate}::{module}", "lemma", bool(NO_LONGER_FITS.search(message))))
-    return Outcome(frozenset(goals), "" if goals else f"NOT JUDGED: the check names no open goal:\n{made.tail}")
+    return Outcome(
+        frozenset(goals), "" if goals else f"NOT JUDGED: the check names no open goal:\n{made.tail}"
+    )
 
 
 # ---- all of them
@@ -91,11 +103,18 @@ class Chain:
     """The rounds of a crate that are still to be tried. Before edits are tried alone, the crate has to be proved as it is: then an open
     goal is the edit's."""
 
-    def __init__(self, crate: build.Crate, edits: List[Edit], each_alone: bool, is_proved: bool) -> None:
+    def __init__(
+        self, crate: build.Crate, edits: List[Edit], each_alone: bool, is_proved: bool
+    ) -> None:
         self.crate, self.is_proved = crate, is_proved
         self.places = places_in(crate.home)
         whole = rounds_of(edits, crate.home)
-        rounds = [one for round in whole if round.changed for one in (round.split() if each_alone else [round])]
+        rounds = [
+            one
+            for round in whole
+            if round.changed
+            for one in (round.split() if each_alone else [round])
+        ]
         self.rounds = sorted(rounds, key=lambda round: -len(round.edits))
         self.alone = [round for round in whole if not round.changed]
 
@@ -147,7 +166,9 @@ class Trials:
     ) -> None:
         self.crates, self.keep = crates, keep
         self.outcomes: Dict[Edit, Outcome] = {}
-        self.waiting = [Chain(crates[name], some, each_alone, are_proved) for name, some in edits.items()]
+        self.waiting = [
+            Chain(crates[name], some, each_alone, are_proved) for name, some in edits.items()
+        ]
         self.processor, self.checks = 0.0, 0
         self.running: Set[int] = set()
         self.began = time.monotonic()
@@ -171,7 +192,9 @@ class Trials:
                 jobs = max(1, count // (len(self.waiting) + len(running)))
                 chain = self.waiting.pop()
                 round = chain.take()
-                running[pool.submit(check, chain.crate, self.crates, round.edits, jobs, self.running)] = chain, round
+                running[
+                    pool.submit(check, chain.crate, self.crates, round.edits, jobs, self.running)
+                ] = (chain, round)
             for done in wait(running, return_when=FIRST_COMPLETED).done:
                 chain, round = running.pop(done)
                 self.settle(chain, round, done)
@@ -183,7 +206,9 @@ class Trials:
         try:
             made = done.result()
         except Unfit as fault:
-            self.outcomes.update({edit: Outcome(frozenset(), f"STALE: {fault}") for edit in round.edits})
+            self.outcomes.update(
+                {edit: Outcome(frozenset(), f"STALE: {fault}") for edit in round.edits}
+            )
             return
         self.processor, self.checks = self.processor + made.processor, self.checks + 1
         found = chain.settle(round, made)
@@ -194,9 +219,18 @@ class Trials:
     def tell(self, chain: Chain, round: Round, made: Check, left: int) -> None:
         """Prints what a round came to."""
         minutes, seconds = divmod(int(time.monotonic() - self.began), 60)
-        what = "as it is" if round == AS_IT_IS else round.edits[0].name if len(round.edits) == 1 else f"{len(round.edits)} edits"
+        what = (
+            "as it is"
+            if round == AS_IT_IS
+            else round.edits[0].name
+            if len(round.edits) == 1
+            else f"{len(round.edits)} edits"
+        )
         again = f"; {left} to be tried alone" if left else ""
-        print(f"{minutes:3}:{seconds:02}  {chain.crate.name}: {what}, {made.processor:.0f} s of processor time{again}", flush=True)
+        print(
+            f"{minutes:3}:{seconds:02}  {chain.crate.name}: {what}, {made.processor:.0f} s of processor time{again}",
+            flush=True,
+        )
 
 
 def places_in(folder: Path) -> List[Place]:

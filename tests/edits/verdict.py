@@ -26,7 +26,9 @@ NO_LONGER_FITS = re.compile(
 FOLLOWS = re.compile(r"declarations? that depends? on ")
 CYCLE = re.compile(r"proofs/(.*?)/?\+\w+/")
 # Errors of reading, which say nothing of a goal.
-UNREADABLE = re.compile(r"is not in scope|has no field|is no name|operand is missing|expected the end|cannot continue")
+UNREADABLE = re.compile(
+    r"is not in scope|has no field|is no name|operand is missing|expected the end|cannot continue"
+)
 COMPILER_ERROR = re.compile(r"^error(\[|:)|\berror\[[\w-]+\]", re.M)
 
 
@@ -118,7 +120,9 @@ class Reader:
             return
         name = function_of(path)
         unproved = UNPROVED.search(told)
-        goals = {goal for _, _, goal in notes} | set(re.findall(r"`([^`]+)`", unproved[1]) if unproved else ())
+        goals = {goal for _, _, goal in notes} | set(
+            re.findall(r"`([^`]+)`", unproved[1]) if unproved else ()
+        )
         self.goals.setdefault(name, {}).update({goal: False for goal in goals})
         self.lines.setdefault(name, set()).update((file, line) for file, line, _ in notes)
         for note in notes:
@@ -142,7 +146,9 @@ class Reader:
         name = in_cycle("::".join([crate, *cycle[1].split("/"), ""]), goal) if cycle else ""
         if name in self.goals:
             return name
-        return next((function for folder, function in folders.items() if file.startswith(folder)), None)
+        return next(
+            (function for folder, function in folders.items() if file.startswith(folder)), None
+        )
 
     def verdict(self) -> Verdict:
         """What was read."""
@@ -160,7 +166,11 @@ class Reader:
             if not self.goals[name]:
                 self.goals[name]["proof"] = True
         found = [
-            Function(name, frozenset(Goal(name, goal, bad) for goal, bad in goals.items()), frozenset(self.lines[name]))
+            Function(
+                name,
+                frozenset(Goal(name, goal, bad) for goal, bad in goals.items()),
+                frozenset(self.lines[name]),
+            )
             for name, goals in self.goals.items()
             if goals
         ]
@@ -177,5 +187,9 @@ def verdict_of(output: str) -> Verdict:
 
 def is_readable(verdict: Verdict) -> bool:
     """Whether the prover could read and compile all that it was given."""
-    unread = [one for one in verdict.others if one.startswith(("src/", "specs/")) and UNREADABLE.search(one)]
+    unread = [
+        one
+        for one in verdict.others
+        if one.startswith(("src/", "specs/")) and UNREADABLE.search(one)
+    ]
     return verdict.proved is not None and not unread

@@ -61,10 +61,17 @@ def processes() -> Dict[int, Process]:
     for entry in os.listdir("/proc"):
         if entry.isdigit():
             try:
-                fields = Path(f"/proc/{entry}/stat").read_text(errors="replace").rpartition(")")[2].split()
+                fields = (
+                    Path(f"/proc/{entry}/stat")
+                    .read_text(errors="replace")
+                    .rpartition(")")[2]
+                    .split()
+                )
             except OSError:
                 continue
-            found[int(entry)] = Process(int(fields[1]), (int(fields[11]) + int(fields[12])) / TICKS, fields[19])
+            found[int(entry)] = Process(
+                int(fields[1]), (int(fields[11]) + int(fields[12])) / TICKS, fields[19]
+            )
     return found
 
 
@@ -86,7 +93,9 @@ def own_part(pid: int) -> str:
     return f"tests {crate}" if "--test" in words else f"proof {crate}"
 
 
-def part_of(pid: int, table: Dict[int, Process], root: int, known: Dict[Tuple[int, str], str]) -> str:
+def part_of(
+    pid: int, table: Dict[int, Process], root: int, known: Dict[Tuple[int, str], str]
+) -> str:
     """The part of the nearest ancestor that names one; `other` below the root, nothing outside."""
     path = []
     while pid in table and pid != root:
@@ -132,7 +141,9 @@ def measure(command: List[str]) -> Tuple[int, float, Dict[str, Part], List[float
 
 def from_nothing() -> List[str]:
     """The word with which `rt ci` takes no result of an earlier run; none if this kit keeps no results."""
-    guide = subprocess.run(["rt", "help"], stdout=subprocess.PIPE, stderr=subprocess.STDOUT, universal_newlines=True)
+    guide = subprocess.run(
+        ["rt", "help"], stdout=subprocess.PIPE, stderr=subprocess.STDOUT, universal_newlines=True
+    )
     return ["--anew"] if "--anew" in guide.stdout else []
 
 
@@ -157,15 +168,21 @@ def report(wall: float, parts: Dict[str, Part], loops: List[float]) -> None:
     row("all", wall, whole)
     best = min(loops)
     speed = sum(best / seconds for seconds in loops) / len(loops)
-    print(f"\nspeed: {speed:.2f} of the best (a loop of {best:.3f} s), at which the gate would take {wall * speed:.0f} s")
+    print(
+        f"\nspeed: {speed:.2f} of the best (a loop of {best:.3f} s), at which the gate would take {wall * speed:.0f} s"
+    )
 
 
 def main() -> None:
     """Reads the command line."""
     parser = argparse.ArgumentParser(description="Runs the gate and prints the time of its parts.")
     parser.add_argument("--anew", action="store_true", help="prove everything from nothing")
-    parser.add_argument("--processors", metavar="LIST", help="run on these processors only, for example 0,1")
-    parser.add_argument("command", nargs=argparse.REMAINDER, help="measure this command in place of .ci/run")
+    parser.add_argument(
+        "--processors", metavar="LIST", help="run on these processors only, for example 0,1"
+    )
+    parser.add_argument(
+        "command", nargs=argparse.REMAINDER, help="measure this command in place of .ci/run"
+    )
     words = parser.parse_args()
     os.chdir(Path(__file__).resolve().parents[2])
     if words.processors:

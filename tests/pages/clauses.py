@@ -54,7 +54,9 @@ class Clause(NamedTuple):
     label: str
 
     def __str__(self) -> str:
-        return f"{self.crate} {Path(self.path).stem}::{self.function.replace(' ', '_')} {self.label}"
+        return (
+            f"{self.crate} {Path(self.path).stem}::{self.function.replace(' ', '_')} {self.label}"
+        )
 
     @property
     def name(self) -> str:
@@ -81,7 +83,11 @@ class Body(NamedTuple):
 def product_crates() -> List[str]:
     """The crates of the product, as crates.txt has them."""
     lines = (ROOT / "crates.txt").read_text(encoding="utf-8").splitlines()
-    return [name for name in (line.partition(":")[0].strip() for line in lines) if name and name not in TESTS]
+    return [
+        name
+        for name in (line.partition(":")[0].strip() for line in lines)
+        if name and name not in TESTS
+    ]
 
 
 def clauses_of(crate: str) -> Iterator[Tuple[Clause, bool]]:
@@ -105,7 +111,9 @@ def bodies_of(crate: str) -> Iterator[Body]:
             variables: Dict[str, Set[str]] = defaultdict(set)
             for variable, value in BOUND.findall(text):
                 variables[variable].update(CALL.findall(value))
-            yield Body(crate, module, function.name.split("::")[-1], set(CALL.findall(text)), variables)
+            yield Body(
+                crate, module, function.name.split("::")[-1], set(CALL.findall(text)), variables
+            )
 
 
 # ---- guards
@@ -141,12 +149,16 @@ def refusals(crate: str) -> Iterator[Tuple[str, str, str, bool]]:
         yield words[0], "::".join(words[2].split("::")[-2:]), words[3], len(words) == 5
 
 
-def refused_at(crate: str, has_values: Set[str]) -> Tuple[Set[Tuple[str, str]], Set[Tuple[str, str]]]:
+def refused_at(
+    crate: str, has_values: Set[str]
+) -> Tuple[Set[Tuple[str, str]], Set[Tuple[str, str]]]:
     """The goals at which edits of the crate were refused, each with its function, without those that only show that an answer no longer
     fits; and those of these for which the list has values."""
     found = list(refusals(crate))
     searched = {(place, goal) for _, place, goal, only_answer in found if not only_answer}
-    argued = {(place, goal) for edit, place, goal, _ in found if f"{crate} {edit} {goal}" in has_values}
+    argued = {
+        (place, goal) for edit, place, goal, _ in found if f"{crate} {edit} {goal}" in has_values
+    }
     return searched, argued
 
 
@@ -165,7 +177,13 @@ def guards() -> Iterator[Tuple[Clause, str]]:
     for crate in crates:
         clauses, (searched, argued) = list(clauses_of(crate)), refused_at(crate, has_values)
         for clause, is_equation in clauses:
-            is_alone = sum(other.path == clause.path and other.function == clause.function for other, _ in clauses) == 1
+            is_alone = (
+                sum(
+                    other.path == clause.path and other.function == clause.function
+                    for other, _ in clauses
+                )
+                == 1
+            )
             if is_equation:
                 yield clause, "equation"
             elif (clause.name, clause.label) in named:
@@ -180,9 +198,16 @@ def guards() -> Iterator[Tuple[Clause, str]]:
 
 def unnamed_fields() -> Iterator[str]:
     """The fields of records that no proof and no other definition names: crate, record and field."""
-    texts = {path: path.read_text(encoding="utf-8") for path in sorted(ROOT.glob("crates/*/*/**/*.antt"))}
+    texts = {
+        path: path.read_text(encoding="utf-8") for path in sorted(ROOT.glob("crates/*/*/**/*.antt"))
+    }
     taken = {field for text in texts.values() for field in re.findall(r"\.([A-Za-z_][\w-]*)", text)}
-    set_by = {field for path, text in texts.items() if "/proofs/" in str(path) for field in re.findall(r"\b([A-Za-z_][\w-]*) =", text)}
+    set_by = {
+        field
+        for path, text in texts.items()
+        if "/proofs/" in str(path)
+        for field in re.findall(r"\b([A-Za-z_][\w-]*) =", text)
+    }
     for path, text in texts.items():
         if "/specs/" not in str(path) or path.relative_to(ROOT).parts[1] in TESTS:
             continue
@@ -241,10 +266,19 @@ def main(words: List[str]) -> int:
         return 0
     found = list(guards())
     if asked in ("list", "without"):
-        print("\n".join(f"{clause}: {guard}" for clause, guard in found if asked == "list" or guard == "nothing"))
+        print(
+            "\n".join(
+                f"{clause}: {guard}"
+                for clause, guard in found
+                if asked == "list" or guard == "nothing"
+            )
+        )
         return 0
     lines = [*differences(found), *differences_of_fields(set(unnamed_fields()))]
-    counts = ", ".join(f"{sum(guard == one for _, guard in found)} {one}" for one in ("equation", "proof", "edit", "values", "nothing"))
+    counts = ", ".join(
+        f"{sum(guard == one for _, guard in found)} {one}"
+        for one in ("equation", "proof", "edit", "values", "nothing")
+    )
     print("\n".join([*lines, f"{len(found)} clauses: {counts}"]))
     return int(bool(lines))
 

@@ -11,7 +11,9 @@ import re
 from pathlib import Path
 
 CRATES = Path(__file__).resolve().parents[2] / "crates"
-USE = re.compile(r"\bRattle\.(\w+)\.proofs\.((?:[A-Z]\w*\.)*[A-Z]\w*)|\b(\w+)::proofs::((?:[A-Z]\w*::)*[A-Z]\w*)")
+USE = re.compile(
+    r"\bRattle\.(\w+)\.proofs\.((?:[A-Z]\w*\.)*[A-Z]\w*)|\b(\w+)::proofs::((?:[A-Z]\w*::)*[A-Z]\w*)"
+)
 
 
 def doors():

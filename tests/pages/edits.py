@@ -24,7 +24,9 @@ from pathlib import Path
 FUNCTION = re.compile(r"( *)(pub(?:\(\w+\))? )?(?:const |unsafe |ghost )*fn (\w+)")
 CITES = re.compile(r"\s*(\w+\(\);\s*)*")
 OWNER = re.compile(r"(?:pub |unsafe )*(impl|trait)\b(?:<[^>]*>)? (.*?)\s*(?:\{|where|$)")
-PROMISE = re.compile(r"(?m)^ +ensures (\w+)? ?\{ ?((?:.(?!\n +(?:ensures|requires) |\n *\{))*.)", re.S)
+PROMISE = re.compile(
+    r"(?m)^ +ensures (\w+)? ?\{ ?((?:.(?!\n +(?:ensures|requires) |\n *\{))*.)", re.S
+)
 EXACT = re.compile(r"(let .*? in )?result(\.now)? ≡ [^→]*$")
 EQUATION = re.compile(r"(let .*? in )?((If|On)(Ok|Err) result \((λ \w+\. )?)?[a-z⟦][^→]* ≡ [^→]*$")
 Function = namedtuple("Function", "name first last public law fixed promises clauses")
@@ -60,7 +62,12 @@ def body_of(lines, head, indent):
     """The lines where the body of the function at this line begins and ends: `rt fmt` puts its brace below the `fn`."""
     for begin in range(head, len(lines)):
         rest = without(indent, lines[begin])
-        if rest in ("{", "{}") or rest[:1].strip() and rest.endswith((" {", " }")) or rest.endswith(";"):
+        if (
+            rest in ("{", "{}")
+            or rest[:1].strip()
+            and rest.endswith((" {", " }"))
+            or rest.endswith(";")
+        ):
             break
     if not rest.endswith("{"):
         return begin, begin
@@ -84,11 +91,25 @@ def functions(path, module, exports, is_open):
         outer = owner if indent else []
         seen = outer[-1] in exports if outer else f"{module}::{name}" in exports
         public = (visible == "pub " or shares and outer != []) and (seen or is_open)
-        clauses = [(label, " ".join(text.split())) for label, text in PROMISE.findall("\n".join(lines[start : begin + 1]))]
+        clauses = [
+            (label, " ".join(text.split()))
+            for label, text in PROMISE.findall("\n".join(lines[start : begin + 1]))
+        ]
         whole = "::".join([" for ".join(outer), name] if outer else [name])
         law = bool(CITES.fullmatch("".join(lines[begin + 1 : end])))
         fixed = fix_all(text.rstrip(" }") for _, text in clauses)
-        found.append(Function(whole, start, end, public, law, fixed, [promise(*clause) for clause in clauses], clauses))
+        found.append(
+            Function(
+                whole,
+                start,
+                end,
+                public,
+                law,
+                fixed,
+                [promise(*clause) for clause in clauses],
+                clauses,
+            )
+        )
     return found
 
 
@@ -96,19 +117,28 @@ def exported(path):
     """The names and the modules that a module's file makes public."""
     text = Path(path).read_text(encoding="utf-8") if os.path.exists(path) else ""
     uses = [re.findall(r"\w+", use) for use in re.findall(r"^pub use ([^;]*);", text, re.M)]
-    names = {name for use in uses for name in use} | {f"{use[0]}::{name}" for use in uses for name in use[1:]}
+    names = {name for use in uses for name in use} | {
+        f"{use[0]}::{name}" for use in uses for name in use[1:]
+    }
     return names, re.findall(r"^pub mod (\w+);", text, re.M)
 
 
 def seen_of(crate, place, names, modules):
     """Those of a file's names that its folder hands on, and the crate's root."""
     told, _ = exported(f"{crate}/src/{place[0]}.rt")
-    return {name for name in told if place[0] in modules or f"{place[0]}::{name.split('::')[-1]}" in names}
+    return {
+        name
+        for name in told
+        if place[0] in modules or f"{place[0]}::{name.split('::')[-1]}" in names
+    }
 
 
 def surface(crate):
     """The functions of each source file of the crate."""
-    root = next((path for path in (f"{crate}/src/lib.rt", f"{crate}/src/main.rt") if os.path.exists(path)), "")
+    root = next(
+        (path for path in (f"{crate}/src/lib.rt", f"{crate}/src/main.rt") if os.path.exists(path)),
+        "",
+    )
     names, modules = exported(root)
     tables = {}
     for path in sorted(glob.glob(f"{crate}/src/**/*.rt", recursive=True)):
@@ -170,7 +200,9 @@ def main():
     words = sys.argv[1:]
     asked = words.pop(0) if words and words[0] in ("map", "many", "none", "stale") else "stale"
     os.chdir(Path(__file__).resolve().parents[2])
-    crates = [f"crates/{word}" for word in words] or [os.path.dirname(path) for path in sorted(glob.glob("crates/*/must-fail"))]
+    crates = [f"crates/{word}" for word in words] or [
+        os.path.dirname(path) for path in sorted(glob.glob("crates/*/must-fail"))
+    ]
     count = bad = 0
     for crate in crates:
         tables = surface(crate)

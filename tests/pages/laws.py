@@ -69,7 +69,9 @@ def laws() -> List[Law]:
 
 
 def is_on_page(law: Law) -> bool:
-    return str(law.file.relative_to(TOP / "crates")) in ON_THE_PAGE and law.name not in NOT_ON_THE_PAGE
+    return (
+        str(law.file.relative_to(TOP / "crates")) in ON_THE_PAGE and law.name not in NOT_ON_THE_PAGE
+    )
 
 
 def table(chosen: List[Law]) -> str:
@@ -85,7 +87,9 @@ def main(words: List[str]) -> int:
             print(f'tests/pages/laws.py names laws that are gone: {", ".join(sorted(gone))}')
             return 1
         if on_page not in PAGE.read_text():
-            print(f"{PAGE.relative_to(TOP)}: the table of laws is not the one that tests/pages/laws.py prints")
+            print(
+                f"{PAGE.relative_to(TOP)}: the table of laws is not the one that tests/pages/laws.py prints"
+            )
             return 1
         print(f"laws.py: {len(every)} laws")
         return 0

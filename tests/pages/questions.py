@@ -18,7 +18,14 @@ QUESTIONS = TOP / "tests" / "pages" / "questions.txt"
 FEWEST = 10
 
 # Pages in which one looks things up. They may have questions, but need none.
-REFERENCES = {"docs/DECISIONS.md", "docs/answers.md", "docs/formats.md", "docs/proved.md", "docs/reading.md", "docs/trusted.md"}
+REFERENCES = {
+    "docs/DECISIONS.md",
+    "docs/answers.md",
+    "docs/formats.md",
+    "docs/proved.md",
+    "docs/reading.md",
+    "docs/trusted.md",
+}
 
 
 class Question(NamedTuple):
@@ -38,7 +45,9 @@ def questions_of(text: str) -> List[Question]:
             page = line.strip()
             continue
         question, heading, words = (part.strip() for part in line.split("|"))
-        questions.append(Question(page, question, heading, [word.strip() for word in words.split(";")]))
+        questions.append(
+            Question(page, question, heading, [word.strip() for word in words.split(";")])
+        )
     return questions
 
 
@@ -51,7 +60,9 @@ def sections_of(page: str) -> Dict[str, str]:
         found = None if is_block else re.match(r"#+ (.*)", line)
         if found:
             heading = found.group(1)
-        sections[heading] = sections.get(heading, "") + ("" if found else " " + " ".join(line.split()))
+        sections[heading] = sections.get(heading, "") + (
+            "" if found else " " + " ".join(line.split())
+        )
     return sections
 
 
@@ -65,10 +76,15 @@ def lost_answer(question: Question, sections: Dict[str, str]) -> str:
 
 def mistakes(questions: List[Question]) -> List[str]:
     """A line for each question without an answer, and for each page with too few questions."""
-    pages = {name: sections_of((TOP / name).read_text()) for name in dict.fromkeys(question.page for question in questions)}
+    pages = {
+        name: sections_of((TOP / name).read_text())
+        for name in dict.fromkeys(question.page for question in questions)
+    }
     lost = [(question, lost_answer(question, pages[question.page])) for question in questions]
     lines = [f"{question.page}: {question.text} {why}" for question, why in lost if why]
-    read = {"README.md", "CONTRIBUTING.md"} | {f"docs/{file.name}" for file in TOP.glob("docs/*.md")}
+    read = {"README.md", "CONTRIBUTING.md"} | {
+        f"docs/{file.name}" for file in TOP.glob("docs/*.md")
+    }
     for page in sorted(read - REFERENCES):
         count = sum(question.page == page for question in questions)
         if count < FEWEST:

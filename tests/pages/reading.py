@@ -44,7 +44,12 @@ class FileList(NamedTuple):
 
 
 LISTS = [
-    FileList("The meaning of a model", ["rota_pb/specs/Meaning.antt", "opb_text/specs/ModelText.antt"], [], set()),
+    FileList(
+        "The meaning of a model",
+        ["rota_pb/specs/Meaning.antt", "opb_text/specs/ModelText.antt"],
+        [],
+        set(),
+    ),
     FileList("The files and the run", [], [ENCODE], {EXACT}),
     FileList("The exact text", [], [ENCODE], set()),
     FileList("Decode and extend", [], [DECODE, EXTEND], set()),
@@ -55,14 +60,18 @@ LISTS = [
 ]
 # Names that two files of the lists define: these and no more.
 NAMES_OF_TWO = {"EndsInTurn", "check", "◌>>=◌"}
-USE = re.compile(r"(?m)^ *(?:pub )?(?:ghost )?use Rattle\.(\w+)\.specs\.([\w.]+?)(?:\.\{([^}]*)\})?(?: as \w+)?;?$")
+USE = re.compile(
+    r"(?m)^ *(?:pub )?(?:ghost )?use Rattle\.(\w+)\.specs\.([\w.]+?)(?:\.\{([^}]*)\})?(?: as \w+)?;?$"
+)
 ROW = re.compile(r"(?m)^- `([\w/]+\.antt)` \((\d+)\):")
 FIRST_LISTS = 2
 DEFINED = re.compile(r"(The\s+first\s+two\s+lists\s+have\s+)(\d+)(\s+public\s+definitions)")
 TOTAL = re.compile(r"(\d+) files, ([\d,]+) lines, ([\d,]+) of definitions")
 NO_DEFINITION = re.compile(r" *(--|(pub )?use |$)")
 DEFINITION = re.compile(r"(?:abbrev |unfoldable )?pub (?!use )(?:record |data )?(\S+)")
-NAME = re.compile(r"(?m)^ *(?:pub )?(?:abbrev|unfoldable|opaque|lemma|record|data) (?:pub )?([^\s:(){}]+)")
+NAME = re.compile(
+    r"(?m)^ *(?:pub )?(?:abbrev|unfoldable|opaque|lemma|record|data) (?:pub )?([^\s:(){}]+)"
+)
 
 
 def imports(text: str) -> Iterator[Tuple[Path, Set[str]]]:
@@ -168,7 +177,9 @@ def uncommented(file: Path) -> Iterator[str]:
 def defined_twice(files: Iterable[Path]) -> Iterator[str]:
     """The names of these files that another file of specs/ defines too. `rota_certificate` shares some names with other crates."""
     owners: Dict[str, List[Path]] = {}
-    for file in sorted(set(CRATES.glob("*/specs/**/*.antt")) - set(CRATES.glob("rota_certificate/specs/**/*.antt"))):
+    for file in sorted(
+        set(CRATES.glob("*/specs/**/*.antt")) - set(CRATES.glob("rota_certificate/specs/**/*.antt"))
+    ):
         for word in set(NAME.findall(file.read_text(encoding="utf-8"))):
             owners.setdefault(word, []).append(file)
     for word, found in sorted(owners.items()):
@@ -201,7 +212,9 @@ def lists() -> Iterator[Tuple[str, List[Path], List[Path]]]:
     """Each list of the page: the words of its heading, its files, and those of the lists before it."""
     before: List[Path] = []
     for one in LISTS:
-        starts = [CRATES / file for file in one.files] + [file for source, call in one.calls for file in cited(source, call)]
+        starts = [CRATES / file for file in one.files] + [
+            file for source, call in one.calls for file in cited(source, call)
+        ]
         wanted = [file for file in reached(starts, one.stops) if file not in before]
         yield one.heading, wanted, before
         before = before + wanted

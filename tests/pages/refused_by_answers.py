@@ -35,8 +35,16 @@ def refused_by_answers() -> Dict[str, Set[str]]:
 
 def listed() -> Dict[str, str]:
     """The edits of the list, as crate and name, each with the goal that its line names. A line without values counts as none."""
-    lines = [line for line in LIST.read_text(encoding="utf-8").splitlines() if line and not line.startswith("#")]
-    words = [head.split() for head, _, values in (line.partition(": ") for line in lines) if values.strip()]
+    lines = [
+        line
+        for line in LIST.read_text(encoding="utf-8").splitlines()
+        if line and not line.startswith("#")
+    ]
+    words = [
+        head.split()
+        for head, _, values in (line.partition(": ") for line in lines)
+        if values.strip()
+    ]
     return {" ".join(one[:2]): " ".join(one[2:]) for one in words}
 
 

@@ -16,7 +16,15 @@ from drafts import ROOT, FileFault, files, records
 from inrc2pb.week.slots import Slots
 
 SOURCE = f"{ROOT}/crates/run_tests/src/changed_tokens.rt"
-KINDS = ["end of file", "another word expected", "number expected", "out of limits", "unknown name", "repeated", "text after the end"]
+KINDS = [
+    "end of file",
+    "another word expected",
+    "number expected",
+    "out of limits",
+    "unknown name",
+    "repeated",
+    "text after the end",
+]
 MAX_PRICE = 999999999
 WEEKS = 2
 
@@ -39,7 +47,9 @@ def keyword(slots: Slots, *wanted: str) -> str:
     """One of these words."""
     token = slots.next("a word")
     if token.text not in wanted:
-        slots.fault(token, "another word expected", f"'{token.text}' where one of {wanted} should be")
+        slots.fault(
+            token, "another word expected", f"'{token.text}' where one of {wanted} should be"
+        )
     return token.text
 
 
@@ -138,7 +148,11 @@ def main() -> int:
     with open(SOURCE, encoding="utf-8") as source:
         code = source.read()
     base: Dict[str, str] = dict(re.findall(r'(?s)const (\w+): &\[u8\] = b"(.*?)";', code))
-    words = dict(re.findall(r'(?s)const (WORDS): &str =\s*"(.*?)";', code))["WORDS"].replace("\\\n", "").split()
+    words = (
+        dict(re.findall(r'(?s)const (WORDS): &str =\s*"(.*?)";', code))["WORDS"]
+        .replace("\\\n", "")
+        .split()
+    )
     ward = files.read_scenario("scenario", base["SCENARIO"])
     readers: Dict[str, Callable[[str], object]] = {
         "SCENARIO": lambda text: files.read_scenario("scenario", text),
@@ -151,7 +165,9 @@ def main() -> int:
     made = code
     for name, read in readers.items():
         found = ends(read, texts(base[name], words))
-        made, rows = re.subn(rf"(,\s*{name},\s*)\[[^]]*\]", lambda row: f"{row.group(1)}{found}", made)
+        made, rows = re.subn(
+            rf"(,\s*{name},\s*)\[[^]]*\]", lambda row: f"{row.group(1)}{found}", made
+        )
         if rows != 1:
             print(f"FAILED: {rows} rows of numbers for {name}")
             return 1

@@ -21,22 +21,47 @@ def week_of(draft):
     """The library's value of a draft."""
     limits = records.Limits
     shifts = {
-        shift: records.ShiftType(shift, limits(*pair), tuple(after for after in draft.shifts if (shift, after) in draft.forbidden))
+        shift: records.ShiftType(
+            shift,
+            limits(*pair),
+            tuple(after for after in draft.shifts if (shift, after) in draft.forbidden),
+        )
         for shift, pair in draft.shifts.items()
     }
     contracts = {
-        name: records.Contract(name, limits(*one.total), limits(*one.work), limits(*one.off), one.weekends, bool(one.complete))
+        name: records.Contract(
+            name,
+            limits(*one.total),
+            limits(*one.work),
+            limits(*one.off),
+            one.weekends,
+            bool(one.complete),
+        )
         for name, one in draft.contracts.items()
     }
-    nurses = {name: records.Nurse(name, one.contract, tuple(one.skills)) for name, one in draft.nurses.items()}
+    nurses = {
+        name: records.Nurse(name, one.contract, tuple(one.skills))
+        for name, one in draft.nurses.items()
+    }
     history = {
         name: records.NurseHistory(
-            name, one.assignments, one.weekends, None if one.last == "None" else one.last, one.same, one.work, one.off
+            name,
+            one.assignments,
+            one.weekends,
+            None if one.last == "None" else one.last,
+            one.same,
+            one.work,
+            one.off,
         )
         for name, one in draft.history.items()
     }
-    required = {records.Place(*place): records.Requirement(*pair) for place, pair in draft.required.items()}
-    requests = tuple(records.Request(nurse, None if shift == "Any" else shift, day) for nurse, shift, day in draft.requests)
+    required = {
+        records.Place(*place): records.Requirement(*pair) for place, pair in draft.required.items()
+    }
+    requests = tuple(
+        records.Request(nurse, None if shift == "Any" else shift, day)
+        for nurse, shift, day in draft.requests
+    )
     return records.Week(
         records.Scenario(draft.name, draft.weeks, tuple(draft.skills), shifts, contracts, nurses),
         records.History(draft.number, draft.name, history),
@@ -53,7 +78,9 @@ def draft_of(week):
         number=week.history.week,
         skills=list(ward.skills),
         shifts={name: tuple(one.consecutive) for name, one in ward.shift_types.items()},
-        forbidden={(name, after) for name, one in ward.shift_types.items() for after in one.forbidden_next},
+        forbidden={
+            (name, after) for name, one in ward.shift_types.items() for after in one.forbidden_next
+        },
         contracts={
             name: SimpleNamespace(
                 total=tuple(one.assignments),
@@ -64,7 +91,10 @@ def draft_of(week):
             )
             for name, one in ward.contracts.items()
         },
-        nurses={name: SimpleNamespace(contract=one.contract, skills=list(one.skills)) for name, one in ward.nurses.items()},
+        nurses={
+            name: SimpleNamespace(contract=one.contract, skills=list(one.skills))
+            for name, one in ward.nurses.items()
+        },
         history={
             name: SimpleNamespace(
                 assignments=one.assignments,
@@ -76,7 +106,9 @@ def draft_of(week):
             )
             for name, one in week.history.nurses.items()
         },
-        required={tuple(place): (one.minimum, one.optimal) for place, one in data.requirements.items()},
+        required={
+            tuple(place): (one.minimum, one.optimal) for place, one in data.requirements.items()
+        },
         requests=[(one.nurse, one.shift or "Any", one.day) for one in data.requests],
     )
 
@@ -103,7 +135,11 @@ def rows(cells):
 def files_of(draft):
     """The texts of the three files, by the options that name them."""
     week = week_of(draft)
-    return {"sce": files.scenario_text(week.scenario), "his": files.history_text(week.history), "week": files.week_text(week.data)}
+    return {
+        "sce": files.scenario_text(week.scenario),
+        "his": files.history_text(week.history),
+        "week": files.week_text(week.data),
+    }
 
 
 def solution_text(draft, cells):

@@ -22,7 +22,13 @@ from typing import Callable, Dict, Iterator, List, NamedTuple, Optional, Sequenc
 
 import plain_plans
 from drafts import ROOT, first_broken, solution_text
-from periods import certificate_text, period_files, random_certificate, random_period, repeating_tree
+from periods import (
+    certificate_text,
+    period_files,
+    random_certificate,
+    random_period,
+    repeating_tree,
+)
 from plain_bounds import NONE, Certificate, lower_bound, minimums_bound
 from plain_plans import Chain, Period, Plan
 from random_weeks import any_cell
@@ -54,11 +60,20 @@ class Plans(NamedTuple):
 
 def refusal(period: Period, plan: Plan) -> Optional[Tuple[int, str]]:
     """The status and the fault with which the program refuses a plan: that of the first week with one, or of the first fact it breaks."""
-    rule, beyond, fact = plain_plans.first_broken(period, plan), plain_plans.first_beyond(plan), plain_plans.first_unmet(period, plan)
+    rule, beyond, fact = (
+        plain_plans.first_broken(period, plan),
+        plain_plans.first_beyond(plan),
+        plain_plans.first_unmet(period, plan),
+    )
     if beyond is not None and (rule is None or beyond <= rule[0]):
         return 1, f"week {beyond + 1}: history: out of limits"
     if rule:
-        return 6, f"week {rule[0] + 1}: roster breaks {rule[1]}" if len(period.weeks) > 1 else f"roster breaks {rule[1]}"
+        return (
+            6,
+            f"week {rule[0] + 1}: roster breaks {rule[1]}"
+            if len(period.weeks) > 1
+            else f"roster breaks {rule[1]}",
+        )
     return None if fact is None else (6, f"facts line {fact + 5}: not met")
 
 
@@ -89,20 +104,43 @@ class Runs:
         for name, text in files.items():
             (self.folder / name).write_text(text)
         weeks = range(len(case.period.weeks))
-        self.words = ["--sce", "ward.txt", "--his", "history.txt", *(word for week in weeks for word in ("--week", f"week-{week}.txt"))]
-        self.words += [word for week in weeks if f"fix-{week}.txt" in files for word in ("--fix", f"{week + 1}=fix-{week}.txt")]
-        self.words += ["--given", "facts.txt"] * ("facts.txt" in files) + ["--early"] * case.period.early + ["--proof", "certificate.txt"]
+        self.words = [
+            "--sce",
+            "ward.txt",
+            "--his",
+            "history.txt",
+            *(word for week in weeks for word in ("--week", f"week-{week}.txt")),
+        ]
+        self.words += [
+            word
+            for week in weeks
+            if f"fix-{week}.txt" in files
+            for word in ("--fix", f"{week + 1}=fix-{week}.txt")
+        ]
+        self.words += (
+            ["--given", "facts.txt"] * ("facts.txt" in files)
+            + ["--early"] * case.period.early
+            + ["--proof", "certificate.txt"]
+        )
 
     def run(self, *words: str) -> Tuple[int, str, str]:
         """The status, standard output and standard error of a run."""
-        ended = subprocess.run([self.program, *self.words, *words], cwd=self.folder, capture_output=True, text=True, timeout=60)
+        ended = subprocess.run(
+            [self.program, *self.words, *words],
+            cwd=self.folder,
+            capture_output=True,
+            text=True,
+            timeout=60,
+        )
         return ended.returncode, ended.stdout, ended.stderr
 
     def expect(self, what: str, wanted: Tuple[int, str, str], *words: str) -> None:
         """The run with these words, too, ends so."""
         found = self.run(*words)
         if found != wanted:
-            raise Wrong(what, f"{str(found)[:400]} is not {wanted} for {' '.join([*self.words, *words])}")
+            raise Wrong(
+                what, f"{str(found)[:400]} is not {wanted} for {' '.join([*self.words, *words])}"
+            )
 
     def judge(self, rosters: Sequence[Sequence[plain_plans.Cell]]) -> List[str]:
         """Writes these rosters of the weeks; returns the words that name them."""
@@ -126,7 +164,9 @@ def check_first_roster(runs: Runs, chance: random.Random) -> bool:
 
 def check_repeated_fact(runs: Runs, case: Case, chance: random.Random) -> None:
     """Tries the certificate with a fact twice on a path."""
-    text = certificate_text(case.period, case.certificate._replace(tree=repeating_tree(chance, case.certificate.tree)))
+    text = certificate_text(
+        case.period, case.certificate._replace(tree=repeating_tree(chance, case.certificate.tree))
+    )
     (runs.folder / "certificate.txt").write_text(text)
     runs.expect("repeated fact", (1, "", "inrc2pb-bound: certificate: repeated\n"))
 
@@ -138,17 +178,25 @@ def check(program: str, folder: str, case: Case) -> Tuple[bool, ...]:
     runs = Runs(program, folder, case)
     every = {nurse: list(plain_plans.chains(period, nurse)) for nurse in period.nurses}
     plans = plans_of(period, random.Random("plans"), every)
-    bound, minimums = lower_bound(period, certificate, every), minimums_bound(period, certificate, every)
+    bound, minimums = lower_bound(period, certificate, every), minimums_bound(
+        period, certificate, every
+    )
     cheapest = min((cost for cost, _ in plans.kept), default=NONE)
     if cheapest < bound or plans.kept and minimums > 0:
-        raise Wrong("definition", f"a plan costs {cheapest}, below {bound}, or there is none by {minimums}")
+        raise Wrong(
+            "definition", f"a plan costs {cheapest}, below {bound}, or there is none by {minimums}"
+        )
     if bound < NONE:
         runs.expect("bound", (0, f"lower bound {bound}\n", ""))
     else:
         status, text, _ = runs.run()
         if status or int(text.split()[-1]) < GREAT:
             raise Wrong("bound", f"{text!r} though no plan exists")
-    runs.expect("minimums", (0, "no roster exists\n" if minimums > 0 else "no proof that no roster exists\n", ""), "--minimums")
+    runs.expect(
+        "minimums",
+        (0, "no roster exists\n" if minimums > 0 else "no proof that no roster exists\n", ""),
+        "--minimums",
+    )
     plans.kept.sort(key=lambda pair: pair[0])
     for cost, plan in plans.kept[:1] + plans.kept[-1:]:
         text = f"lower bound {bound}\npenalty {cost}\n" + "optimal\n" * (cost == bound)
@@ -157,7 +205,11 @@ def check(program: str, folder: str, case: Case) -> Tuple[bool, ...]:
     for plan in plans.broken[:3]:
         status, told = refusal(period, plan) or (0, "")
         rules, facts = rules + ("breaks" in told), facts + ("fact" in told)
-        runs.expect("broken", (status, "", f"inrc2pb-bound: {told}\n"), *runs.judge(plan.rosters(len(period.weeks))))
+        runs.expect(
+            "broken",
+            (status, "", f"inrc2pb-bound: {told}\n"),
+            *runs.judge(plan.rosters(len(period.weeks))),
+        )
     if certificate.tree[0] == "SPLIT":
         check_repeated_fact(runs, case, random.Random("fact"))
     return (
@@ -191,8 +243,13 @@ def smaller(case: Case) -> Iterator[Case]:
     """Cases with a part less."""
     period, certificate = case
     for number in range(len(period.given)):
-        yield case._replace(period=replace(period, given=period.given[:number] + period.given[number + 1 :]))
-    yield from (case._replace(certificate=certificate._replace(tree=tree)) for tree in subtrees(certificate.tree))
+        yield case._replace(
+            period=replace(period, given=period.given[:number] + period.given[number + 1 :])
+        )
+    yield from (
+        case._replace(certificate=certificate._replace(tree=tree))
+        for tree in subtrees(certificate.tree)
+    )
     for number, prices in enumerate(certificate.prices):
         for place in prices:
             less = {other: price for other, price in prices.items() if other != place}
@@ -202,7 +259,11 @@ def smaller(case: Case) -> Iterator[Case]:
         held = [*period.held[:number], [], *period.held[number + 1 :]]
         for changed in ({"requests": []}, {"required": {}}):
             other = type(week)(**{**vars(week), **changed})
-            yield case._replace(period=replace(period, weeks=[*period.weeks[:number], other, *period.weeks[number + 1 :]]))
+            yield case._replace(
+                period=replace(
+                    period, weeks=[*period.weeks[:number], other, *period.weeks[number + 1 :]]
+                )
+            )
         if period.held[number]:
             yield case._replace(period=replace(period, held=held))
 
@@ -211,7 +272,12 @@ def shrunk(case: Case, fails: Callable[[Case], bool]) -> Case:
     """A small case that fails, after some seconds at the latest."""
     end = time.monotonic() + SECONDS
     while True:
-        small = (one for one in smaller(case) if period_files(*one) != period_files(*case) and plain_plans.size(one.period) <= GREATEST)
+        small = (
+            one
+            for one in smaller(case)
+            if period_files(*one) != period_files(*case)
+            and plain_plans.size(one.period) <= GREATEST
+        )
         found = next((one for one in small if time.monotonic() > end or fails(one)), None)
         if found is None or time.monotonic() > end:
             return case

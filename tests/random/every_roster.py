@@ -40,7 +40,10 @@ class Model:
         first, *lines = text.split("\n")[:-1]
         self.variables = int(first.split()[2])
         objective = lines.pop(0) if lines[0].startswith("min:") else ""
-        self.price = {int(variable): int(price) for price, variable in re.findall(r"([+-]\d+) x(\d+)", objective)}
+        self.price = {
+            int(variable): int(price)
+            for price, variable in re.findall(r"([+-]\d+) x(\d+)", objective)
+        }
         self.cell_prices = [self.price.get(cell + 1, 0) for cell in range(cells)]
         self.constraints = [self.constraint(line) for line in lines]
         self.slacks = set()
@@ -48,14 +51,26 @@ class Model:
 
     @staticmethod
     def constraint(line):
-        terms = [(1 if sign == "+" else -1, int(variable)) for sign, variable in re.findall(r"([+-])1 x(\d+) ", line)]
+        terms = [
+            (1 if sign == "+" else -1, int(variable))
+            for sign, variable in re.findall(r"([+-])1 x(\d+) ", line)
+        ]
         degree = int(line.split()[-2])
-        if line != " ".join([*(f"{sign:+} x{variable}" for sign, variable in terms), f">= {degree} ;"]):
+        if line != " ".join(
+            [*(f"{sign:+} x{variable}" for sign, variable in terms), f">= {degree} ;"]
+        ):
             raise Wrong("constraint", line)
         return terms, degree
 
     def row(self, terms, degree, cells):
-        plus, minus = (sum(1 << variable - 1 for sign, variable in terms if sign == wanted and variable <= cells) for wanted in (1, -1))
+        plus, minus = (
+            sum(
+                1 << variable - 1
+                for sign, variable in terms
+                if sign == wanted and variable <= cells
+            )
+            for wanted in (1, -1)
+        )
         slacks = {variable: sign for sign, variable in terms if variable > cells}
         prices = sorted(self.price.get(variable, 0) for variable in slacks)
         if -1 in slacks.values() or self.slacks & set(slacks) or prices and prices[0] < 0:
@@ -83,13 +98,20 @@ class Model:
 
 def clasp_optimum(text):
     """The optimum that clasp proves, or None where there is no solution."""
-    said = subprocess.run(["clasp", "--quiet=1"], input=text, capture_output=True, text=True, timeout=60).stdout
+    said = subprocess.run(
+        ["clasp", "--quiet=1"], input=text, capture_output=True, text=True, timeout=60
+    ).stdout
     if "s UNSATISFIABLE" in said:
         return None
     status = re.search(r"^s (.*)$", said, re.MULTILINE).group(1)
-    if (status == "OPTIMUM FOUND") != ("\nmin:" in text) or status not in ("OPTIMUM FOUND", "SATISFIABLE"):
+    if (status == "OPTIMUM FOUND") != ("\nmin:" in text) or status not in (
+        "OPTIMUM FOUND",
+        "SATISFIABLE",
+    ):
         raise Wrong("clasp", status)
-    return int(re.findall(r"^o (-?\d+)$", said, re.MULTILINE)[-1]) if status == "OPTIMUM FOUND" else 0
+    return (
+        int(re.findall(r"^o (-?\d+)$", said, re.MULTILINE)[-1]) if status == "OPTIMUM FOUND" else 0
+    )
 
 
 # ---- one week
@@ -101,7 +123,9 @@ def small_case(chance, number):
     week = None
     while week is None or (len(week.nurses), len(week.shifts), len(week.skills)) != size:
         week, _ = random_week(chance, *size)
-    case, held = files_of(week), chance.choice([[], legal_roster(chance, week)[:2], [any_cell(chance, week)]])
+    case, held = files_of(week), chance.choice(
+        [[], legal_roster(chance, week)[:2], [any_cell(chance, week)]]
+    )
     if held or chance.random() < 0.5:
         case["fix"] = solution_text(week, held)
     if chance.random() < 0.4:
@@ -111,7 +135,10 @@ def small_case(chance, number):
 
 def check_answer(runs, model, week, case, true):
     """Compares what `decode` makes of the answer in which these variables are true."""
-    literals = [f"x{variable}" if variable in true else f"-x{variable}" for variable in range(1, model.variables + 1)]
+    literals = [
+        f"x{variable}" if variable in true else f"-x{variable}"
+        for variable in range(1, model.variables + 1)
+    ]
     runs.put(dict(case, answer=f"s SATISFIABLE\nv {' '.join(literals)}\n"))
     ended, unmet = runs.decode(), model.first_unmet(true)
     if unmet:
@@ -119,7 +146,12 @@ def check_answer(runs, model, week, case, true):
     else:
         roster = [cell for index, cell in enumerate(cells_of(week)) if index + 1 in true]
         objective = sum(model.price.get(variable, 0) for variable in true)
-        wanted = (0, report_text(objective, costs(week, roster, "early" in case)), "", solution_text(week, roster))
+        wanted = (
+            0,
+            report_text(objective, costs(week, roster, "early" in case)),
+            "",
+            solution_text(week, roster),
+        )
     if ended != wanted:
         raise Wrong("decode", f"{ended} is not {wanted}")
     return unmet is None
@@ -127,7 +159,9 @@ def check_answer(runs, model, week, case, true):
 
 def random_answer(chance, model, cells, kept):
     """Variables that are true: mostly of a roster that keeps the hard rules, and many slacks."""
-    bits = chance.choice(kept) if kept and chance.random() < 0.8 else chance.randrange(1 << len(cells))
+    bits = (
+        chance.choice(kept) if kept and chance.random() < 0.8 else chance.randrange(1 << len(cells))
+    )
     likely = chance.choice([1, 1, 0.9, 0.5])
     slacks = {slack for slack in sorted(model.slacks) if chance.random() < likely}
     return slacks | {index + 1 for index in range(len(cells)) if bits >> index & 1}

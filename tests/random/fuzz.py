@@ -31,7 +31,15 @@ import time
 
 from random_rosters import check_roster
 from drafts import ROOT, FileFault, files, files_of, read_week, solution_text
-from random_weeks import any_cell, example_files, legal_roster, random_cases, random_roster, random_week, read
+from random_weeks import (
+    any_cell,
+    example_files,
+    legal_roster,
+    random_cases,
+    random_roster,
+    random_week,
+    read,
+)
 from runs import FILES, Runs, Wrong
 from shrink import shrunk
 
@@ -52,7 +60,9 @@ FAULTS = {
 def example_weeks():
     """The files of some example weeks, and the answers that solvers gave."""
     for name in ("eight", "n005w4", "thirty"):
-        yield example_files(name), [read(path) for path in sorted(glob.glob(f"{ROOT}/examples/{name}/answers/*"))]
+        yield example_files(name), [
+            read(path) for path in sorted(glob.glob(f"{ROOT}/examples/{name}/answers/*"))
+        ]
 
 
 # ---- changes
@@ -70,7 +80,9 @@ def change_bytes(chance, text):
             lambda: text[:end] + piece + text[end:],
             lambda: text[:begin] + piece[::-1] + text[end:],
             lambda: text[:begin] + chr(chance.randrange(256)) + text[begin + 1 :],
-            lambda: text[:begin] + chance.choice([" ", "\n", "\r\n", "\t", "(", ",", "=", "-", "x", "\0", "\xff"]) + text[begin:],
+            lambda: text[:begin]
+            + chance.choice([" ", "\n", "\r\n", "\t", "(", ",", "=", "-", "x", "\0", "\xff"])
+            + text[begin:],
             lambda: text[:other] + piece + text[other:],
         ]
     )()
@@ -99,7 +111,33 @@ def change_numbers(chance, text):
     if not found:
         return text
     number = chance.choice(found)
-    new = chance.choice([0, 1, 2, 3, 7, 8, 9, 15, 16, 17, 52, 53, 64, 65, 1000, 1001, 9998, 9999, 10000, 65535, 65536, 2**32, 10**40])
+    new = chance.choice(
+        [
+            0,
+            1,
+            2,
+            3,
+            7,
+            8,
+            9,
+            15,
+            16,
+            17,
+            52,
+            53,
+            64,
+            65,
+            1000,
+            1001,
+            9998,
+            9999,
+            10000,
+            65535,
+            65536,
+            2**32,
+            10**40,
+        ]
+    )
     near = max(0, int(number.group()) + chance.choice([-1, 1]))
     new = chance.choice([new, near, near, near])
     return f"{text[: number.start()]}{chance.choice(['', '', '000'])}{new}{text[number.end() :]}"
@@ -125,7 +163,9 @@ def change_lines(chance, text):
 
 def changed(chance, text):
     for _ in range(chance.choice([1, 1, 1, 2, 3, 8])):
-        text = chance.choice([change_bytes, change_words, change_numbers, change_numbers, change_lines])(chance, text)
+        text = chance.choice(
+            [change_bytes, change_words, change_numbers, change_numbers, change_lines]
+        )(chance, text)
     return text
 
 
@@ -142,17 +182,27 @@ def changed_case(chance, weeks):
     else:
         week, roster = random_week(chance)
         case, answers = files_of(week), []
-    case["answer"] = chance.choice(answers or ["s SATISFIABLE\nv x1\n", "o 5\ns OPTIMUM FOUND\nv -x1 x2 x3\nv x4 -x5\n"])
+    case["answer"] = chance.choice(
+        answers or ["s SATISFIABLE\nv x1\n", "o 5\ns OPTIMUM FOUND\nv -x1 x2 x3\nv x4 -x5\n"]
+    )
     case["roster"] = solution_text(week, random_roster(chance, week, roster))
     if chance.random() < 0.3:
-        case["fix"] = solution_text(week, [any_cell(chance, week) for _ in range(chance.randint(0, 3))])
+        case["fix"] = solution_text(
+            week, [any_cell(chance, week) for _ in range(chance.randint(0, 3))]
+        )
     if chance.random() < 0.4:
         case["early"] = ""
-    for names, likely in ((["sce", "his", "week", *["fix"] * ("fix" in case)], 0.6), (["answer"], 0.8), (["roster"], 0.4)):
+    for names, likely in (
+        (["sce", "his", "week", *["fix"] * ("fix" in case)], 0.6),
+        (["answer"], 0.8),
+        (["roster"], 0.4),
+    ):
         if chance.random() < likely:
             name = chance.choice(names)
             case[name] = changed(chance, case[name])
-    case["cuts"] = " ".join(str(chance.randrange(len(case["answer"]) + 1)) for _ in range(chance.choice([1, 2, 5, 20])))
+    case["cuts"] = " ".join(
+        str(chance.randrange(len(case["answer"]) + 1)) for _ in range(chance.choice([1, 2, 5, 20]))
+    )
     return case
 
 
@@ -160,7 +210,9 @@ def check_fault(status, out, err, made=None):
     if status not in FAULTS or not FAULTS[status].fullmatch(err):
         raise Wrong(f"status {status}", f"standard error {err[:200]!r}")
     if out or made is not None:
-        raise Wrong(f"status {status}, and more", f"standard output {out[:200]!r}, solution file {made!r}")
+        raise Wrong(
+            f"status {status}, and more", f"standard output {out[:200]!r}, solution file {made!r}"
+        )
 
 
 def check_counts(model):
@@ -169,7 +221,10 @@ def check_counts(model):
     rest = lines[2:] if len(lines) > 1 and lines[1].startswith("min:") else lines[1:]
     variables = max((int(number) for number in re.findall(r"x(\d+)", model)), default=0)
     if not first or (int(first.group(1)), int(first.group(2))) != (variables, len(rest)):
-        raise Wrong("counts of a model", f"{lines[0]!r} over {variables} variables and {len(rest)} constraints")
+        raise Wrong(
+            "counts of a model",
+            f"{lines[0]!r} over {variables} variables and {len(rest)} constraints",
+        )
 
 
 def cut(text, cuts):
@@ -187,7 +242,9 @@ def library_fault(case):
         if "fix" in case:
             files.read_solution("fix", ward, case["fix"])
     except FileFault as fault:
-        return f"inrc2pb: {fault.path}{f' line {fault.line}' if fault.line else ''}: {fault.fault}\n"
+        return (
+            f"inrc2pb: {fault.path}{f' line {fault.line}' if fault.line else ''}: {fault.fault}\n"
+        )
     return ""
 
 
@@ -227,7 +284,9 @@ def failure(check, runs, case):
 
 
 def keep(check, runs, case, named, wrong):
-    small = shrunk(case, lambda case: getattr(failure(check, runs, case), "kind", None) == wrong.kind)
+    small = shrunk(
+        case, lambda case: getattr(failure(check, runs, case), "kind", None) == wrong.kind
+    )
     wrong = failure(check, runs, small)
     folder = f"{ROOT}/fuzz-failures/{named}"
     shutil.rmtree(folder, ignore_errors=True)
@@ -249,7 +308,9 @@ def cases(seed, number, weeks):
 
 
 def main():
-    reader = argparse.ArgumentParser(description=__doc__, formatter_class=argparse.RawDescriptionHelpFormatter)
+    reader = argparse.ArgumentParser(
+        description=__doc__, formatter_class=argparse.RawDescriptionHelpFormatter
+    )
     reader.add_argument("program", nargs="?", default=f"{ROOT}/crates/inrc2pb/out/inrc2pb")
     reader.add_argument("--seconds", type=float, default=60)
     reader.add_argument("--seed", type=int, default=random.SystemRandom().randrange(10**9))

@@ -83,13 +83,17 @@ def weight(found: List[Limit], unit: int, kind: str, nurse: str) -> int:
 
 def gain(found: List[Limit]) -> int:
     """What the bound gains by the surcharges, less what it loses."""
-    return sum(-one.surcharge * one.most if one.holds else one.surcharge * (one.most + 1) for one in found)
+    return sum(
+        -one.surcharge * one.most if one.holds else one.surcharge * (one.most + 1) for one in found
+    )
 
 
 # ---- the parts of a leaf's bound
 
 
-def nurse_value(chain: Chain, leaf: Leaf, unit: int, weights: Dict[str, int], never: Sequence[str]) -> float:
+def nurse_value(
+    chain: Chain, leaf: Leaf, unit: int, weights: Dict[str, int], never: Sequence[str]
+) -> float:
     """What a nurse costs by this chain, less the highest prices of her cells; infinite if the case does not allow it."""
     if any(chain.counts[kind] for kind in never):
         return NONE
@@ -99,32 +103,50 @@ def nurse_value(chain: Chain, leaf: Leaf, unit: int, weights: Dict[str, int], ne
         if not allows(leaf.case, week, chain.nurse, day, shift):
             return NONE
         if shift is not None:
-            paid += max(leaf.prices.get((week, day, shift, skill), 0) for skill in chain.skills[number])
+            paid += max(
+                leaf.prices.get((week, day, shift, skill), 0) for skill in chain.skills[number]
+            )
     return unit * chain.fixed + sum(weights[kind] * chain.counts[kind] for kind in POINTS) - paid
 
 
-def place_value(demand: Tuple[int, int], price: int, unit: int, place: Place, case: Sequence[Condition]) -> int:
+def place_value(
+    demand: Tuple[int, int], price: int, unit: int, place: Place, case: Sequence[Condition]
+) -> int:
     """What a place costs at least over all numbers of nurses, with the price of each, and with the nurses that the case gives up."""
     minimum, optimal = demand
     for fact, holds in case:
         if fact[0] == "PLACE" and fact[1:5] == place:
-            minimum, optimal = (minimum, min(optimal, fact[5])) if holds else (max(minimum, fact[5] + 1), optimal)
+            minimum, optimal = (
+                (minimum, min(optimal, fact[5])) if holds else (max(minimum, fact[5] + 1), optimal)
+            )
     numbers = range(minimum, max(minimum, optimal) + 1)
-    return min(MISSING * unit * max(0, optimal - number) + price * number for number in numbers) + MISSING * unit * (demand[1] - optimal)
+    return min(
+        MISSING * unit * max(0, optimal - number) + price * number for number in numbers
+    ) + MISSING * unit * (demand[1] - optimal)
 
 
-def leaf_bound(period: Period, leaf: Leaf, every: Dict[str, List[Chain]], unit: int = POINT) -> float:
+def leaf_bound(
+    period: Period, leaf: Leaf, every: Dict[str, List[Chain]], unit: int = POINT
+) -> float:
     """The bound of a leaf in thousandths of a point; 0 if the surcharges make a weight negative. With unit 0 soft rules do not count."""
     found = limits(leaf)
-    weights = {nurse: {kind: weight(found, unit, kind, nurse) for kind in POINTS} for nurse in every}
+    weights = {
+        nurse: {kind: weight(found, unit, kind, nurse) for kind in POINTS} for nurse in every
+    }
     if any(one < 0 for kinds in weights.values() for one in kinds.values()):
         return 0
     total: float = gain(found)
     for place, demand in period.demands.items():
         total += place_value(demand, leaf.prices.get(place, 0), unit, place, leaf.case)
     for nurse, own in every.items():
-        never = [kind for kind in POINTS if any(one.counts(kind, nurse) and one.holds and one.most == 0 for one in found)]
-        total += min((nurse_value(chain, leaf, unit, weights[nurse], never) for chain in own), default=NONE)
+        never = [
+            kind
+            for kind in POINTS
+            if any(one.counts(kind, nurse) and one.holds and one.most == 0 for one in found)
+        ]
+        total += min(
+            (nurse_value(chain, leaf, unit, weights[nurse], never) for chain in own), default=NONE
+        )
     return max(0, total)
 
 
@@ -145,10 +167,17 @@ def rounded_up(bound: float, case: Sequence[Condition]) -> float:
 
 def lower_bound(period: Period, certificate: Certificate, every: Dict[str, List[Chain]]) -> float:
     """The minimum of the bounds of all leaves."""
-    return min(rounded_up(leaf_bound(period, leaf, every), leaf.case) for leaf in leaves(certificate, period.given))
+    return min(
+        rounded_up(leaf_bound(period, leaf, every), leaf.case)
+        for leaf in leaves(certificate, period.given)
+    )
 
 
-def minimums_bound(period: Period, certificate: Certificate, every: Dict[str, List[Chain]]) -> float:
+def minimums_bound(
+    period: Period, certificate: Certificate, every: Dict[str, List[Chain]]
+) -> float:
     """The same without the soft rules and the surcharges: above 0 only if no plan keeps the hard rules."""
-    plain = [leaf._replace(surcharges=[0] * len(leaf.case)) for leaf in leaves(certificate, period.given)]
+    plain = [
+        leaf._replace(surcharges=[0] * len(leaf.case)) for leaf in leaves(certificate, period.given)
+    ]
     return min(leaf_bound(period, leaf, every, 0) for leaf in plain)

@@ -66,9 +66,15 @@ def hard_class(week, roster, held):
     """The first broken rule, and in which of its ways it is broken."""
     broken, shifts = first_broken(week, roster, held), rules.shifts_by_day(rows(roster))
     if broken == "H1":
-        return "H1 two shift types" if any(len(set(on)) > 1 for on in shifts.values()) else "H1 two skills"
+        return (
+            "H1 two shift types"
+            if any(len(set(on)) > 1 for on in shifts.values())
+            else "H1 two skills"
+        )
     if broken == "H3":
-        monday = any((week.history[n].last, s) in week.forbidden for n in week.nurses for s in shifts[n, 0])
+        monday = any(
+            (week.history[n].last, s) in week.forbidden for n in week.nurses for s in shifts[n, 0]
+        )
         return "H3 after the history" if monday else "H3 within the week"
     if broken == "H5":
         missing = [cell for cell in held if cell not in roster]
@@ -90,7 +96,9 @@ def may_charge(week, rule, what, early):
 
 def counted_classes(week, roster, early):
     """What the soft rules charge, and what they do not."""
-    charged = {(charge.rule, charge.what) for charge in rules.charges(week_of(week), rows(roster), early)}
+    charged = {
+        (charge.rule, charge.what) for charge in rules.charges(week_of(week), rows(roster), early)
+    }
     when = ", last week" if week.number + 1 == week.weeks else ", before"
     kinds = {tuple(name.split(",")[0].split(" ", 1)) for name in COUNTED}
     for rule, what in kinds:
@@ -111,9 +119,17 @@ def met_classes(week, roster):
     for what, pairs in limits.items():
         if any(least > most for least, most in pairs):
             yield f"{what} with the minimum above"
-    if any(week.requests.count(row) > 1 for row in week.requests for n, d, s, _ in roster if row in ((n, s, d), (n, "Any", d))):
+    if any(
+        week.requests.count(row) > 1
+        for row in week.requests
+        for n, d, s, _ in roster
+        if row in ((n, s, d), (n, "Any", d))
+    ):
         yield "S4 a row that stands twice"
-    before = {nurse: week.history[nurse].assignments - week.contracts[one.contract].total[1] for nurse, one in week.nurses.items()}
+    before = {
+        nurse: week.history[nurse].assignments - week.contracts[one.contract].total[1]
+        for nurse, one in week.nurses.items()
+    }
     if any(before[nurse] > 0 for nurse, _, _, _ in roster):
         yield "S6 above already in the history"
 
@@ -201,27 +217,37 @@ def show(hits):
     """Prints the table of hits; which class was never hit."""
     lines, never = [("rosters", "no option", "--early", "--fix", "both")], []
     for name, columns in classes():
-        lines.append((name, *(hits[name, column] if column in columns else "-" for column in COLUMNS)))
-        never += [f"{name}, {column or 'no option'}" for column in columns if not hits[name, column]]
+        lines.append(
+            (name, *(hits[name, column] if column in columns else "-" for column in COLUMNS))
+        )
+        never += [
+            f"{name}, {column or 'no option'}" for column in columns if not hits[name, column]
+        ]
     print("".join("{:42}{:>10}{:>10}{:>10}{:>10}\n".format(*line) for line in lines), end="")
     return never
 
 
 def main():
-    reader = argparse.ArgumentParser(description=__doc__, formatter_class=argparse.RawDescriptionHelpFormatter)
+    reader = argparse.ArgumentParser(
+        description=__doc__, formatter_class=argparse.RawDescriptionHelpFormatter
+    )
     reader.add_argument("program")
     reader.add_argument("--weeks", type=int, default=500)
     reader.add_argument("--seed", type=int, default=1)
     given = reader.parse_args()
     hits, failed = collections.Counter(), []
     with concurrent.futures.ProcessPoolExecutor() as pool:
-        for found, wrong in pool.map(functools.partial(try_week, given.program, given.seed), range(given.weeks), chunksize=10):
+        for found, wrong in pool.map(
+            functools.partial(try_week, given.program, given.seed), range(given.weeks), chunksize=10
+        ):
             hits += found
             failed += wrong
     failed += [f"no roster of the class {name}" for name in show(hits)]
     tried = sum(hits[name, column] for name in BROKEN for column in COLUMNS)
     print("".join(f"FAILED: {line}\n" for line in failed[:20]), end="")
-    print(f"random_rosters.py: seed {given.seed}, {given.weeks} weeks, {tried} rosters, {len(failed)} failed")
+    print(
+        f"random_rosters.py: seed {given.seed}, {given.weeks} weeks, {tried} rosters, {len(failed)} failed"
+    )
     sys.exit(1 if failed else 0)
 
 

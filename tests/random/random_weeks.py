@@ -7,7 +7,10 @@ from types import SimpleNamespace
 
 from drafts import ROOT, files_of, first_broken, read_week, solution_text
 
-EXAMPLES = [("n005w4", "examples/n005w4/answers/clasp.txt"), ("thirty", "tests/data/thirty_clasp_early.txt")]
+EXAMPLES = [
+    ("n005w4", "examples/n005w4/answers/clasp.txt"),
+    ("thirty", "tests/data/thirty_clasp_early.txt"),
+]
 ROSTERS_OF_A_WEEK = 8
 
 
@@ -38,7 +41,13 @@ def example_week(name, answer):
 
 def cells_of(week):
     """All cells by their variables: by nurse, day, shift type and skill."""
-    return [(n, d, s, k) for n in week.nurses for d in range(7) for s in week.shifts for k in week.skills]
+    return [
+        (n, d, s, k)
+        for n in week.nurses
+        for d in range(7)
+        for s in week.shifts
+        for k in week.skills
+    ]
 
 
 def limits(chance, most):
@@ -69,7 +78,10 @@ def random_week(chance, nurses=5, shifts=3, skills=3):
         for c in range(chance.randint(1, 3))
     }
     week.nurses = {
-        f"n{n}": SimpleNamespace(contract=chance.choice(list(week.contracts)), skills=[k for k in week.skills if chance.random() < 0.8])
+        f"n{n}": SimpleNamespace(
+            contract=chance.choice(list(week.contracts)),
+            skills=[k for k in week.skills if chance.random() < 0.8],
+        )
         for n in range(chance.randint(1, nurses))
     }
     week.history = {
@@ -84,9 +96,16 @@ def random_week(chance, nurses=5, shifts=3, skills=3):
         for nurse in shuffled(chance, week.nurses)
     }
     week.requests = [
-        (chance.choice(list(week.nurses)), chance.choice(["Any", *week.shifts]), chance.randrange(7)) for _ in range(chance.randint(0, 8))
+        (
+            chance.choice(list(week.nurses)),
+            chance.choice(["Any", *week.shifts]),
+            chance.randrange(7),
+        )
+        for _ in range(chance.randint(0, 8))
     ]
-    week.requests += [chance.choice(week.requests) for _ in range(chance.randint(0, 2)) if week.requests]
+    week.requests += [
+        chance.choice(week.requests) for _ in range(chance.randint(0, 2)) if week.requests
+    ]
     roster = legal_roster(chance, week)
     week.required = random_requirements(chance, week, roster)
     return week, roster
@@ -110,7 +129,11 @@ def random_requirements(chance, week, roster):
 
 def legal_days(chance, week, nurse):
     """Cells of a nurse that break no rule of her own."""
-    skills, before, likely = week.nurses[nurse].skills, week.history[nurse].last, chance.choice([0.2, 0.5, 0.8, 1])
+    skills, before, likely = (
+        week.nurses[nurse].skills,
+        week.history[nurse].last,
+        chance.choice([0.2, 0.5, 0.8, 1]),
+    )
     for day in range(7):
         allowed = [shift for shift in week.shifts if (before, shift) not in week.forbidden]
         before = None
@@ -125,7 +148,12 @@ def legal_roster(chance, week):
 
 def any_cell(chance, week):
     day = chance.choice([0, 0, *range(7)])  # on Monday more often: there the history has a say
-    return chance.choice(list(week.nurses)), day, chance.choice(list(week.shifts)), chance.choice(week.skills)
+    return (
+        chance.choice(list(week.nurses)),
+        day,
+        chance.choice(list(week.shifts)),
+        chance.choice(week.skills),
+    )
 
 
 def changed_roster(chance, week, roster):
@@ -138,9 +166,15 @@ def changed_roster(chance, week, roster):
     if kind == 1:
         return roster[:index] + roster[index + 1 :]
     if kind == 2:
-        return roster[:index] + roster[index + 1 :] + [(nurse, day, chance.choice(list(week.shifts)), skill)]
+        return (
+            roster[:index]
+            + roster[index + 1 :]
+            + [(nurse, day, chance.choice(list(week.shifts)), skill)]
+        )
     if kind == 3:
-        return roster[:index] + roster[index + 1 :] + [(nurse, day, shift, chance.choice(week.skills))]
+        return (
+            roster[:index] + roster[index + 1 :] + [(nurse, day, shift, chance.choice(week.skills))]
+        )
     return [cell for cell in roster if cell[0] != nurse] + list(legal_days(chance, week, nurse))
 
 
@@ -165,7 +199,9 @@ def random_cases(seed, number):
     """A week, the first ones of examples/, and rosters of it: each case has the texts of its files by the program's
     options; one with `--early` has that name too."""
     chance = random.Random(f"{seed} {number}")
-    week, roster = example_week(*EXAMPLES[number]) if number < len(EXAMPLES) else random_week(chance)
+    week, roster = (
+        example_week(*EXAMPLES[number]) if number < len(EXAMPLES) else random_week(chance)
+    )
     files = files_of(week)
     for _ in range(ROSTERS_OF_A_WEEK):
         cells = random_roster(chance, week, roster)

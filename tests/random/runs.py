@@ -5,7 +5,14 @@ import subprocess
 
 from drafts import SOFT_RULES
 
-FILES = {"sce": "scenario.txt", "his": "history.txt", "week": "week.txt", "fix": "fix.txt", "roster": "roster.txt", "answer": "answer.txt"}
+FILES = {
+    "sce": "scenario.txt",
+    "his": "history.txt",
+    "week": "week.txt",
+    "fix": "fix.txt",
+    "roster": "roster.txt",
+    "answer": "answer.txt",
+}
 
 
 class Wrong(Exception):
@@ -19,7 +26,9 @@ class Wrong(Exception):
 def report_text(objective, cost, last=None):
     """The report of `decode`: the costs of the soft rules in their order, and the answer's last `o` value."""
     lines = ["status SATISFIABLE", f"objective {objective}", f"penalty {sum(cost)}"]
-    lines += [f"{rule} {number}" for rule, number in zip(SOFT_RULES, cost)] + ([] if last is None else [f"last o {last}"])
+    lines += [f"{rule} {number}" for rule, number in zip(SOFT_RULES, cost)] + (
+        [] if last is None else [f"last o {last}"]
+    )
     return "".join(f"{line}\n" for line in lines)
 
 
@@ -42,14 +51,21 @@ class Runs:
         self.case = dict(case)
 
     def words(self, command, *words):
-        week = [word for name in ("sce", "his", "week", "fix") if name in self.case for word in (f"--{name}", FILES[name])]
+        week = [
+            word
+            for name in ("sce", "his", "week", "fix")
+            if name in self.case
+            for word in (f"--{name}", FILES[name])
+        ]
         return [command, *week, *["--early"] * ("early" in self.case), *words]
 
     def run(self, command, *words, pieces=None):
         """The status, standard output and standard error of a run; with pieces, those of an answer at standard input."""
         words = self.words(command, *words)
         self.shown = " ".join(["inrc2pb", *words]) + (
-            f" < answer.txt, in pieces of {', '.join(str(len(piece)) for piece in pieces)} bytes" if pieces else ""
+            f" < answer.txt, in pieces of {', '.join(str(len(piece)) for piece in pieces)} bytes"
+            if pieces
+            else ""
         )
         process = subprocess.Popen(
             [self.program, *words],
@@ -76,7 +92,13 @@ class Runs:
         solution = self.path("solution.txt")
         if os.path.exists(solution):
             os.remove(solution)
-        ended = self.run("decode", "--sol", "solution.txt", *[] if pieces else ["--answer", "answer.txt"], pieces=pieces)
+        ended = self.run(
+            "decode",
+            "--sol",
+            "solution.txt",
+            *[] if pieces else ["--answer", "answer.txt"],
+            pieces=pieces,
+        )
         if not os.path.exists(solution):
             return (*ended, None)
         with open(solution, encoding="latin-1", newline="") as opened:

@@ -16,7 +16,13 @@ from ..week.slots import did_you_mean
 class _Once(argparse.Action):
     """Stores the value of an option, or of a word without one. Raises ArgumentError if the option is given twice."""
 
-    def __call__(self, parser: argparse.ArgumentParser, namespace: argparse.Namespace, values: Any, option: Optional[str] = None) -> None:
+    def __call__(
+        self,
+        parser: argparse.ArgumentParser,
+        namespace: argparse.Namespace,
+        values: Any,
+        option: Optional[str] = None,
+    ) -> None:
         given = vars(namespace).setdefault("given", set())
         if option and self.dest in given:
             raise argparse.ArgumentError(self, "it is given twice: give it once")
@@ -27,7 +33,13 @@ class _Once(argparse.Action):
 class _Version(argparse.Action):
     """Prints the version of `inrc2pb`, with which the commands are installed."""
 
-    def __call__(self, parser: argparse.ArgumentParser, namespace: argparse.Namespace, values: Any, option: Optional[str] = None) -> None:
+    def __call__(
+        self,
+        parser: argparse.ArgumentParser,
+        namespace: argparse.Namespace,
+        values: Any,
+        option: Optional[str] = None,
+    ) -> None:
         print(run_program("--version"), end="")
         parser.exit()
 
@@ -44,7 +56,9 @@ class Parser(argparse.ArgumentParser):
 
     def add_version(self) -> None:
         """Adds the option `--version`."""
-        self.add_argument("--version", action=_Version, nargs=0, help="print the version of inrc2pb and exit")
+        self.add_argument(
+            "--version", action=_Version, nargs=0, help="print the version of inrc2pb and exit"
+        )
 
     def parse_args(self, args: Optional[Sequence[str]] = None, namespace: Any = None) -> Any:
         """Returns the values of the command line. A mistake is printed, and ends the program."""
@@ -58,7 +72,11 @@ class Parser(argparse.ArgumentParser):
         """Prints the fault and its advice, and exits."""
         _, is_unknown, words = message.partition("unrecognized arguments: ")
         if is_unknown or "arguments are required: " in message:
-            message += self._about_options() or self._about_files(words) or _about_words(words, self._given)
+            message += (
+                self._about_options()
+                or self._about_files(words)
+                or _about_words(words, self._given)
+            )
         if "--sce, --his, --week" in message and "did you mean" not in message:
             message += ": is WEEK set in this terminal?"
         super().error(message)
@@ -77,7 +95,11 @@ class Parser(argparse.ArgumentParser):
         """The advice if a file is given without its option."""
         takes_rosters = any("--roster" in action.option_strings for action in self._actions)
         are_files = bool(unknown) and all(os.path.exists(word) for word in unknown.split())
-        return ": give rosters after --roster, and each other file after its option" if takes_rosters and are_files else ""
+        return (
+            ": give rosters after --roster, and each other file after its option"
+            if takes_rosters and are_files
+            else ""
+        )
 
 
 def _about_words(unknown: str, given: Sequence[str]) -> str:

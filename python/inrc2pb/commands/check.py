@@ -13,7 +13,13 @@ from ..judging.odd_values import Reach, Warned, history_warnings, scenario_warni
 from ..judging.rules import first_broken
 from ..programs.program import BROKEN_RULE, FAULT, NO_PROGRAM, answer_with, encode
 from ..search.why_none import shortage_lines, why_none
-from ..shown.ward_sentences import history_sentences, limit_sentences, scenario_sentences, supply_text, ward_sentence
+from ..shown.ward_sentences import (
+    history_sentences,
+    limit_sentences,
+    scenario_sentences,
+    supply_text,
+    ward_sentence,
+)
 from ..shown.week_sentences import DescribedWeek, held_sentences, weeks_sentences
 from ..week.faults import FileFault, Misuse, ProgramFault, fault_line, printable
 from ..week.files import check_week_number, read_history, read_scenario, read_solution, read_week
@@ -21,7 +27,14 @@ from ..week.records import DAYS, Cell, History, Scenario, Week, WeekData
 from ..week.words import readable
 from ..week.writing import check_no_pipes
 from .arguments import Parser
-from .command import add_given_option, add_rosters_option, add_weeks_options, fix_files, parser, the_week
+from .command import (
+    add_given_option,
+    add_rosters_option,
+    add_weeks_options,
+    fix_files,
+    parser,
+    the_week,
+)
 
 Contents = TypeVar("Contents")
 
@@ -53,7 +66,9 @@ class Check:
         """Prints the warnings about a file without a mistake."""
         for warning in warnings:
             print(f"{path}: warning: {warning}")
-            self.impossible = self.impossible or isinstance(warning, Warned) and warning.reach is Reach.NONE
+            self.impossible = (
+                self.impossible or isinstance(warning, Warned) and warning.reach is Reach.NONE
+            )
 
     def name(self, name: str, scenario: Scenario) -> Iterator[str]:
         """A warning if the file is of another ward."""
@@ -62,7 +77,11 @@ class Check:
 
     def held(self, path: Path, scenario: Scenario, history: Optional[History]) -> List[Cell]:
         """Checks a fix file: its assignments, if it has no mistake."""
-        solution = self.reads(lambda: read_held(path, scenario, history, lambda warning: self.warns(path, iter([warning]))))
+        solution = self.reads(
+            lambda: read_held(
+                path, scenario, history, lambda warning: self.warns(path, iter([warning]))
+            )
+        )
         return list(solution.cells) if solution else []
 
     def roster(self, path: Path, scenario: Scenario, history: Optional[History]) -> None:
@@ -85,7 +104,9 @@ class Check:
             self.warns(path, history_warnings(history, scenario))
         return history
 
-    def week_data(self, path: Path, scenario: Scenario, history: Optional[History]) -> Optional[WeekData]:
+    def week_data(
+        self, path: Path, scenario: Scenario, history: Optional[History]
+    ) -> Optional[WeekData]:
         """Checks the week data."""
         facts = self.given.facts
         data = self.reads(lambda: read_week(path, scenario))
@@ -112,7 +133,9 @@ class Check:
         held = self.held(self.fix_file, scenario, history) if self.fix_file else []
         if data:
             for row in working_while_away(absences_of(data), held):
-                self.mistake(f"{self.fix_file}: {row.nurse} is away on {DAYS[row.day]}, and {row.shift} is held: remove one of the two")
+                self.mistake(
+                    f"{self.fix_file}: {row.nurse} is away on {DAYS[row.day]}, and {row.shift} is held: remove one of the two"
+                )
         if given.tell and not self.mistakes:
             self.tell(scenario, history, data, held)
         for roster in given.roster:
@@ -120,13 +143,23 @@ class Check:
         week = Week(scenario, history, data) if history and data else None
         return week, held
 
-    def tell(self, scenario: Scenario, history: Optional[History], data: Optional[WeekData], held: List[Cell]) -> None:
+    def tell(
+        self,
+        scenario: Scenario,
+        history: Optional[History],
+        data: Optional[WeekData],
+        held: List[Cell],
+    ) -> None:
         """Prints the files in sentences."""
         lines = [ward_sentence(scenario), *scenario_sentences(scenario), ""]
         lines += [*history_sentences(history), ""] if history else []
         if data:
             lines.append(f"The week {supply_text(scenario, history, data)}.")
-            lines += [*weeks_sentences(scenario, [DescribedWeek(0, data)]), *limit_sentences(scenario, data), ""]
+            lines += [
+                *weeks_sentences(scenario, [DescribedWeek(0, data)]),
+                *limit_sentences(scenario, data),
+                "",
+            ]
         lines += [*held_sentences(held), ""] if held else []
         print(readable("\n".join(lines)))
 
@@ -186,20 +219,35 @@ def options() -> Parser:
     add_given_option(checks)
     add_rosters_option(checks, "rosters of the week to check, as solution files")
     checks.add_argument("--tell", action="store_true", help="print the files in sentences")
-    checks.add_argument("--why-none", action="store_true", help="if no roster exists: the minimum numbers to lower, and who has the skill")
+    checks.add_argument(
+        "--why-none",
+        action="store_true",
+        help="if no roster exists: the minimum numbers to lower, and who has the skill",
+    )
     return checks
 
 
 def _check_options(given: argparse.Namespace) -> None:
     """Raises Misuse if options need others."""
     if not given.sce:
-        raise Misuse("no scenario is given: give --sce FILE, and the files to check; is WEEK set in this terminal?")
+        raise Misuse(
+            "no scenario is given: give --sce FILE, and the files to check; is WEEK set in this terminal?"
+        )
     if len(given.week) > 1:
         raise Misuse(f"--week has {len(given.week)} files: check each week with its own history")
     for name, value in (("--why-none", given.why_none), ("--given", given.facts)):
         if value and not (given.his and given.week):
             raise Misuse(f"{name} needs the whole week: give --sce, --his and --week")
-    check_no_pipes((given.sce, given.his, *given.week, fix_files(given.fix, 1).get(0), given.facts, *given.roster))
+    check_no_pipes(
+        (
+            given.sce,
+            given.his,
+            *given.week,
+            fix_files(given.fix, 1).get(0),
+            given.facts,
+            *given.roster,
+        )
+    )
 
 
 def main(given: argparse.Namespace) -> int:
@@ -213,7 +261,11 @@ def main(given: argparse.Namespace) -> int:
     if not check.mistakes and week:
         check.model(week, held)
     elif not check.mistakes and given.roster:
-        print("warning: hard rules are not checked without the whole week: give --his and --week too")
+        print(
+            "warning: hard rules are not checked without the whole week: give --his and --week too"
+        )
     if not check.mistakes:
-        print("No mistake found, but see the warnings." if check.impossible else "No mistake found.")
+        print(
+            "No mistake found, but see the warnings." if check.impossible else "No mistake found."
+        )
     return FAULT if check.mistakes else 0

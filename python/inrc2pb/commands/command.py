@@ -44,7 +44,9 @@ def number_of_seconds(text: str) -> float:
     try:
         return float(text)
     except ValueError:
-        raise argparse.ArgumentTypeError(f"'{text}' is no number: give seconds, such as 60 or 2.5") from None
+        raise argparse.ArgumentTypeError(
+            f"'{text}' is no number: give seconds, such as 60 or 2.5"
+        ) from None
 
 
 def fix_files(texts: Sequence[str], weeks: int) -> Dict[int, Path]:
@@ -57,13 +59,21 @@ def fix_files(texts: Sequence[str], weeks: int) -> Dict[int, Path]:
     for text in texts:
         match = re.fullmatch("([0-9]{1,4})=(.+)", text, re.DOTALL)
         if not match and weeks > 1:
-            raise Misuse(f"--fix {text}: give the week's number, 1 for the first week, and its file, such as 1=promised.txt")
+            raise Misuse(
+                f"--fix {text}: give the week's number, 1 for the first week, and its file, such as 1=promised.txt"
+            )
         number, path = (int(match[1]), Path(match[2])) if match else (1, Path(text))
         if not 1 <= number <= weeks:
-            last = "for the only week" if weeks == 1 else f"for the first week, and {weeks} for the last"
+            last = (
+                "for the only week"
+                if weeks == 1
+                else f"for the first week, and {weeks} for the last"
+            )
             raise Misuse(f"--fix {text}: there is no week {number}: give 1 {last}")
         if number - 1 in fixes:
-            raise Misuse(f"--fix {text}: week {number} has the file {fixes[number - 1]}: put all rows into one file")
+            raise Misuse(
+                f"--fix {text}: week {number} has the file {fixes[number - 1]}: put all rows into one file"
+            )
         fixes[number - 1] = path
     return fixes
 
@@ -71,7 +81,13 @@ def fix_files(texts: Sequence[str], weeks: int) -> Dict[int, Path]:
 def add_weeks_options(options: argparse.ArgumentParser, required: bool = True) -> None:
     """The options that name the files of one or more weeks, as `inrc2pb-bound` has them."""
     options.add_argument("--sce", metavar="FILE", type=Path, required=required, help="the scenario")
-    options.add_argument("--his", metavar="FILE", type=Path, required=required, help="the history with which the first week begins")
+    options.add_argument(
+        "--his",
+        metavar="FILE",
+        type=Path,
+        required=required,
+        help="the history with which the first week begins",
+    )
     options.add_argument(
         "--week",
         metavar="FILE",
@@ -90,13 +106,24 @@ def add_weeks_options(options: argparse.ArgumentParser, required: bool = True) -
         help="assignments to keep, as a solution file: the rows of a roster that are fixed, with their number after ASSIGNMENTS; of week N "
         "of several as N=FILE, where N is 1 for the first week that is given",
     )
-    options.add_argument("--early", action="store_true", help="charge excess assignments and weekends as soon as they occur")
+    options.add_argument(
+        "--early",
+        action="store_true",
+        help="charge excess assignments and weekends as soon as they occur",
+    )
 
 
 def add_rosters_option(options: argparse.ArgumentParser, asks: str, required: bool = False) -> None:
     """The option that names a roster of each week."""
     options.add_argument(
-        "--roster", metavar="FILE", type=Path, nargs="+", action="extend", default=None if required else [], required=required, help=asks
+        "--roster",
+        metavar="FILE",
+        type=Path,
+        nargs="+",
+        action="extend",
+        default=None if required else [],
+        required=required,
+        help=asks,
     )
 
 
@@ -126,7 +153,12 @@ def the_week(given: argparse.Namespace) -> WeekFiles:
     if len(given.week) != 1:
         raise Misuse(f"--week has {len(given.week)} files: give one")
     return WeekFiles(
-        given.sce, given.his, given.week[0], fix=fix_files(given.fix, 1).get(0), early=given.early, given=vars(given).get("facts")
+        given.sce,
+        given.his,
+        given.week[0],
+        fix=fix_files(given.fix, 1).get(0),
+        early=given.early,
+        given=vars(given).get("facts"),
     )
 
 
@@ -197,7 +229,12 @@ def _standard_output(stream: Optional[TextIO]) -> TextIO:
         if isinstance(stream, io.TextIOWrapper):
             stream.reconfigure(encoding="utf-8", errors="surrogateescape")
         return stream
-    return _Output(open(descriptor, "wb", closefd=False), encoding="utf-8", errors="surrogateescape", line_buffering=stream.isatty())
+    return _Output(
+        open(descriptor, "wb", closefd=False),
+        encoding="utf-8",
+        errors="surrogateescape",
+        line_buffering=stream.isatty(),
+    )
 
 
 def _standard_error(stream: Optional[TextIO]) -> TextIO:
@@ -207,7 +244,12 @@ def _standard_error(stream: Optional[TextIO]) -> TextIO:
         unbuffered = open(stream.fileno(), "wb", buffering=0, closefd=False)
     except OSError:
         return stream
-    return _Remarks(io.BufferedWriter(unbuffered), encoding="utf-8", errors="backslashreplace", line_buffering=True)
+    return _Remarks(
+        io.BufferedWriter(unbuffered),
+        encoding="utf-8",
+        errors="backslashreplace",
+        line_buffering=True,
+    )
 
 
 def run(main: Callable[[], Optional[int]]) -> None:
@@ -237,7 +279,9 @@ def run(main: Callable[[], Optional[int]]) -> None:
         for told in several.faults[:MAX_FAULTS]:
             print(f"{name}: {fault_line(told)}", file=sys.stderr)
         if len(several.faults) > MAX_FAULTS:
-            print(f"{name}: and {len(several.faults) - MAX_FAULTS} more such faults", file=sys.stderr)
+            print(
+                f"{name}: and {len(several.faults) - MAX_FAULTS} more such faults", file=sys.stderr
+            )
         status = FAULT
     except MemoryError:
         print(f"{name}: out of memory", file=sys.stderr)
@@ -257,7 +301,8 @@ def _status_of(main: Callable[[], Optional[int]]) -> int:
 
 def _catch_signals() -> None:
     """From now on Ctrl-C is a KeyboardInterrupt again: before, while a command starts, it ends the process without a word. TERM and HUP
-    end the command too, and no temporary file is left. The statuses of children are kept, also if the caller ignores them."""
+    end the command too, and no temporary file is left. The statuses of children are kept, also if the caller ignores them.
+    """
     if signal.getsignal(signal.SIGINT) == signal.SIG_DFL:
         signal.signal(signal.SIGINT, signal.default_int_handler)
     for number in (signal.SIGTERM, signal.SIGHUP):
@@ -329,5 +374,7 @@ def _main(module: str) -> int:
     except ImportError as fault:
         if (fault.name or "").partition(".")[0] != "numpy":
             raise
-        raise Misuse("this command needs NumPy: install it (Debian: apt-get install python3-numpy)") from None
+        raise Misuse(
+            "this command needs NumPy: install it (Debian: apt-get install python3-numpy)"
+        ) from None
     return command.main() or 0

@@ -34,7 +34,12 @@ LEAST_SECONDS = 0.2
 def seconds_since_start() -> float:
     """The seconds by the clock since this process began; if the system does not say, the seconds of processor time."""
     try:
-        words = Path("/proc/self/stat").read_text(encoding="utf-8", errors="replace").rpartition(")")[2].split()
+        words = (
+            Path("/proc/self/stat")
+            .read_text(encoding="utf-8", errors="replace")
+            .rpartition(")")[2]
+            .split()
+        )
         return time.clock_gettime(time.CLOCK_BOOTTIME) - int(words[19]) / os.sysconf("SC_CLK_TCK")
     except (OSError, AttributeError, ValueError, IndexError):
         return time.process_time()
@@ -45,14 +50,20 @@ def search_seconds(timeout: float, used: float) -> float:
     return max(LEAST_SECONDS, timeout - max(END_SECONDS, END_SHARE * timeout) - used)
 
 
-def plan_ahead(weeks: PlannedWeeks, solution: Path, seconds: float) -> Tuple[Report, Optional[BaseException]]:
+def plan_ahead(
+    weeks: PlannedWeeks, solution: Path, seconds: float
+) -> Tuple[Report, Optional[BaseException]]:
     """Plans the week, which is the first of all weeks that are left, and writes its roster. Also returns the fault that ended the search
     after the roster was found."""
     week, file, text = weeks.history.week, KeptFile(solution), ""
 
     def keep(cells: Sequence[Cell]) -> None:
         nonlocal text
-        text = solution_text(Solution(week, weeks.scenario.name, tuple(cell for cell in cells if cell.day < WEEK_DAYS)))
+        text = solution_text(
+            Solution(
+                week, weeks.scenario.name, tuple(cell for cell in cells if cell.day < WEEK_DAYS)
+            )
+        )
         file.write(text)
 
     running = PeriodSearch(weeks, keep, Clock(seconds), Progress(None))
@@ -69,12 +80,22 @@ def plan_ahead(weeks: PlannedWeeks, solution: Path, seconds: float) -> Tuple[Rep
     return extend(weeks.week_files(week), solution)[1], ended
 
 
-def _planned(given: argparse.Namespace, weeks: PlannedWeeks, seconds: float) -> Tuple[Report, Optional[BaseException]]:
+def _planned(
+    given: argparse.Namespace, weeks: PlannedWeeks, seconds: float
+) -> Tuple[Report, Optional[BaseException]]:
     """The report of the week's roster, and the fault that ended its search after the roster was found."""
     if weeks.later() and not given.solver:
         return plan_ahead(weeks, given.sol, seconds)
     files = replace(weeks.week_files(weeks.history.week), early=bool(given.solver))
-    outcome = search(files, given.sol, None, seconds=seconds, solver=given.solver, proof=None, progress=Progress(None))
+    outcome = search(
+        files,
+        given.sol,
+        None,
+        seconds=seconds,
+        solver=given.solver,
+        proof=None,
+        progress=Progress(None),
+    )
     return outcome.report, outcome.fault
 
 
@@ -86,16 +107,41 @@ def options() -> Parser:
         "--cusIn and --cusOut carry a solver's own data from week to week. This one keeps none: it reads no --cusIn, and writes\n"
         "the number of the next week to --cusOut.",
     )
-    competition.add_argument("--inrc2", action="store_true", required=True, help="the word that selects this command line")
+    competition.add_argument(
+        "--inrc2",
+        action="store_true",
+        required=True,
+        help="the word that selects this command line",
+    )
     competition.add_argument("--sce", metavar="FILE", type=Path, required=True, help="the scenario")
-    competition.add_argument("--his", metavar="FILE", type=Path, required=True, help="the history with which the week begins")
-    competition.add_argument("--week", metavar="FILE", type=Path, required=True, help="the week's requirements and requests")
-    competition.add_argument("--sol", metavar="FILE", type=Path, required=True, help="the solution file to write")
-    competition.add_argument("--cusIn", metavar="FILE", type=Path, help="a solver's data from the week before: not read")
-    competition.add_argument("--cusOut", metavar="FILE", type=Path, help="the data for the next week: its number")
+    competition.add_argument(
+        "--his",
+        metavar="FILE",
+        type=Path,
+        required=True,
+        help="the history with which the week begins",
+    )
+    competition.add_argument(
+        "--week",
+        metavar="FILE",
+        type=Path,
+        required=True,
+        help="the week's requirements and requests",
+    )
+    competition.add_argument(
+        "--sol", metavar="FILE", type=Path, required=True, help="the solution file to write"
+    )
+    competition.add_argument(
+        "--cusIn", metavar="FILE", type=Path, help="a solver's data from the week before: not read"
+    )
+    competition.add_argument(
+        "--cusOut", metavar="FILE", type=Path, help="the data for the next week: its number"
+    )
     competition.add_argument("--rand", metavar="N", type=int, help="the seed: not used")
     timeout = "seconds in which this process ends, its start included (default: 60)"
-    competition.add_argument("--timeout", metavar="SECONDS", type=number_of_seconds, default=60, help=timeout)
+    competition.add_argument(
+        "--timeout", metavar="SECONDS", type=number_of_seconds, default=60, help=timeout
+    )
     add_solver_option(competition)
     return competition
 
@@ -114,7 +160,9 @@ def main(given: argparse.Namespace) -> int:
         check_target(given.cusOut.absolute())
         check_inputs_stay(files.all(), given.cusOut, "the number of the next week")
         if os.path.realpath(given.sol) == os.path.realpath(given.cusOut) != os.devnull:
-            raise Misuse(f"{given.sol} gets the roster, so the number of the next week cannot be written to it: choose another file")
+            raise Misuse(
+                f"{given.sol} gets the roster, so the number of the next week cannot be written to it: choose another file"
+            )
     seconds = search_seconds(given.timeout, seconds_since_start())
     progress = Progress(sys.stderr, inputs.named)
     with interrupts(), locked([given.sol], False, progress.warn), inputs.naming():

@@ -28,7 +28,9 @@ def options() -> Parser:
     )
     names.add_argument("model", metavar="FILE", type=Path, help="the model, right after the verb")
     add_weeks_options(names)
-    names.add_argument("--out", metavar="FILE", type=Path, help="write to this file, not to standard output")
+    names.add_argument(
+        "--out", metavar="FILE", type=Path, help="write to this file, not to standard output"
+    )
     return names
 
 
@@ -38,12 +40,18 @@ def main(given: argparse.Namespace) -> int:
     if given.out:
         check_inputs_stay((given.model, *files.all()), given.out, "the list of names")
     week = read_files(files.scenario, files.history, files.week)
-    held = read_held(files.fix, week.scenario, week.history, lambda hint: None).cells if files.fix else ()
+    held = (
+        read_held(files.fix, week.scenario, week.history, lambda hint: None).cells
+        if files.fix
+        else ()
+    )
     with tempfile.TemporaryDirectory() as folder:
         model = Path(folder, "week.opb")
         encode(files, model)
         if not filecmp.cmp(model, given.model, shallow=False):
-            raise Misuse(f"{given.model} is not the model of this week: give the files of which it was made, and --fix and --early as then")
+            raise Misuse(
+                f"{given.model} is not the model of this week: give the files of which it was made, and --fix and --early as then"
+            )
         with open(model, encoding="ascii") as lines:
             names = (f"{line}\n" for line in names_of(lines, week, held, files.early))
             if given.out:

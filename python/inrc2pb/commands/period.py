@@ -33,24 +33,52 @@ class Period:
     of each week to begin with; without it the search begins with those of the folder.
     """
 
-    def __init__(self, files: PeriodFiles, folder: Path, proof: Optional[Path] = None, seed: int = 1, starts: Sequence[Path] = ()) -> None:
+    def __init__(
+        self,
+        files: PeriodFiles,
+        folder: Path,
+        proof: Optional[Path] = None,
+        seed: int = 1,
+        starts: Sequence[Path] = (),
+    ) -> None:
         check_no_pipes((*files.all(), *starts))
-        self.folder, self._proof, self._seed, self._files, self._inputs = folder, proof, seed, files, Inputs()
+        self.folder, self._proof, self._seed, self._files, self._inputs = (
+            folder,
+            proof,
+            seed,
+            files,
+            Inputs(),
+        )
         self.progress = Progress(sys.stderr, self._inputs.named)
         with self._inputs.naming():
             self.weeks = PlannedWeeks(files.copied(self._inputs.copy))
             self.numbers = self.weeks.numbers
-            self._starts = [_read_start(self._inputs.copy(path), number, self.weeks.scenario) for number, path in zip(self.numbers, starts)]
+            self._starts = [
+                _read_start(self._inputs.copy(path), number, self.weeks.scenario)
+                for number, path in zip(self.numbers, starts)
+            ]
         self._plan_folder = PlanFolder(self.weeks, folder, self.progress.warn)
         if starts and len(starts) != len(self.numbers):
             weeks = plural(len(self.numbers), "week")
-            raise Misuse(f"--roster has {plural(len(starts), 'file')} for {weeks}: give one for each, in their order")
+            raise Misuse(
+                f"--roster has {plural(len(starts), 'file')} for {weeks}: give one for each, in their order"
+            )
         self.reports: Dict[int, Report] = {}
         self.bound_lines: List[str] = []
         for number in self.numbers:
             # Files of an earlier run may be replaced.
-            check_inputs_stay(files.all(), folder / roster_name(number), f"the roster of {week_name(number)}", "folder")
-            check_inputs_stay(files.all(), folder / history_name(number + 1), f"the history of week {number + 2}", "folder")
+            check_inputs_stay(
+                files.all(),
+                folder / roster_name(number),
+                f"the roster of {week_name(number)}",
+                "folder",
+            )
+            check_inputs_stay(
+                files.all(),
+                folder / history_name(number + 1),
+                f"the history of week {number + 2}",
+                "folder",
+            )
         find_program()
         if proof:
             check_no_pipe_is_written(proof)
@@ -65,7 +93,10 @@ class Period:
     def name_replaced(self) -> None:
         """Says which files of an earlier run get new contents."""
         later = [number + 1 for number in self.numbers if number + 1 < self.weeks.scenario.weeks]
-        written = [self.folder / name for name in (*map(roster_name, self.numbers), *map(history_name, later))]
+        written = [
+            self.folder / name
+            for name in (*map(roster_name, self.numbers), *map(history_name, later))
+        ]
         old = [str(path) for path in written if path.exists()]
         if old:
             _say(f"files that are replaced: {', '.join(old)}")
@@ -73,7 +104,11 @@ class Period:
     def plan_together(self, seconds: float) -> None:
         """Plans all weeks together. If the user stops it, the best plan until then is reported."""
         first, last = self.numbers[0] + 1, self.numbers[-1] + 1
-        _say(f"week {first}, at most {seconds:g} s" if first == last else f"weeks {first} to {last} together, at most {seconds:g} s")
+        _say(
+            f"week {first}, at most {seconds:g} s"
+            if first == last
+            else f"weeks {first} to {last} together, at most {seconds:g} s"
+        )
         for hint in self.weeks.hints:
             self.progress.warn(hint)
         folder, earlier = self._plan_folder, self._earlier()
@@ -113,11 +148,17 @@ class Period:
         with interrupts() as signals, self._inputs.naming():
             history, path = self.weeks.history, self.weeks.files.history
             for number in self.numbers:
-                week = WrittenWeek(self.weeks.week_files(number, path), self.folder / roster_name(number))
+                week = WrittenWeek(
+                    self.weeks.week_files(number, path), self.folder / roster_name(number)
+                )
                 _say(f"{week_name(number)}, {self._inputs.named(str(week.files.week))}")
                 outcome = self._plan_one(number, week, seconds, solver)
                 if number + 1 < self.weeks.scenario.weeks:
-                    history = next_history(self.weeks.scenario, history, read_solution(week.roster, self.weeks.scenario).cells)
+                    history = next_history(
+                        self.weeks.scenario,
+                        history,
+                        read_solution(week.roster, self.weeks.scenario).cells,
+                    )
                     path = self.folder / history_name(number + 1)
                     write_history(path, history)
                 if isinstance(outcome.fault, (FileFault, Misuse, ProgramFault)):
@@ -128,12 +169,21 @@ class Period:
                     self._stop_if(signals)
             self._end(signals)
 
-    def _plan_one(self, number: int, week: WrittenWeek, seconds: float, solver: Optional[str]) -> SearchResult:
+    def _plan_one(
+        self, number: int, week: WrittenWeek, seconds: float, solver: Optional[str]
+    ) -> SearchResult:
         """Plans one week, and reports it."""
         progress = Progress(sys.stderr, self._inputs.named)
         try:
             outcome = search(
-                week.files, week.roster, None, seconds=seconds, solver=solver, proof=self._proof, progress=progress, seed=self._seed
+                week.files,
+                week.roster,
+                None,
+                seconds=seconds,
+                solver=solver,
+                proof=self._proof,
+                progress=progress,
+                seed=self._seed,
             )
         except (FileFault, Misuse, ProgramFault) as fault:
             raise Misuse(f"{week_name(number)}: {fault_line(fault)}") from fault
@@ -153,10 +203,21 @@ class Period:
         """After the last week of the period, names the command for the first history of the next one."""
         last = self.numbers[-1]
         if last + 1 == self.weeks.scenario.weeks:
-            history = self.folder / history_name(last) if last != self.numbers[0] else self._files.history
-            files = ("--sce", self._files.scenario, "--his", history, "--roster", self.folder / roster_name(last))
+            history = (
+                self.folder / history_name(last) if last != self.numbers[0] else self._files.history
+            )
+            files = (
+                "--sce",
+                self._files.scenario,
+                "--his",
+                history,
+                "--roster",
+                self.folder / roster_name(last),
+            )
             command = as_typed((*files, "--new-period", "--out", self.folder / "history-new.txt"))
-            _say(f"to make the first history of the next period, type: inrc2pb-roster next {command}")
+            _say(
+                f"to make the first history of the next period, type: inrc2pb-roster next {command}"
+            )
         self._stop_if(signals)
 
     def _stop_if(self, signals: Interrupts) -> None:
@@ -165,8 +226,13 @@ class Period:
 
     def table(self) -> List[str]:
         """The penalty and the costs of each week, and their sums."""
-        weeks = {week_name(number): [report.penalty, *report.by_rule.values()] for number, report in self.reports.items()}
-        sums = [sum(costs[column] for costs in weeks.values()) for column in range(1 + len(SOFT_RULES))]
+        weeks = {
+            week_name(number): [report.penalty, *report.by_rule.values()]
+            for number, report in self.reports.items()
+        }
+        sums = [
+            sum(costs[column] for costs in weeks.values()) for column in range(1 + len(SOFT_RULES))
+        ]
         lines = [_table_line("", ("penalty", *SOFT_RULES))]
         lines += [_table_line(name, map(str, costs)) for name, costs in weeks.items()]
         return [*lines, _table_line("period", map(str, sums))]
@@ -174,7 +240,9 @@ class Period:
     def stop_line(self) -> str:
         """The line that says that the period was stopped, and which weeks have a roster."""
         left = [number for number in self.numbers if number not in self.reports]
-        return f"stopped: {_weeks(list(self.reports))} planned" + (f", {_weeks(left)} not" if left else "")
+        return f"stopped: {_weeks(list(self.reports))} planned" + (
+            f", {_weeks(left)} not" if left else ""
+        )
 
 
 def _read_start(path: Path, number: int, scenario: Scenario) -> Solution:
@@ -182,7 +250,9 @@ def _read_start(path: Path, number: int, scenario: Scenario) -> Solution:
     start = read_solution(path, scenario)
     if (start.week, start.scenario) != (number, scenario.name):
         what = f"{path} is of week {start.week} of {start.scenario}"
-        raise Misuse(f"{what}, not of week {number} of {scenario.name}: give one roster for each week, in order")
+        raise Misuse(
+            f"{what}, not of week {number} of {scenario.name}: give one roster for each week, in order"
+        )
     return start
 
 
@@ -205,4 +275,8 @@ def _table_line(name: str, cells: Iterable[str]) -> str:
 
 def _weeks(numbers: Sequence[int]) -> str:
     """The weeks, of these numbers of histories, and their verb."""
-    return f"week {numbers[0] + 1} is" if len(numbers) == 1 else f"weeks {numbers[0] + 1} to {numbers[-1] + 1} are"
+    return (
+        f"week {numbers[0] + 1} is"
+        if len(numbers) == 1
+        else f"weeks {numbers[0] + 1} to {numbers[-1] + 1} are"
+    )

@@ -73,7 +73,10 @@ def _options() -> argparse.ArgumentParser:
         'Example: inrc2pb-plan "my ward" ill Chen Fri Sun',
     )
     options.add_argument(
-        "folder", metavar="FOLDER", type=Path, help="the folder that has the ward's spreadsheet, or its sheets as .csv files"
+        "folder",
+        metavar="FOLDER",
+        type=Path,
+        help="the folder that has the ward's spreadsheet, or its sheets as .csv files",
     )
     options.add_argument("verb", metavar="VERB", nargs="?", help="what to do")
     options.add_argument("words", metavar="WORD", nargs="*", default=[], help="names and days")
@@ -84,9 +87,17 @@ def _options() -> argparse.ArgumentParser:
         help="the most seconds to search (default: 20 for each week, and 30 for a change)",
     )
     options.add_argument(
-        "--do", action="store_true", help="with swap or set: write it; with others: also a plan that exceeds a maximum with !"
+        "--do",
+        action="store_true",
+        help="with swap or set: write it; with others: also a plan that exceeds a maximum with !",
     )
-    options.add_argument("--port", metavar="N", type=int, default=0, help="with serve: the port (default: a free one)")
+    options.add_argument(
+        "--port",
+        metavar="N",
+        type=int,
+        default=0,
+        help="with serve: the port (default: a free one)",
+    )
     options.add_argument(
         "--host",
         metavar="NAME",
@@ -105,16 +116,27 @@ def _options() -> argparse.ArgumentParser:
         type=Path,
         help="with serve: a file that keeps the secret of the address, so that a bookmark lives; it is made if there is none",
     )
-    options.add_argument("--out", metavar="FOLDER", type=Path, help="with files: where they go (default: the ward's folder)")
+    options.add_argument(
+        "--out",
+        metavar="FOLDER",
+        type=Path,
+        help="with files: where they go (default: the ward's folder)",
+    )
     options.add_argument(
         "--credit",
         metavar="WORDS",
         help=f"with files: absences that count as work in history-0.txt, some of {','.join(AWAY)}, or none (default: {','.join(COUNTED)})",
     )
     options.add_argument(
-        "--requests", action="store_true", help="with files: absences in the weeks' files too, as many equal requests, for other solvers"
+        "--requests",
+        action="store_true",
+        help="with files: absences in the weeks' files too, as many equal requests, for other solvers",
     )
-    options.add_argument("--free", action="store_true", help="with plan: all shifts may change, also of a plan that hangs on the wall")
+    options.add_argument(
+        "--free",
+        action="store_true",
+        help="with plan: all shifts may change, also of a plan that hangs on the wall",
+    )
     return options
 
 
@@ -144,7 +166,11 @@ def _ward_of(sheets: Book, name: str, absences: Sequence[DayWord]) -> Ward:
             for number, week in enumerate(weeks)
             for (nurse, day), word in week.reasons.items()
         },
-        promised=frozenset(NurseDay(nurse, WEEK_DAYS * number + day) for number, week in enumerate(weeks) for nurse, day in week.promised),
+        promised=frozenset(
+            NurseDay(nurse, WEEK_DAYS * number + day)
+            for number, week in enumerate(weeks)
+            for nurse, day in week.promised
+        ),
         counted=files.counted,
         times=shift_times(book),
         holidays=files.holidays,
@@ -159,12 +185,18 @@ def _check(given: argparse.Namespace) -> None:
     if given.verb is None:
         raise Misuse(f"a verb is missing after the folder: {otherwise}")
     if given.verb not in _NAMES and Path(f"{given.folder} {given.verb}").is_dir():
-        raise Misuse(f"write the folder in quotes: inrc2pb-plan '{given.folder} {given.verb}' {' '.join(given.words)}".rstrip())
+        raise Misuse(
+            f"write the folder in quotes: inrc2pb-plan '{given.folder} {given.verb}' {' '.join(given.words)}".rstrip()
+        )
     if given.verb not in _NAMES and str(given.folder) in _NAMES and not given.folder.exists():
-        raise Misuse(f"the folder comes first: type inrc2pb-plan {shlex.quote(given.verb)} {given.folder}")
+        raise Misuse(
+            f"the folder comes first: type inrc2pb-plan {shlex.quote(given.verb)} {given.folder}"
+        )
     check_verb(given.verb, _NAMES)
     if given.do and given.verb in ("new", "check", "page", "undo", "serve", "files"):
-        raise Misuse(f"--do is for verbs that ask before they write: leave it out with {given.verb}")
+        raise Misuse(
+            f"--do is for verbs that ask before they write: leave it out with {given.verb}"
+        )
     if given.free and given.verb != "plan":
         raise Misuse("--free is for plan: leave it out")
     _check_address(given)
@@ -178,14 +210,20 @@ def _check(given: argparse.Namespace) -> None:
 
 def _check_address(given: argparse.Namespace) -> None:
     """The options of an address fit."""
-    if (given.port or given.host != LOCAL or given.origin or given.secret) and given.verb != "serve":
+    if (
+        given.port or given.host != LOCAL or given.origin or given.secret
+    ) and given.verb != "serve":
         raise Misuse("--port, --host, --origin and --secret are for serve: leave them out")
     if not 0 <= given.port < 65536:
         raise Misuse(f"--port {given.port}: give a number from 1024 to 65535")
     if given.origin and not _ORIGIN.fullmatch(given.origin):
-        raise Misuse(f"--origin '{given.origin}': give the beginning of an address, as https://ward.example or http://localhost:9999")
+        raise Misuse(
+            f"--origin '{given.origin}': give the beginning of an address, as https://ward.example or http://localhost:9999"
+        )
     if given.secret and given.secret.resolve().is_relative_to(given.folder.resolve()):
-        raise Misuse(f"--secret {given.secret} is in the ward's folder, which others may read: name a file elsewhere")
+        raise Misuse(
+            f"--secret {given.secret} is in the ward's folder, which others may read: name a file elsewhere"
+        )
     number = _number_of(given.host)
     if not given.origin and (given.host == _ALL_HOSTS or (number and number.is_unspecified)):
         cure = "give the name or number of this machine, or with --origin the address that browsers have"
@@ -211,7 +249,15 @@ def _options_first(words: Sequence[str]) -> List[str]:
     options: List[str] = []
     others: List[str] = []
     for before, word in zip(["", *words], words):
-        is_value = before in ("--time", "--port", "--host", "--origin", "--secret", "--out", "--credit")
+        is_value = before in (
+            "--time",
+            "--port",
+            "--host",
+            "--origin",
+            "--secret",
+            "--out",
+            "--credit",
+        )
         (options if word.startswith("-") or is_value else others).append(word)
     return [*options, *others]
 
@@ -225,12 +271,26 @@ def _serve(folder: WardFolder, given: argparse.Namespace) -> None:
     secret = kept_secret(given.secret) if given.secret else ""
     with interrupts() as signals:
         try:
-            server = LocalServer(Jobs(folder, read_sheet, signals, given.time), given.host, given.port, given.origin, secret)
+            server = LocalServer(
+                Jobs(folder, read_sheet, signals, given.time),
+                given.host,
+                given.port,
+                given.origin,
+                secret,
+            )
         except OSError as fault:
             cure = "give the name of this machine, and a free port"
-            raise Misuse(f"--host {given.host} --port {given.port}: {fault.strerror}: {cure}") from fault
-        print(f"open this address in a browser, and give it to nobody else: {server.address}", flush=True)
-        if not _is_local(given.host) or (given.origin.startswith("http:") and not _is_local(urlsplit(given.origin).hostname or "")):
+            raise Misuse(
+                f"--host {given.host} --port {given.port}: {fault.strerror}: {cure}"
+            ) from fault
+        print(
+            f"open this address in a browser, and give it to nobody else: {server.address}",
+            flush=True,
+        )
+        if not _is_local(given.host) or (
+            given.origin.startswith("http:")
+            and not _is_local(urlsplit(given.origin).hostname or "")
+        ):
             _say(_CLEAR_TEXT)
         _say("Ctrl-C ends it")
         server.run(signals)
@@ -241,7 +301,12 @@ def _files(given: argparse.Namespace) -> List[str]:
     is_file = given.folder.is_file()
     tables = given.folder if is_file else WardFolder(given.folder).spreadsheet()
     credit = ",".join(COUNTED) if given.credit is None else given.credit
-    return ward.files(tables, given.out or (given.folder.parent if is_file else given.folder), credit, given.requests)
+    return ward.files(
+        tables,
+        given.out or (given.folder.parent if is_file else given.folder),
+        credit,
+        given.requests,
+    )
 
 
 def _verbs(folder: WardFolder) -> Verbs:

@@ -7,7 +7,14 @@ from pathlib import Path
 from typing import List, Optional
 
 from .arguments import Parser
-from .command import add_rosters_option, add_weeks_options, check_seconds, number_of_seconds, parser, the_week
+from .command import (
+    add_rosters_option,
+    add_weeks_options,
+    check_seconds,
+    number_of_seconds,
+    parser,
+    the_week,
+)
 from ..programs.clock import Clock
 from ..programs.inputs import Inputs
 from ..programs.interrupts import interrupts
@@ -37,12 +44,26 @@ def options() -> Parser:
     )
     add_weeks_options(referee)
     asks = "the answers of solvers to the week's model"
-    referee.add_argument("--answer", metavar="FILE", type=Path, nargs="+", action="extend", required=True, help=asks)
+    referee.add_argument(
+        "--answer", metavar="FILE", type=Path, nargs="+", action="extend", required=True, help=asks
+    )
     add_rosters_option(referee, "rosters of the week that are known, as solution files")
-    referee.add_argument("--proof", metavar="FILE", type=Path, help="the certificate of a bound, in place of a search")
-    referee.add_argument("--out", metavar="FILE", type=Path, help="the file for the best roster, which shows why a claim is refuted")
+    referee.add_argument(
+        "--proof",
+        metavar="FILE",
+        type=Path,
+        help="the certificate of a bound, in place of a search",
+    )
+    referee.add_argument(
+        "--out",
+        metavar="FILE",
+        type=Path,
+        help="the file for the best roster, which shows why a claim is refuted",
+    )
     limit = f"the most seconds of the search (default: {SECONDS:.0f})"
-    referee.add_argument("--time", metavar="SECONDS", type=number_of_seconds, default=SECONDS, help=limit)
+    referee.add_argument(
+        "--time", metavar="SECONDS", type=number_of_seconds, default=SECONDS, help=limit
+    )
     return referee
 
 
@@ -62,9 +83,13 @@ def main(given: argparse.Namespace) -> int:
     files, inputs = the_week(given), Inputs()
     _check_options(given, files)
     progress = Progress(sys.stderr, inputs.named)
-    with interrupts(), locked([given.out] if given.out else [], False, progress.warn), inputs.naming():
+    with interrupts(), locked(
+        [given.out] if given.out else [], False, progress.warn
+    ), inputs.naming():
         with tempfile.TemporaryDirectory(prefix="inrc2pb-referee-") as folder:
-            verdicts = _judge(given, files.copied(inputs.copy), inputs.copy(given.proof), progress, Path(folder))
+            verdicts = _judge(
+                given, files.copied(inputs.copy), inputs.copy(given.proof), progress, Path(folder)
+            )
     for answer, verdict in zip(given.answer, verdicts):
         print(f"{answer}: {verdict}")
     for line in inputs.changes():
@@ -72,7 +97,13 @@ def main(given: argparse.Namespace) -> int:
     return FAULT if any(verdict.kind in (Kind.REFUTED, Kind.LIE) for verdict in verdicts) else 0
 
 
-def _judge(given: argparse.Namespace, files: WeekFiles, proof: Optional[Path], progress: Progress, folder: Path) -> List[Verdict]:
+def _judge(
+    given: argparse.Namespace,
+    files: WeekFiles,
+    proof: Optional[Path],
+    progress: Progress,
+    folder: Path,
+) -> List[Verdict]:
     """Judges the answers, with files in this folder."""
     week = read_week_given(files)
     held = held_rows(files.fix, week, progress.warn) if files.fix else ()

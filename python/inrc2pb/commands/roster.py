@@ -44,7 +44,9 @@ def _why_options() -> Parser:
     )
     add_weeks_options(options)
     add_given_option(options)
-    add_rosters_option(options, "a roster of each week, in order, as a solution file", required=True)
+    add_rosters_option(
+        options, "a roster of each week, in order, as a solution file", required=True
+    )
     options.add_argument(
         "--old",
         metavar="FILE",
@@ -54,7 +56,9 @@ def _why_options() -> Parser:
         default=[],
         help="an older roster of each week: what the change saves and costs",
     )
-    options.add_argument("--out", metavar="FILE", type=Path, help="write to this file, not to standard output")
+    options.add_argument(
+        "--out", metavar="FILE", type=Path, help="write to this file, not to standard output"
+    )
     return options
 
 
@@ -65,12 +69,17 @@ def _swap_options() -> Parser:
         "swap",
     )
     options.add_argument(
-        "days", metavar='"NURSE DAY"', nargs="+", help="two nurses' days, right after the verb; more pairs are swapped in turn"
+        "days",
+        metavar='"NURSE DAY"',
+        nargs="+",
+        help="two nurses' days, right after the verb; more pairs are swapped in turn",
     )
     add_weeks_options(options)
     add_given_option(options)
     add_rosters_option(options, "the roster of the week, as a solution file", required=True)
-    options.add_argument("--out", metavar="FILE", type=Path, help="write to this file, not to standard output")
+    options.add_argument(
+        "--out", metavar="FILE", type=Path, help="write to this file, not to standard output"
+    )
     return options
 
 
@@ -97,7 +106,9 @@ def _why(given: argparse.Namespace) -> int:
 
 def _swap(given: argparse.Namespace) -> int:
     if len(given.days) % 2:
-        raise Misuse(f'"{given.days[-1]}" has no second day: give pairs, as in "Chen Fri" "Grace Fri"')
+        raise Misuse(
+            f'"{given.days[-1]}" has no second day: give pairs, as in "Chen Fri" "Grace Fri"'
+        )
     view = read_view(_roster_files(given))
     new = swapped(view, list(zip(given.days[::2], given.days[1::2])))
     return _explain(given, new, list(change_lines(view, new)))
@@ -105,8 +116,17 @@ def _swap(given: argparse.Namespace) -> int:
 
 def _explain(given: argparse.Namespace, view: RosterView, lines: Sequence[str]) -> int:
     """Writes the lines. A roster that breaks a hard rule is told by the status."""
-    inputs = [given.sce, given.his, *given.week, *given.roster, given.facts, *fix_files(given.fix, len(given.roster)).values()]
-    write_result(lines_text(lines), given.out, [*inputs, *vars(given).get("old", [])], "the charges")
+    inputs = [
+        given.sce,
+        given.his,
+        *given.week,
+        *given.roster,
+        given.facts,
+        *fix_files(given.fix, len(given.roster)).values(),
+    ]
+    write_result(
+        lines_text(lines), given.out, [*inputs, *vars(given).get("old", [])], "the charges"
+    )
     warn(view)
     return BROKEN_RULE if any(week.breaches for week in view.weeks) else 0
 
@@ -122,10 +142,26 @@ def _next_options() -> Parser:
         "next",
     )
     options.add_argument("--sce", metavar="FILE", type=Path, required=True, help="the scenario")
-    options.add_argument("--his", metavar="FILE", type=Path, required=True, help="the history with which the week began")
-    options.add_argument("--roster", metavar="FILE", type=Path, required=True, help="the week's roster, as a solution file")
-    options.add_argument("--new-period", action="store_true", help="the next week is the first of a new period")
-    options.add_argument("--out", metavar="FILE", type=Path, help="write to this file, not to standard output")
+    options.add_argument(
+        "--his",
+        metavar="FILE",
+        type=Path,
+        required=True,
+        help="the history with which the week began",
+    )
+    options.add_argument(
+        "--roster",
+        metavar="FILE",
+        type=Path,
+        required=True,
+        help="the week's roster, as a solution file",
+    )
+    options.add_argument(
+        "--new-period", action="store_true", help="the next week is the first of a new period"
+    )
+    options.add_argument(
+        "--out", metavar="FILE", type=Path, help="write to this file, not to standard output"
+    )
     return options
 
 
@@ -133,7 +169,9 @@ def _next(given: argparse.Namespace) -> int:
     scenario = read_scenario(given.sce)
     history = read_history(given.his, scenario)
     if history.scenario != scenario.name:
-        raise Misuse(f"{given.his} is of {history.scenario}, the scenario is {scenario.name}: give the files of one ward")
+        raise Misuse(
+            f"{given.his} is of {history.scenario}, the scenario is {scenario.name}: give the files of one ward"
+        )
     roster = read_solution(given.roster, scenario)
     if (roster.week, roster.scenario) != (history.week, history.scenario):
         raise Misuse(
@@ -160,14 +198,28 @@ def _fits_options() -> Parser:
         "fits",
     )
     options.add_argument("--sce", metavar="FILE", type=Path, required=True, help="the scenario")
-    options.add_argument("--his", metavar="FILE", type=Path, required=True, help="the history with which the week begins")
-    options.add_argument("--week", metavar="FILE", type=Path, required=True, help="the requirements and requests of the week")
+    options.add_argument(
+        "--his",
+        metavar="FILE",
+        type=Path,
+        required=True,
+        help="the history with which the week begins",
+    )
+    options.add_argument(
+        "--week",
+        metavar="FILE",
+        type=Path,
+        required=True,
+        help="the requirements and requests of the week",
+    )
     add_given_option(options)
     return options
 
 
 def _fits(given: argparse.Namespace) -> int:
-    for line in fits_lines(read_week_given(WeekFiles(given.sce, given.his, given.week, given=given.facts))):
+    for line in fits_lines(
+        read_week_given(WeekFiles(given.sce, given.his, given.week, given=given.facts))
+    ):
         print(line)
     return 0
 
@@ -182,7 +234,9 @@ def _results_options() -> Parser:
         "Example: inrc2pb-roster results reports/*.txt --joblog jobs.log",
         "results",
     )
-    options.add_argument("reports", metavar="FILE", type=Path, nargs="+", help="the reports, right after the verb")
+    options.add_argument(
+        "reports", metavar="FILE", type=Path, nargs="+", help="the reports, right after the verb"
+    )
     seconds = "a file that `parallel --joblog` has written: the seconds of job N are those of the report whose name ends with N"
     options.add_argument("--joblog", metavar="FILE", type=Path, help=seconds)
     return options
@@ -200,10 +254,14 @@ VERBS = {
     "show": Verb("rosters as a table, a page, a spreadsheet or calendars", show.options, show.main),
     "why": Verb("each charge of a roster, or what a change saves and costs", _why_options, _why),
     "swap": Verb("what it saves and costs if two nurses swap days", _swap_options, _swap),
-    "check": Verb("the mistakes of files and rosters, and how to correct them", check.options, check.main),
+    "check": Verb(
+        "the mistakes of files and rosters, and how to correct them", check.options, check.main
+    ),
     "next": Verb("the history with which the next week begins", _next_options, _next),
     "fits": Verb("the nurses who could fill each place of a week", _fits_options, _fits),
-    "referee": Verb("whether what solvers claim about a week is true", referee.options, referee.main),
+    "referee": Verb(
+        "whether what solvers claim about a week is true", referee.options, referee.main
+    ),
     "results": Verb("a table of the reports of many runs", _results_options, _results),
     "names": Verb("the variables and constraints of a model, in words", names.options, names.main),
 }
@@ -235,9 +293,15 @@ def main(words: Optional[List[str]] = None) -> int:
 def fits_lines(week: Week) -> Iterator[str]:
     """A line for each place that asks for nurses, such as `Mon Early Nurse (1,2): Ann Cem`, by day, shift type and skill."""
     scenario, away = week.scenario, absences_of(week.data)
-    for place in itertools.starmap(Place, itertools.product(range(len(DAYS)), scenario.shift_types, scenario.skills)):
+    for place in itertools.starmap(
+        Place, itertools.product(range(len(DAYS)), scenario.shift_types, scenario.skills)
+    ):
         needed = week.data.requirements.get(place)
         if needed and (needed.minimum or needed.optimal):
-            fit = [nurse for nurse in scenario.nurses if can_work(scenario, week.history, away, nurse, place)]
+            fit = [
+                nurse
+                for nurse in scenario.nurses
+                if can_work(scenario, week.history, away, nurse, place)
+            ]
             named = f"{DAYS[place.day]} {place.shift} {place.skill}"
             yield f"{named} ({needed.minimum},{needed.optimal}): {' '.join(fit) or 'nobody'}"

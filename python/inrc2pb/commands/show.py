@@ -32,41 +32,95 @@ def options() -> Parser:
         "show",
     )
     add_rosters_option(shown, "a roster of each week, in order, as a solution file", required=True)
-    shown.add_argument("--sce", metavar="FILE", type=Path, help="the scenario: nurses and colors have its order")
+    shown.add_argument(
+        "--sce", metavar="FILE", type=Path, help="the scenario: nurses and colors have its order"
+    )
     histories = "the history with which the first week begins, or each week; needs --sce and --week"
-    shown.add_argument("--his", metavar="FILE", type=Path, nargs="+", action="extend", default=[], help=histories)
+    shown.add_argument(
+        "--his", metavar="FILE", type=Path, nargs="+", action="extend", default=[], help=histories
+    )
     weeks = (
         f"the requirements and requests of each week, in order: a cell that should be free has a {REFUSED}, "
         f"of a nurse who is away a {AWAY}"
     )
-    shown.add_argument("--week", metavar="FILE", type=Path, nargs="+", action="extend", default=[], help=weeks)
+    shown.add_argument(
+        "--week", metavar="FILE", type=Path, nargs="+", action="extend", default=[], help=weeks
+    )
     held = f"assignments that are held: their cells have a {HELD}; of week N of several as N=FILE, where N is 1 for the first roster"
     shown.add_argument("--fix", metavar="[N=]FILE", action="append", default=[], help=held)
     add_given_option(shown)
-    shown.add_argument("--reasons", metavar="FILE", type=Path, help="why nurses are away, as `inrc2pb-plan FOLDER files` writes it")
-    shown.add_argument("--early", action="store_true", help="count costs as inrc2pb does with --early")
+    shown.add_argument(
+        "--reasons",
+        metavar="FILE",
+        type=Path,
+        help="why nurses are away, as `inrc2pb-plan FOLDER files` writes it",
+    )
+    shown.add_argument(
+        "--early", action="store_true", help="count costs as inrc2pb does with --early"
+    )
     old = "an older roster of each week: what has changed"
-    shown.add_argument("--old", metavar="FILE", type=Path, nargs="+", action="extend", default=[], help=old)
-    shown.add_argument("--monday", metavar="DATE", help="the date of the first Monday, such as 2026-11-30; for --html and --ics")
+    shown.add_argument(
+        "--old", metavar="FILE", type=Path, nargs="+", action="extend", default=[], help=old
+    )
+    shown.add_argument(
+        "--monday",
+        metavar="DATE",
+        help="the date of the first Monday, such as 2026-11-30; for --html and --ics",
+    )
     times = "when shifts of a type begin and end, such as Early=06:00-14:15; for --html and --ics; may be repeated"
     shown.add_argument("--times", metavar="SHIFT=TIMES", action="append", default=[], help=times)
-    shown.add_argument("--ics", metavar="FOLDER", type=Path, help="also write a calendar for each nurse; needs --monday")
-    shown.add_argument("--only-table", action="store_true", help="with --html: no costs, totals and wishes, for a page on the wall")
-    shown.add_argument("--out", metavar="FILE", type=Path, help="write to this file, not to standard output")
+    shown.add_argument(
+        "--ics",
+        metavar="FOLDER",
+        type=Path,
+        help="also write a calendar for each nurse; needs --monday",
+    )
+    shown.add_argument(
+        "--only-table",
+        action="store_true",
+        help="with --html: no costs, totals and wishes, for a page on the wall",
+    )
+    shown.add_argument(
+        "--out", metavar="FILE", type=Path, help="write to this file, not to standard output"
+    )
     form = shown.add_mutually_exclusive_group()
-    form.add_argument("--html", action="store_true", help="write a page to print, with totals, coverage, wishes and charges (HTML)")
-    form.add_argument("--csv", action="store_true", help="write rows for a spreadsheet (CSV), without the lines below the table")
+    form.add_argument(
+        "--html",
+        action="store_true",
+        help="write a page to print, with totals, coverage, wishes and charges (HTML)",
+    )
+    form.add_argument(
+        "--csv",
+        action="store_true",
+        help="write rows for a spreadsheet (CSV), without the lines below the table",
+    )
     return shown
 
 
 def main(given: argparse.Namespace) -> int:
     """Shows the rosters; the exit status."""
     fixes = fix_files(given.fix, len(given.roster))
-    inputs = [*given.roster, given.sce, *given.his, *given.week, given.facts, given.reasons, *given.old, *fixes.values()]
+    inputs = [
+        *given.roster,
+        given.sce,
+        *given.his,
+        *given.week,
+        given.facts,
+        given.reasons,
+        *given.old,
+        *fixes.values(),
+    ]
     _check_options(given, inputs)
     monday = read_monday(given.monday, len(given.roster)) if given.monday else None
     files = RosterFiles(
-        given.roster, given.sce, given.his, weeks=given.week, fixes=fixes, early=given.early, given=given.facts, reasons=given.reasons
+        given.roster,
+        given.sce,
+        given.his,
+        weeks=given.week,
+        fixes=fixes,
+        early=given.early,
+        given=given.facts,
+        reasons=given.reasons,
     )
     view = read_view(files)
     old = read_old(files, given.old) if given.old else None
@@ -89,7 +143,9 @@ def warn(view: RosterView) -> None:
         print(f"{os.path.basename(sys.argv[0])}: {warning}", file=sys.stderr)
 
 
-def write_result(text: str, target: Optional[Path], inputs: Sequence[Optional[Path]], what: str) -> None:
+def write_result(
+    text: str, target: Optional[Path], inputs: Sequence[Optional[Path]], what: str
+) -> None:
     """Writes the text to the file, or to standard output. Raises Misuse if the file is one of these, which are read."""
     if target is None:
         print(text, end="")
@@ -144,4 +200,9 @@ def _csv_text(view: RosterView) -> str:
 def _has_colors(given: argparse.Namespace) -> bool:
     """Whether the verb writes the table to a terminal that has colors."""
     is_table = not (given.out or given.html or given.csv)
-    return is_table and sys.stdout.isatty() and not os.environ.get("NO_COLOR") and os.environ.get("TERM") != "dumb"
+    return (
+        is_table
+        and sys.stdout.isatty()
+        and not os.environ.get("NO_COLOR")
+        and os.environ.get("TERM") != "dumb"
+    )

@@ -54,9 +54,14 @@ def _options() -> Parser:
         help="the roster to write, or the folder for rosters and histories; the search begins with rosters of these weeks that are "
         "there, so it never gets worse ones",
     )
-    add_rosters_option(options, "a roster of each week, in order, to begin with (default: those of --out, if they are of these weeks)")
+    add_rosters_option(
+        options,
+        "a roster of each week, in order, to begin with (default: those of --out, if they are of these weeks)",
+    )
     options.add_argument(
-        "--ahead", action="store_true", help="plan for the later weeks too: they are not known, and count with the numbers of these weeks"
+        "--ahead",
+        action="store_true",
+        help="plan for the later weeks too: they are not known, and count with the numbers of these weeks",
     )
     options.add_argument(
         "--time",
@@ -64,7 +69,12 @@ def _options() -> Parser:
         type=number_of_seconds,
         help=f"the most seconds to search for each week (default: {SECONDS:.0f} for one week, {WEEK_SECONDS:.0f} for each of several)",
     )
-    options.add_argument("--proof", metavar="FILE", type=Path, help="the file for the certificate of the lower bound, for inrc2pb-bound")
+    options.add_argument(
+        "--proof",
+        metavar="FILE",
+        type=Path,
+        help="the file for the certificate of the lower bound, for inrc2pb-bound",
+    )
     options.add_argument(
         "--seed",
         metavar="N",
@@ -72,10 +82,18 @@ def _options() -> Parser:
         default=1,
         help="the beginning of the search's random choices: with one processor the same search (default: 1)",
     )
-    options.add_argument("--wait", action="store_true", help="if another search writes the same file, wait until it has ended")
+    options.add_argument(
+        "--wait",
+        action="store_true",
+        help="if another search writes the same file, wait until it has ended",
+    )
     add_solver_option(options)
     others = options.add_argument_group("other command lines, each with its own --help")
-    others.add_argument("--inrc2", action="store_true", help="plan one week, with the command line of the competition INRC-II")
+    others.add_argument(
+        "--inrc2",
+        action="store_true",
+        help="plan one week, with the command line of the competition INRC-II",
+    )
     others.add_argument("--model", metavar="FILE", nargs="?", type=Path, help=MODEL)
     others.add_argument("--answer", metavar="FILE", type=Path, help=ANSWER)
     return options
@@ -111,12 +129,24 @@ def _several_weeks(given: argparse.Namespace) -> int:
     if given.solver:
         find_solver(given.solver)
         if given.ahead:
-            raise Misuse("--ahead is a plan of all weeks, and --solver plans one: leave one of them out")
+            raise Misuse(
+                "--ahead is a plan of all weeks, and --solver plans one: leave one of them out"
+            )
     if given.proof and (given.solver or given.ahead):
-        raise Misuse(f"with {'--solver' if given.solver else '--ahead'} there is no certificate: leave out --proof")
+        raise Misuse(
+            f"with {'--solver' if given.solver else '--ahead'} there is no certificate: leave out --proof"
+        )
     seconds = WEEK_SECONDS if given.time is None else given.time
     fixes = fix_files(given.fix, len(given.week))
-    files = PeriodFiles(given.sce, given.his, given.week, fixes=fixes, early=given.early, ahead=given.ahead, given=given.facts)
+    files = PeriodFiles(
+        given.sce,
+        given.his,
+        given.week,
+        fixes=fixes,
+        early=given.early,
+        ahead=given.ahead,
+        given=given.facts,
+    )
     period = Period(files, given.out, given.proof, given.seed, given.roster)
     with interrupts() as signals, period.locked(given.wait):
         period.name_replaced()
@@ -177,7 +207,9 @@ def model_options() -> Parser:
     """The parser of `--model`."""
     options = parser("Converts the OPB model of a week to an LP file, for a MIP solver.", EXAMPLE)
     options.add_argument("--model", metavar="FILE", nargs="?", type=Path, help=MODEL)
-    options.add_argument("--out", metavar="FILE", type=Path, help="the LP file to write (default: standard output)")
+    options.add_argument(
+        "--out", metavar="FILE", type=Path, help="the LP file to write (default: standard output)"
+    )
     return options
 
 
@@ -198,7 +230,9 @@ def write_model(given: argparse.Namespace) -> int:
 
 def answer_options() -> Parser:
     """The parser of `--answer`."""
-    options = parser("Converts the result file of a MIP solver to an answer, for `inrc2pb decode`.", EXAMPLE)
+    options = parser(
+        "Converts the result file of a MIP solver to an answer, for `inrc2pb decode`.", EXAMPLE
+    )
     options.add_argument("--answer", metavar="FILE", type=Path, required=True, help=ANSWER)
     says = "how the solver ended, if its file does not say (Gurobi; default: stopped); with infeasible the file may be missing"
     options.add_argument("--status", choices=sorted(STATUSES), help=says)
@@ -210,6 +244,8 @@ def write_answer(given: argparse.Namespace) -> int:
     # Gurobi writes no file if there is no solution.
     missing = given.status == "infeasible" and not given.answer.exists()
     check_size(given.answer)
-    with open(os.devnull if missing else given.answer, encoding="utf-8", errors="replace") as solution:
+    with open(
+        os.devnull if missing else given.answer, encoding="utf-8", errors="replace"
+    ) as solution:
         read_answer(solution, given.status).write(sys.stdout)
     return 0

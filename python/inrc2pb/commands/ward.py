@@ -11,7 +11,14 @@ from ..judging.absences import NO_SKILL, TooMany, with_requests
 from ..judging.demand import demand_warnings, supply_warnings
 from ..judging.leave import Counted, counted, credit_line, credited
 from ..judging.limits import with_given
-from ..judging.odd_values import Reach, Warned, history_warnings, reach_of, scenario_warnings, week_warnings
+from ..judging.odd_values import (
+    Reach,
+    Warned,
+    history_warnings,
+    reach_of,
+    scenario_warnings,
+    week_warnings,
+)
 from ..plans.ward_folder import has_spreadsheet
 from ..sheets.plan_days import Days, plan_warnings, read_days, week_of_row_warnings
 from ..sheets.plan_sheets import AWAY, WeekSheet, check_held, held_warnings, read_needs, read_weeks
@@ -45,7 +52,9 @@ def _reasons(text: str) -> List[str]:
     reasons = text.split(",") if text not in ("", "none") else []
     for word in reasons:
         if word not in AWAY:
-            raise Misuse(f"--credit {text}: '{word}' is no reason to be away: give some of {','.join(AWAY)}, or none")
+            raise Misuse(
+                f"--credit {text}: '{word}' is no reason to be away: give some of {','.join(AWAY)}, or none"
+            )
     return reasons
 
 
@@ -85,45 +94,82 @@ def days_of(book: Book) -> Days:
 
 
 def ward_files(
-    book: Book, name: str, days: Days, reasons: Sequence[str], requests: bool = False, lost: Mapping[NurseDay, int] = {}
+    book: Book,
+    name: str,
+    days: Days,
+    reasons: Sequence[str],
+    requests: bool = False,
+    lost: Mapping[NurseDay, int] = {},
 ) -> WardFiles:
     """The files of a ward with this name, for these days. Absences for these reasons count as work, illnesses as the shifts that they have
-    taken from plans on the wall, as far as `lost` has them. Raises FileFaults if sheets have mistakes, or more than files can have."""
+    taken from plans on the wall, as far as `lost` has them. Raises FileFaults if sheets have mistakes, or more than files can have.
+    """
     with Gathering() as faults:
         ward = read_ward(book, name, days.weeks, faults)
         sheets = read_weeks(book, ward, days, faults)
     check_held(ward, sheets)
-    away = {NurseDay(nurse, 7 * number + day): word for number, sheet in enumerate(sheets) for (nurse, day), word in sheet.reasons.items()}
+    away = {
+        NurseDay(nurse, 7 * number + day): word
+        for number, sheet in enumerate(sheets)
+        for (nurse, day), word in sheet.reasons.items()
+    }
     as_shifts = counted(ward.scenario, away, reasons, lost)
     history = credited(ward.history, as_shifts)
     ward = with_part_contracts(ward, sheets)
     claims = claims_of(ward, history, sheets)
     if len(claims) > MAX_NUMBER:
         most = f"and a file {MAX_NUMBER} facts at most: {NO_SKILL}"
-        raise FileFault(book.path, 0, f"sheets nurses and plan: they have {len(claims)} days away, {most}")
-    texts = {"ward.txt": scenario_text(ward.scenario), "history-0.txt": history_text(history), "facts.txt": facts_text(name, claims)}
+        raise FileFault(
+            book.path, 0, f"sheets nurses and plan: they have {len(claims)} days away, {most}"
+        )
+    texts = {
+        "ward.txt": scenario_text(ward.scenario),
+        "history-0.txt": history_text(history),
+        "facts.txt": facts_text(name, claims),
+    }
     texts["reasons.txt"] = reasons_text(name, absence_reasons(sheets))
-    warnings = [f"sheet shifts, contracts or nurses: {line}" for line in scenario_warnings(ward.scenario)]
+    warnings = [
+        f"sheet shifts, contracts or nurses: {line}" for line in scenario_warnings(ward.scenario)
+    ]
     warnings += [f"sheet nurses: {line}" for line in history_warnings(ward.history)]
     asked = {place.skill for sheet in sheets for place in sheet.requirements}
     warnings += [f"sheet nurses: {line}" for line in skill_warnings(ward, asked)]
     warnings += [*book_warnings(book), *look_warnings(book, days), *ward_warnings(ward)]
     warnings += [f"sheet plan: {line}" for line in plan_warnings(days, ward.scenario)]
     warnings += [f"sheet plan: {line}" for line in held_warnings(ward, sheets, days)]
-    warnings += [f"sheet needs, {line}" for line in week_of_row_warnings(table_of(book, "needs"), days)]
+    warnings += [
+        f"sheet needs, {line}" for line in week_of_row_warnings(table_of(book, "needs"), days)
+    ]
     datas = [_week(ward.scenario, sheet, claims, number) for number, sheet in enumerate(sheets)]
     odd: Dict[Warned, List[int]] = {}
     for number, (sheet, data) in enumerate(zip(sheets, datas)):
         week = days.plan_days.week_text(number)
-        texts[f"week-{number}.txt"] = week_text(_with_requests(book, ward.scenario, data, week) if requests else data)
-        texts[f"fix-{number}.txt"] = solution_text(Solution(number, name, tuple(held.row for held in sheet.held)))
-        past, paid = None if number else history, [as_shifts.of_week(later) for later in range(number, len(sheets))]
-        for line in (*week_warnings(ward.scenario, data), *demand_warnings(ward.scenario, past, data, paid)):
+        texts[f"week-{number}.txt"] = week_text(
+            _with_requests(book, ward.scenario, data, week) if requests else data
+        )
+        texts[f"fix-{number}.txt"] = solution_text(
+            Solution(number, name, tuple(held.row for held in sheet.held))
+        )
+        past, paid = None if number else history, [
+            as_shifts.of_week(later) for later in range(number, len(sheets))
+        ]
+        for line in (
+            *week_warnings(ward.scenario, data),
+            *demand_warnings(ward.scenario, past, data, paid),
+        ):
             odd.setdefault(line, []).append(number)
-    warnings += [f"sheet needs, {days.plan_days.weeks_text(numbers)}: {line}" for line, numbers in odd.items()]
+    warnings += [
+        f"sheet needs, {days.plan_days.weeks_text(numbers)}: {line}"
+        for line, numbers in odd.items()
+    ]
     supply = list(supply_warnings(ward.scenario, history, datas))
     warnings += [f"sheet needs: {line}" for line in supply]
-    holidays = frozenset(7 * number + day for number, sheet in enumerate(sheets) if len(sheet.holidays) < 7 for day in sheet.holidays)
+    holidays = frozenset(
+        7 * number + day
+        for number, sheet in enumerate(sheets)
+        if len(sheet.holidays) < 7
+        for day in sheet.holidays
+    )
     return WardFiles(
         texts,
         warnings,
@@ -136,7 +182,9 @@ def ward_files(
 
 def _week(scenario: Scenario, sheet: WeekSheet, claims: Sequence[Claim], number: int) -> WeekData:
     """The data of a week, with its absences and limits."""
-    return with_given(scenario, WeekData(scenario.name, sheet.requirements, tuple(sheet.wishes)), claims, number)
+    return with_given(
+        scenario, WeekData(scenario.name, sheet.requirements, tuple(sheet.wishes)), claims, number
+    )
 
 
 def _with_requests(book: Book, scenario: Scenario, data: WeekData, week: str) -> WeekData:
@@ -174,7 +222,10 @@ def _write(folder: Path, texts: Dict[str, str]) -> None:
         if not path.is_symlink():
             check_target(path)
     with contextlib.ExitStack() as stack:
-        targets: List[Tuple[TextIO, str]] = [(stack.enter_context(replacing_link(folder / name)), text) for name, text in texts.items()]
+        targets: List[Tuple[TextIO, str]] = [
+            (stack.enter_context(replacing_link(folder / name)), text)
+            for name, text in texts.items()
+        ]
         for target, text in targets:
             target.write(text)
             target.flush()
@@ -191,7 +242,9 @@ def new(folder: Path, today: datetime.date) -> List[str]:
     if has_spreadsheet(folder):
         raise Misuse(f"{folder} has a spreadsheet: give a new folder")
     write_template(target, next_monday(today))
-    return [f"written: {target}; change its rows into those of your ward, then type: {as_typed(('inrc2pb-plan', folder, 'check'))}"]
+    return [
+        f"written: {target}; change its rows into those of your ward, then type: {as_typed(('inrc2pb-plan', folder, 'check'))}"
+    ]
 
 
 def files(tables: Path, out: Path, credit: str, requests: bool) -> List[str]:
@@ -203,12 +256,19 @@ def files(tables: Path, out: Path, credit: str, requests: bool) -> List[str]:
     reasons = _reasons(credit)
     book = read_book(tables)
     ward = ward_files(book, ward_name(tables), days_of(book), reasons, requests)
-    old = list(_old_histories(out, ward.texts["history-0.txt"], sum(name.startswith("week-") for name in ward.texts)))
+    old = list(
+        _old_histories(
+            out, ward.texts["history-0.txt"], sum(name.startswith("week-") for name in ward.texts)
+        )
+    )
     _write(out, ward.texts)
     days = Counter(nurse for nurse, _ in ward.counted.days)
     return [
         *(f"{tables}: warning: {readable(line)}" for line in ward.warnings),
         f"{out}: {', '.join(ward.texts)}",
-        *(credit_line(nurse, days[nurse], shifts, "history-0.txt") for nurse, shifts in ward.counted.shifts.items()),
+        *(
+            credit_line(nurse, days[nurse], shifts, "history-0.txt")
+            for nurse, shifts in ward.counted.shifts.items()
+        ),
         *(f"{out}: warning: {readable(line)}" for line in old),
     ]

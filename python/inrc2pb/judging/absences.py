@@ -35,7 +35,10 @@ def _asked(request: Request) -> Absence:
 
 def is_broken_by(absences: Collection[Absence], cell: Cell) -> bool:
     """Whether the nurse of this row is away."""
-    return Absence(cell.nurse, cell.day, None) in absences or Absence(cell.nurse, cell.day, cell.shift) in absences
+    return (
+        Absence(cell.nurse, cell.day, None) in absences
+        or Absence(cell.nurse, cell.day, cell.shift) in absences
+    )
 
 
 def working_while_away(absences: Collection[Absence], cells: Iterable[Cell]) -> List[Cell]:
@@ -49,7 +52,8 @@ def in_words(cells: Iterable[Cell], names: Sequence[str] = DAYS) -> str:
     for cell in cells:
         days.setdefault((cell.nurse, cell.shift), []).append(cell.day)
     return ", ".join(
-        f"{readable(nurse)} works {readable(shift)} on {joined(names[day] for day in sorted(on))}" for (nurse, shift), on in days.items()
+        f"{readable(nurse)} works {readable(shift)} on {joined(names[day] for day in sorted(on))}"
+        for (nurse, shift), on in days.items()
     )
 
 
@@ -57,10 +61,19 @@ def way_out(scenario: Scenario, held: Iterable[Cell], broken: Collection[Cell]) 
     """What to do if these rows break absences: the held shifts of nurses who could work them instead, or how to find the cause."""
     wanted = {(row.day, row.shift, row.skill) for row in broken}
     others = [row for row in held if (row.day, row.shift, row.skill) not in wanted]
-    able = [row for row in others if any(row.day == day and skill in scenario.nurses[row.nurse].skills for day, _, skill in wanted)]
+    able = [
+        row
+        for row in others
+        if any(
+            row.day == day and skill in scenario.nurses[row.nurse].skills
+            for day, _, skill in wanted
+        )
+    ]
     if not able:
         return "type inrc2pb-roster check with the same files and --why-none: it says which minimum numbers to lower"
-    some = ", ".join(f"{readable(row.nurse)} {DAYS[row.day]} {readable(row.shift)}" for row in able[:6])
+    some = ", ".join(
+        f"{readable(row.nurse)} {DAYS[row.day]} {readable(row.shift)}" for row in able[:6]
+    )
     more = ", and more" if len(able) > 6 else ""
     return f"hold fewer shifts with --fix; these nurses have the skill: {some}{more}"
 
@@ -87,7 +100,12 @@ def with_requests(scenario: Scenario, data: WeekData, added: Iterable[Absence]) 
     """The week with these absences as requests too: all of them have the same number of requests. Raises TooMany if a week's file
     cannot have so many."""
     away = sorted(
-        {*absences_of(data), *added}, key=lambda absence: (list(scenario.nurses).index(absence.nurse), absence.day, absence.shift or "")
+        {*absences_of(data), *added},
+        key=lambda absence: (
+            list(scenario.nurses).index(absence.nurse),
+            absence.day,
+            absence.shift or "",
+        ),
     )
     wishes = [request for request in wishes_of(data) if _asked(request) not in away]
     times = min(MOST_REQUESTS, min(ROWS, MAX_NUMBER - len(wishes)) // max(1, len(away)))
@@ -96,5 +114,7 @@ def with_requests(scenario: Scenario, data: WeekData, added: Iterable[Absence]) 
             f"{plural(len(away), 'absence')} with {MARK} requests each and {plural(len(wishes), 'other request')} need more than the "
             f"{MAX_NUMBER} requests of a week's file"
         )
-    rows = [Request(absence.nurse, absence.shift, absence.day) for absence in away for _ in range(times)]
+    rows = [
+        Request(absence.nurse, absence.shift, absence.day) for absence in away for _ in range(times)
+    ]
     return Written(replace(data, requests=(*wishes, *rows)), times)

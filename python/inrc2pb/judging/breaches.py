@@ -45,10 +45,16 @@ def breaches_by(cell: Cell, shifts: Shifts, scenario: Scenario) -> Iterator[Brea
     for earlier in shifts.get((nurse, day - 1), ()):
         if scenario.forbids(earlier, cell.shift):
             before = DAYS[day - 1] if day else "the Sunday before"
-            yield Breach("H3", f"{nurse} may not work {cell.shift} on {DAYS[day]} after {earlier} on {before}")
+            yield Breach(
+                "H3",
+                f"{nurse} may not work {cell.shift} on {DAYS[day]} after {earlier} on {before}",
+            )
     for later in shifts.get((nurse, day + 1), ()):
         if scenario.forbids(cell.shift, later):
-            yield Breach("H3", f"{nurse} may not work {later} on {DAYS[day + 1]} after {cell.shift} on {DAYS[day]}")
+            yield Breach(
+                "H3",
+                f"{nurse} may not work {later} on {DAYS[day + 1]} after {cell.shift} on {DAYS[day]}",
+            )
     if cell.skill not in scenario.nurses[nurse].skills:
         yield Breach("H4", f"{nurse} does not have the skill {cell.skill}")
 
@@ -59,18 +65,29 @@ def minimum_breaches(week: Week, cells: Iterable[Cell]) -> Iterator[Breach]:
     for place, required in week.data.requirements.items():
         if number[place] < required.minimum:
             named = f"{DAYS[place.day]} {place.shift} {place.skill}"
-            yield Breach("H2", f"{named} has {plural(number[place], 'nurse')} and needs at least {required.minimum}")
+            yield Breach(
+                "H2",
+                f"{named} has {plural(number[place], 'nurse')} and needs at least {required.minimum}",
+            )
 
 
 def held_breaches(cells: Iterable[Cell], held: Iterable[Cell]) -> Iterator[Breach]:
     """The held rows that are missing."""
     known = set(cells)
-    yield from (Breach("H5", f"the held row '{cell.row()}' is missing") for cell in held if cell not in known)
+    yield from (
+        Breach("H5", f"the held row '{cell.row()}' is missing")
+        for cell in held
+        if cell not in known
+    )
 
 
 def breaches(week: Week, cells: Sequence[Cell], held: Iterable[Cell] = ()) -> List[Breach]:
     """Everything by which the roster breaks hard rules, in the order of the rules."""
-    shifts: Shifts = {(past.nurse, -1): [past.last_shift] for past in week.history.nurses.values() if past.last_shift is not None}
+    shifts: Shifts = {
+        (past.nurse, -1): [past.last_shift]
+        for past in week.history.nurses.values()
+        if past.last_shift is not None
+    }
     broken = [*minimum_breaches(week, cells), *held_breaches(cells, held)]
     for cell in cells:
         broken += breaches_by(cell, shifts, week.scenario)
@@ -91,7 +108,9 @@ def _lines(text: str) -> List[int]:
     return [token.line for token in tokens_of(text)]
 
 
-def other_week(path: Path, scenario: Scenario, history: Optional[History], text: Optional[str] = None) -> str:
+def other_week(
+    path: Path, scenario: Scenario, history: Optional[History], text: Optional[str] = None
+) -> str:
     """The line in which the file names another ward or week than these, and the probable mistake; else nothing."""
     try:
         text = text_of(path) if text is None else text
@@ -117,26 +136,38 @@ def read_roster(path: Path, scenario: Scenario, history: Optional[History]) -> S
     try:
         return read_solution(path, scenario)
     except FileFault as fault:
-        raise FileFault(fault.path, fault.line, fault.message + _hint(path, scenario, history), fault.fault) from fault
+        raise FileFault(
+            fault.path, fault.line, fault.message + _hint(path, scenario, history), fault.fault
+        ) from fault
 
 
-def misfits(path: Path, solution: Solution, scenario: Scenario, history: Optional[History]) -> Iterator[Misfit]:
+def misfits(
+    path: Path, solution: Solution, scenario: Scenario, history: Optional[History]
+) -> Iterator[Misfit]:
     """The rows that break H1, H3 or H4, alone or with rows above them, in the order of the file."""
     pasts = history.nurses.values() if history else ()
-    shifts: Shifts = {(past.nurse, -1): [past.last_shift] for past in pasts if past.last_shift is not None}
+    shifts: Shifts = {
+        (past.nurse, -1): [past.last_shift] for past in pasts if past.last_shift is not None
+    }
     for line, row in zip(_lines(text_of(path))[_ROWS::_ROW], solution.cells):
         for breach in breaches_by(row, shifts, scenario):
             yield Misfit(breach.rule, line, breach.reason)
         shifts.setdefault((row.nurse, row.day), []).append(row.shift)
 
 
-def read_held(path: Path, scenario: Scenario, history: Optional[History], warn: Callable[[str], None]) -> Solution:
+def read_held(
+    path: Path, scenario: Scenario, history: Optional[History], warn: Callable[[str], None]
+) -> Solution:
     """Reads a fix file. `warn` gets the hint if the file is of another ward or week. Raises FileFault if no roster can have one of its
     rows."""
     solution = read_roster(path, scenario, history)
     misfit = next(misfits(path, solution, scenario, history), None)
     if misfit:
-        raise FileFault(path, misfit.line, f"{misfit.reason}: no roster can have this row{_hint(path, scenario, history)}")
+        raise FileFault(
+            path,
+            misfit.line,
+            f"{misfit.reason}: no roster can have this row{_hint(path, scenario, history)}",
+        )
     hint = other_week(path, scenario, history)
     if hint:
         warn(hint)
@@ -154,9 +185,19 @@ def explained(fault: ProgramFault, path: Path, week: Week, held: Iterable[Cell])
     return ProgramFault(fault.status, str(FileFault(path, misfit.line if misfit else 0, reason)))
 
 
-def _misfits_of(rule: str, path: Path, solution: Solution, week: Week, held: Iterable[Cell]) -> Iterator[Misfit]:
-    yield from (misfit for misfit in misfits(path, solution, week.scenario, week.history) if misfit.rule == rule)
+def _misfits_of(
+    rule: str, path: Path, solution: Solution, week: Week, held: Iterable[Cell]
+) -> Iterator[Misfit]:
+    yield from (
+        misfit
+        for misfit in misfits(path, solution, week.scenario, week.history)
+        if misfit.rule == rule
+    )
     if rule == "H2":
-        yield from (Misfit(rule, 0, breach.reason) for breach in minimum_breaches(week, solution.cells))
+        yield from (
+            Misfit(rule, 0, breach.reason) for breach in minimum_breaches(week, solution.cells)
+        )
     if rule == "H5":
-        yield from (Misfit(rule, 0, breach.reason) for breach in held_breaches(solution.cells, held))
+        yield from (
+            Misfit(rule, 0, breach.reason) for breach in held_breaches(solution.cells, held)
+        )

@@ -7,7 +7,8 @@ from ..week.records import History, NurseDay, Scenario
 
 class DaysAway(NamedTuple):
     """The days of `training` count as work in a row, and on the day before each of `free` nobody should have a shift type of `nights`,
-    which end on the next day. Days count from the first Monday of the plan; those before `fixed` do not change."""
+    which end on the next day. Days count from the first Monday of the plan; those before `fixed` do not change.
+    """
 
     training: FrozenSet[NurseDay] = frozenset()
     free: FrozenSet[NurseDay] = frozenset()
@@ -16,7 +17,10 @@ class DaysAway(NamedTuple):
 
     def of(self, nurse: str) -> "DaysAway":
         """Those of one nurse."""
-        training, free = (frozenset(place for place in days if place[0] == nurse) for days in (self.training, self.free))
+        training, free = (
+            frozenset(place for place in days if place[0] == nurse)
+            for days in (self.training, self.free)
+        )
         return self._replace(training=training, free=free)
 
 
@@ -29,10 +33,15 @@ class LongRow(NamedTuple):
     most: int
 
 
-def long_rows(scenario: Scenario, history: History, away: DaysAway, works: Collection[NurseDay]) -> Iterator[LongRow]:
+def long_rows(
+    scenario: Scenario, history: History, away: DaysAway, works: Collection[NurseDay]
+) -> Iterator[LongRow]:
     """The rows of days with training that are too long, if nurses work on these days."""
     for nurse in dict.fromkeys(nurse for nurse, _ in sorted(away.training)):
-        most, past = scenario.contract_of(nurse).working_days.maximum, history.nurses[nurse].working_days
+        most, past = (
+            scenario.contract_of(nurse).working_days.maximum,
+            history.nurses[nurse].working_days,
+        )
         for days in _in_a_row({day for who, day in (*works, *away.training) if who == nurse}):
             number = len(days) + (past if days[0] == 0 else 0)
             if number > most and any((nurse, day) in away.training for day in days):
@@ -53,11 +62,21 @@ def _in_a_row(days: Collection[int]) -> Iterator[List[int]]:
 
 def nights_before(away: DaysAway, works: Mapping[NurseDay, str]) -> List[NurseDay]:
     """The days of `free` to which nurses come from a night shift, if they have these shift types."""
-    return [NurseDay(nurse, day) for nurse, day in sorted(away.free) if works.get(NurseDay(nurse, day - 1)) in away.nights]
+    return [
+        NurseDay(nurse, day)
+        for nurse, day in sorted(away.free)
+        if works.get(NurseDay(nurse, day - 1)) in away.nights
+    ]
 
 
-def excess(scenario: Scenario, history: History, away: DaysAway, works: Mapping[NurseDay, str]) -> int:
+def excess(
+    scenario: Scenario, history: History, away: DaysAway, works: Mapping[NurseDay, str]
+) -> int:
     """How many days of too long rows, and nights before training or leave, could be otherwise, if nurses have these shift types."""
     rows = long_rows(scenario, history, away, works)
-    above = sum(row.number - row.most for row in rows if any((row.nurse, day) in works for day in row.days if day >= away.fixed))
+    above = sum(
+        row.number - row.most
+        for row in rows
+        if any((row.nurse, day) in works for day in row.days if day >= away.fixed)
+    )
     return above + sum(day > away.fixed for _, day in nights_before(away, works))

@@ -22,13 +22,19 @@ class _Short(NamedTuple):
     cure: str
 
 
-def demand_warnings(scenario: Scenario, history: Optional[History], data: WeekData, paid: Paid = ()) -> Iterator[Warned]:
+def demand_warnings(
+    scenario: Scenario, history: Optional[History], data: WeekData, paid: Paid = ()
+) -> Iterator[Warned]:
     """Warnings of days for which no choice of nurses fills all minimum numbers, and of more shifts than the contracts supply."""
     days_of: Dict[Warned, List[str]] = {}
     for day, name in enumerate(DAYS):
-        always, there = _shortage(scenario, history, data, day, ()), _shortage(scenario, history, data, day, absences_of(data))
+        always, there = _shortage(scenario, history, data, day, ()), _shortage(
+            scenario, history, data, day, absences_of(data)
+        )
         if always:
-            days_of.setdefault(Warned(f"{always.text}: {IMPOSSIBLE}: {always.cure}", Reach.NONE), []).append(name)
+            days_of.setdefault(
+                Warned(f"{always.text}: {IMPOSSIBLE}: {always.cure}", Reach.NONE), []
+            ).append(name)
         elif there:
             unkept = f"{there.text}: no roster that keeps every absence can meet it: {there.cure}, or shorten an absence"
             days_of.setdefault(Warned(unkept, Reach.NOT_ALL), []).append(name)
@@ -47,36 +53,59 @@ def asked_shifts(data: WeekData) -> Tuple[int, int]:
     )
 
 
-def supplied_shifts(scenario: Scenario, history: Optional[History], paid: Paid = ()) -> Tuple[int, int]:
+def supplied_shifts(
+    scenario: Scenario, history: Optional[History], paid: Paid = ()
+) -> Tuple[int, int]:
     """The shifts that the contracts ask for at least and allow at most in the first of the weeks that are left, rounded outwards: the same
     part for each week, without the shifts of its own days away that count as work."""
     left, zero = scenario.weeks - (history.week if history else 0), Fraction(0)
     minimum = most = zero
     for name in scenario.nurses:
         limits = scenario.contract_of(name).assignments
-        done = history.nurses[name].assignments - sum((week.get(name, zero) for week in paid), zero) if history else zero
+        done = (
+            history.nurses[name].assignments - sum((week.get(name, zero) for week in paid), zero)
+            if history
+            else zero
+        )
         away = paid[0].get(name, zero) if paid else zero
         minimum += max(zero, (limits.minimum - done) / left - away)
         most += max(zero, min(max(zero, limits.maximum - done) / left, Fraction(len(DAYS))) - away)
     return math.floor(minimum), math.ceil(most)
 
 
-def supply_warnings(scenario: Scenario, history: History, weeks: Sequence[WeekData]) -> Iterator[Warned]:
+def supply_warnings(
+    scenario: Scenario, history: History, weeks: Sequence[WeekData]
+) -> Iterator[Warned]:
     """A warning if the best numbers of the weeks to the end of the period ask for more shifts than contracts supply beside absences."""
     if history.week + len(weeks) != scenario.weeks:
         return
-    whole_days = [(number, absence) for number, data in enumerate(weeks) for absence in absences_of(data) if absence.shift is None]
+    whole_days = [
+        (number, absence)
+        for number, data in enumerate(weeks)
+        for absence in absences_of(data)
+        if absence.shift is None
+    ]
     supplied, days = 0, len(DAYS) * len(weeks)
     for nurse in scenario.nurses:
-        there = days - len({(number, absence.day) for number, absence in whole_days if absence.nurse == nurse})
-        supplied += max(0, min(scenario.contract_of(nurse).assignments.maximum - history.nurses[nurse].assignments, there))
+        there = days - len(
+            {(number, absence.day) for number, absence in whole_days if absence.nurse == nurse}
+        )
+        supplied += max(
+            0,
+            min(
+                scenario.contract_of(nurse).assignments.maximum - history.nurses[nurse].assignments,
+                there,
+            ),
+        )
     least, best = (sum(numbers) for numbers in zip(*map(asked_shifts, weeks)))
     if best > supplied:
         hold = {limit.nurse for data in weeks for limit in data.limits if limit.kind == SHIFTS}
         costs = f"each shift above costs {ASSIGNMENT_TOTAL} points, and a nurse below a best number {MISSING_NURSE}: lower best numbers"
         above = hold.issuperset(scenario.nurses) and least > supplied
         if above:
-            costs = f"{least - supplied} too many to keep the limits that hold: lower minimum numbers"
+            costs = (
+                f"{least - supplied} too many to keep the limits that hold: lower minimum numbers"
+            )
         elif hold.issuperset(scenario.nurses):
             costs = f"{best - supplied} will be missing, for {MISSING_NURSE} points each: lower best numbers"
         supply = f"and the contracts supply at most {supplied} beside absences"
@@ -84,19 +113,46 @@ def supply_warnings(scenario: Scenario, history: History, weeks: Sequence[WeekDa
         yield Warned(f"{asks}, {supply}: {costs}", Reach.NOT_ALL if above else Reach.ALL)
 
 
-def can_work(scenario: Scenario, history: Optional[History], away: Collection[Absence], nurse: str, place: Place) -> bool:
+def can_work(
+    scenario: Scenario,
+    history: Optional[History],
+    away: Collection[Absence],
+    nurse: str,
+    place: Place,
+) -> bool:
     """Whether the nurse has the skill, is not away, and may have the shift on Monday after her last one."""
     last = history.nurses[nurse].last_shift if history and place.day == 0 else None
-    is_free = Absence(nurse, place.day, None) not in away and Absence(nurse, place.day, place.shift) not in away
-    return place.skill in scenario.nurses[nurse].skills and is_free and not scenario.forbids(last, place.shift)
+    is_free = (
+        Absence(nurse, place.day, None) not in away
+        and Absence(nurse, place.day, place.shift) not in away
+    )
+    return (
+        place.skill in scenario.nurses[nurse].skills
+        and is_free
+        and not scenario.forbids(last, place.shift)
+    )
 
 
-def _shortage(scenario: Scenario, history: Optional[History], data: WeekData, day: int, away: Collection[Absence]) -> Optional[_Short]:
+def _shortage(
+    scenario: Scenario,
+    history: Optional[History],
+    data: WeekData,
+    day: int,
+    away: Collection[Absence],
+) -> Optional[_Short]:
     """The places of a day that need more nurses at once than could fill them, if there are any."""
     places = [
-        place for place, asked in data.requirements.items() if place.day == day for _ in range(min(asked.minimum, len(scenario.nurses) + 1))
+        place
+        for place, asked in data.requirements.items()
+        if place.day == day
+        for _ in range(min(asked.minimum, len(scenario.nurses) + 1))
     ]
-    could = {place: [nurse for nurse in scenario.nurses if can_work(scenario, history, away, nurse, place)] for place in set(places)}
+    could = {
+        place: [
+            nurse for nurse in scenario.nurses if can_work(scenario, history, away, nurse, place)
+        ]
+        for place in set(places)
+    }
     filled: Dict[str, int] = {}
     for slot in range(len(places)):
         tried = _fill(slot, places, could, filled)
@@ -107,7 +163,9 @@ def _shortage(scenario: Scenario, history: Optional[History], data: WeekData, da
     return None
 
 
-def _fill(slot: int, places: Sequence[Place], could: Dict[Place, List[str]], filled: Dict[str, int]) -> Optional[List[str]]:
+def _fill(
+    slot: int, places: Sequence[Place], could: Dict[Place, List[str]], filled: Dict[str, int]
+) -> Optional[List[str]]:
     """Finds a nurse for a place, if need be by giving others another place. If there is none, returns all nurses who were tried."""
     came: Dict[str, int] = {}
     waiting = [slot]
@@ -136,10 +194,15 @@ def _move(nurse: str, slot: int, came: Dict[str, int], filled: Dict[str, int]) -
 def _short_of(scenario: Scenario, data: WeekData, short: Sequence[Place], have: int) -> _Short:
     """Places that need more nurses than there are, in words."""
     need = sum(data.requirements[place].minimum for place in short)
-    skills, some = {place.skill for place in short}, [f"{place.shift} {data.requirements[place].minimum}" for place in short]
+    skills, some = {place.skill for place in short}, [
+        f"{place.shift} {data.requirements[place].minimum}" for place in short
+    ]
     if len(skills) > 1:
         named = joined(f"{place.shift} {place.skill}" for place in short)
-        return _Short(f"{named} need {need} nurses at once, and {have} could do it", f"lower minimum numbers by {need - have} in all")
+        return _Short(
+            f"{named} need {need} nurses at once, and {have} could do it",
+            f"lower minimum numbers by {need - have} in all",
+        )
     skill = short[0].skill
     owners = sum(skill in nurse.skills for nurse in scenario.nurses.values())
     has = f"{have} have it" if owners == have else f"{have} of the {owners} who have it could do it"
@@ -147,7 +210,14 @@ def _short_of(scenario: Scenario, data: WeekData, short: Sequence[Place], have: 
     return _Short(f"{need} with {skill} needed at once ({', '.join(some)}), and {has}", cure)
 
 
-def hindrance(scenario: Scenario, history: History, away: Collection[Absence], cells: Sequence[Cell], nurse: str, place: Place) -> str:
+def hindrance(
+    scenario: Scenario,
+    history: History,
+    away: Collection[Absence],
+    cells: Sequence[Cell],
+    nurse: str,
+    place: Place,
+) -> str:
     """Why a nurse with the skill does not fill a place in a roster; empty if nothing hinders her."""
     shifts = {cell.day: cell.shift for cell in cells if cell.nurse == nurse}
     before = history.nurses[nurse].last_shift if place.day == 0 else shifts.get(place.day - 1)

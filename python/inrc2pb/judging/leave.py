@@ -39,19 +39,43 @@ class Counted(NamedTuple):
         return sums
 
 
-def counted(scenario: Scenario, reasons: Mapping[NurseDay, str], words: Collection[str], lost: Mapping[NurseDay, int] = {}) -> Counted:
+def counted(
+    scenario: Scenario,
+    reasons: Mapping[NurseDay, str],
+    words: Collection[str],
+    lost: Mapping[NurseDay, int] = {},
+) -> Counted:
     """As what the days away of a period count for these of their reasons. The contracts are those of the whole period, and `lost` has the
     shifts that illnesses have taken from plans on the wall, as far as that is known."""
-    days = {place: _shifts_of(scenario, reasons, place, lost) for place, word in reasons.items() if word in words}
+    days = {
+        place: _shifts_of(scenario, reasons, place, lost)
+        for place, word in reasons.items()
+        if word in words
+    }
     nurses = list(dict.fromkeys(nurse for nurse, _ in days))
-    shifts = {nurse: math.ceil(sum(number for (who, _), number in days.items() if who == nurse)) for nurse in nurses}
+    shifts = {
+        nurse: math.ceil(sum(number for (who, _), number in days.items() if who == nurse))
+        for nurse in nurses
+    }
     on_weekends = (NurseDay(nurse, day) for nurse, day in days if day % WEEK_DAYS >= SATURDAY)
-    trained = {(nurse, day // WEEK_DAYS) for nurse, day in on_weekends if reasons[NurseDay(nurse, day)] == TRAINING}
-    weekends = {nurse: sum(who == nurse for who, _ in trained) for nurse in dict.fromkeys(nurse for nurse, _ in sorted(trained))}
+    trained = {
+        (nurse, day // WEEK_DAYS)
+        for nurse, day in on_weekends
+        if reasons[NurseDay(nurse, day)] == TRAINING
+    }
+    weekends = {
+        nurse: sum(who == nurse for who, _ in trained)
+        for nurse in dict.fromkeys(nurse for nurse, _ in sorted(trained))
+    }
     return Counted(days, shifts, weekends)
 
 
-def _shifts_of(scenario: Scenario, reasons: Mapping[NurseDay, str], place: NurseDay, lost: Mapping[NurseDay, int]) -> Fraction:
+def _shifts_of(
+    scenario: Scenario,
+    reasons: Mapping[NurseDay, str],
+    place: NurseDay,
+    lost: Mapping[NurseDay, int],
+) -> Fraction:
     """The shifts as which a day away counts."""
     (nurse, day), word = place, reasons[place]
     if word == TRAINING:
@@ -83,7 +107,9 @@ def credited(history: History, days_away: Counted) -> History:
         past = nurses[nurse]
         total = past.assignments + shifts
         if total > MAX_NUMBER:
-            raise Misuse(f"{nurse} would have more than {MAX_NUMBER} assignments: correct her history")
+            raise Misuse(
+                f"{nurse} would have more than {MAX_NUMBER} assignments: correct her history"
+            )
         weekends = min(MAX_NUMBER, past.weekends + days_away.weekends.get(nurse, 0))
         nurses[nurse] = replace(past, assignments=total, weekends=weekends)
     return replace(history, nurses=nurses)

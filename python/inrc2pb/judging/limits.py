@@ -4,7 +4,17 @@ to keep, as the absences and limits of weeks."""
 from dataclasses import replace
 from typing import Collection, Iterable, Iterator, List, Optional, Sequence, Tuple
 
-from ..week.facts import SHIFTS, WEEKENDS, WORK_DAYS, Charged, Choice, Claim, fact_text, of_weeks, read_facts
+from ..week.facts import (
+    SHIFTS,
+    WEEKENDS,
+    WORK_DAYS,
+    Charged,
+    Choice,
+    Claim,
+    fact_text,
+    of_weeks,
+    read_facts,
+)
 from ..week.faults import FileFault
 from ..week.records import DAYS, Absence, Cell, KeptLimit, Scenario, Week, WeekData
 from ..week.slots import PathLike
@@ -23,7 +33,11 @@ def exceeded(week: Week, limits: Collection[KeptLimit], cells: Sequence[Cell]) -
     for charge in charges(week, cells, early=True) if limits else ():
         key = charge.nurse or "", _KINDS.get((charge.rule, charge.what), "")
         if key in most:
-            times = charge.times if key[1] == WORK_DAYS else charge.number - max(charge.limit + most[key], charge.before)
+            times = (
+                charge.times
+                if key[1] == WORK_DAYS
+                else charge.number - max(charge.limit + most[key], charge.before)
+            )
             if times > 0:
                 charges_above.append(charge._replace(times=times))
     return charges_above
@@ -34,10 +48,15 @@ def excess(charged: Iterable[Charge]) -> int:
     return sum(charge.times for charge in charged)
 
 
-def limits_in_words(charged: Iterable[Charge], cells: Sequence[Cell], names: Sequence[str] = DAYS) -> str:
+def limits_in_words(
+    charged: Iterable[Charge], cells: Sequence[Cell], names: Sequence[str] = DAYS
+) -> str:
     """Who exceeds which limit with these assignments, as `Amara has 6 days of work in a row, Tue to Sun, of at most 5`. The days of the
     week have these names."""
-    return ", ".join(_in_words(charge, sorted({cell.day for cell in cells if cell.nurse == charge.nurse}), names) for charge in charged)
+    return ", ".join(
+        _in_words(charge, sorted({cell.day for cell in cells if cell.nurse == charge.nurse}), names)
+        for charge in charged
+    )
 
 
 def _in_words(charge: Charge, worked: Sequence[int], names: Sequence[str]) -> str:
@@ -47,7 +66,11 @@ def _in_words(charge: Charge, worked: Sequence[int], names: Sequence[str]) -> st
         first, last = charge.days or (0, 0)
         days = f", to {names[last]}," if charge.before else f", {names[first]} to {names[last]},"
         return f"{nurse} has {plural(charge.number, 'day')} of work in a row{days} of at most {charge.limit}"
-    what, above = ("shift", worked[-charge.times :]) if charge.rule == "S6" else ("weekend", [day for day in worked if day >= SATURDAY])
+    what, above = (
+        ("shift", worked[-charge.times :])
+        if charge.rule == "S6"
+        else ("weekend", [day for day in worked if day >= SATURDAY])
+    )
     return f"{nurse} has {plural(charge.number, what)} of at most {charge.limit}, above on {joined(names[day] for day in above)}"
 
 
@@ -55,7 +78,11 @@ def limits_way_out(week: Week, charged: Sequence[Charge], cells: Sequence[Cell])
     """What to do if a roster exceeds limits."""
     over = {charge.nurse for charge in charged}
     spare = list(_with_shifts_left(week, [cell for cell in cells if cell.nurse in over], cells))
-    others = f"; with these skills shifts are left for {joined(spare[:6])}" if spare else "; nobody with these skills has shifts left"
+    others = (
+        f"; with these skills shifts are left for {joined(spare[:6])}"
+        if spare
+        else "; nobody with these skills has shifts left"
+    )
     return f"lower minimum numbers, hold fewer shifts, or allow these nurses more{others}"
 
 
@@ -67,7 +94,11 @@ def _with_shifts_left(week: Week, too_many: Sequence[Cell], cells: Sequence[Cell
     for nurse, owner in week.scenario.nurses.items():
         worked = week.history.nurses[nurse].assignments + sum(cell.nurse == nurse for cell in cells)
         left = week.scenario.contract_of(nurse).assignments.maximum - worked
-        free = [cell._replace(nurse=nurse) for cell in too_many if cell.skill in owner.skills and (nurse, cell.day) not in works]
+        free = [
+            cell._replace(nurse=nurse)
+            for cell in too_many
+            if cell.skill in owner.skills and (nurse, cell.day) not in works
+        ]
         if nurse not in over and left > 0 and not all(is_broken_by(away, cell) for cell in free):
             yield f"{readable(nurse)} ({left})"
 
@@ -81,7 +112,9 @@ def read_given(path: PathLike, scenario: Scenario, text: Optional[str] = None) -
     for claim in claims:
         if not _is_kept(claim):
             words = f"{'HOLDS' if claim.holds else 'NOT'} {fact_text(claim.fact)}"
-            raise FileFault(path, 0, f"'{words}' is neither an absence nor a limit of a nurse: remove it")
+            raise FileFault(
+                path, 0, f"'{words}' is neither an absence nor a limit of a nurse: remove it"
+            )
     return claims
 
 
@@ -91,17 +124,29 @@ def _is_kept(claim: Claim) -> bool:
     if isinstance(fact, Choice):
         return holds == (fact.shift is None)
     counts = isinstance(fact, Charged) and fact.nurse is not None and fact.kind != WORK_DAYS
-    return holds and isinstance(fact, Charged) and fact.kind in (WORK_DAYS, SHIFTS, WEEKENDS) and (counts or fact.most == 0)
+    return (
+        holds
+        and isinstance(fact, Charged)
+        and fact.kind in (WORK_DAYS, SHIFTS, WEEKENDS)
+        and (counts or fact.most == 0)
+    )
 
 
-def with_given(scenario: Scenario, data: WeekData, claims: Iterable[Claim], number: int) -> WeekData:
+def with_given(
+    scenario: Scenario, data: WeekData, claims: Iterable[Claim], number: int
+) -> WeekData:
     """The data of the week with this number from 0, with what these facts ask for."""
     claims = of_weeks(claims, number, 1)
-    absences = {Absence(fact.nurse, fact.day, fact.shift) for fact, _ in claims if isinstance(fact, Choice)}
+    absences = {
+        Absence(fact.nurse, fact.day, fact.shift) for fact, _ in claims if isinstance(fact, Choice)
+    }
     return replace(data, absences=frozenset(absences), limits=frozenset(_limits(scenario, claims)))
 
 
 def _limits(scenario: Scenario, claims: Iterable[Claim]) -> Iterator[KeptLimit]:
     for fact, _ in claims:
         if isinstance(fact, Charged):
-            yield from (KeptLimit(nurse, fact.kind, fact.most) for nurse in ([fact.nurse] if fact.nurse else scenario.nurses))
+            yield from (
+                KeptLimit(nurse, fact.kind, fact.most)
+                for nurse in ([fact.nurse] if fact.nurse else scenario.nurses)
+            )

@@ -4,7 +4,16 @@ import enum
 from typing import Dict, Iterable, Iterator, List, Optional, Tuple
 
 from ..week.faults import obeyed, printable
-from ..week.records import DAYS, Contract, History, Limits, NurseHistory, Requirement, Scenario, WeekData
+from ..week.records import (
+    DAYS,
+    Contract,
+    History,
+    Limits,
+    NurseHistory,
+    Requirement,
+    Scenario,
+    WeekData,
+)
 from ..week.slots import is_utf8
 from ..week.words import plural
 
@@ -84,7 +93,11 @@ def history_warnings(history: History, scenario: Optional[Scenario] = None) -> I
     """Warnings of a history. With the scenario a nurse may have her contract's minimum of assignments as leave."""
     for past in history.nurses.values():
         yield from _last_days(past)
-        yield from _totals(past, history.week, scenario.contract_of(past.nurse).assignments.minimum if scenario else 0)
+        yield from _totals(
+            past,
+            history.week,
+            scenario.contract_of(past.nurse).assignments.minimum if scenario else 0,
+        )
 
 
 def _last_days(past: NurseHistory) -> Iterator[str]:
@@ -116,7 +129,10 @@ def _totals(past: NurseHistory, week: int, leave: int) -> Iterator[str]:
 
 def week_warnings(scenario: Scenario, data: WeekData) -> Iterator[Warned]:
     """Warnings of a week's requirements."""
-    have = {skill: sum(skill in nurse.skills for nurse in scenario.nurses.values()) for skill in scenario.skills}
+    have = {
+        skill: sum(skill in nurse.skills for nurse in scenario.nurses.values())
+        for skill in scenario.skills
+    }
     days_of: Dict[Tuple[str, Warned], List[str]] = {}
     for place, required in data.requirements.items():
         warned = _odd_number(required, have[place.skill])
@@ -134,9 +150,13 @@ def _odd_number(required: Requirement, have: int) -> Optional[Warned]:
         asks = f"at least {required.minimum} are needed, and {plural(have, 'nurse')} {_has(have)} the skill"
         return Warned(f"{asks}: {IMPOSSIBLE}: {cure}", Reach.NONE)
     if required.optimal > have:
-        return Warned(f"{required.optimal} are best, and {plural(have, 'nurse')} {_has(have)} the skill")
+        return Warned(
+            f"{required.optimal} are best, and {plural(have, 'nurse')} {_has(have)} the skill"
+        )
     if 0 < required.optimal < required.minimum:
-        return Warned(f"({required.minimum},{required.optimal}) has a minimum above the optimal number")
+        return Warned(
+            f"({required.minimum},{required.optimal}) has a minimum above the optimal number"
+        )
     return None
 
 
@@ -147,7 +167,9 @@ def _has(count: int) -> str:
 def _unasked(scenario: Scenario, data: WeekData) -> Iterator[str]:
     """Shift types for which nobody is asked, unless there is a row with zeros for each skill."""
     for shift in scenario.shift_types:
-        rows = {place: required for place, required in data.requirements.items() if place.shift == shift}
+        rows = {
+            place: required for place, required in data.requirements.items() if place.shift == shift
+        }
         asked = any(required.minimum or required.optimal for required in rows.values())
         if not asked and len(rows) < len(scenario.skills) * len(DAYS):
             yield f"nobody is asked for {shift} on any day: write a row for each skill, with 0 if nobody is needed"

@@ -5,7 +5,18 @@ breaks as `extend` does; if it breaks none, the penalty and the costs as `decode
 """
 
 import collections
-from typing import Counter, Dict, Iterable, Iterator, List, NamedTuple, Optional, Sequence, Set, Tuple
+from typing import (
+    Counter,
+    Dict,
+    Iterable,
+    Iterator,
+    List,
+    NamedTuple,
+    Optional,
+    Sequence,
+    Set,
+    Tuple,
+)
 
 from ..week.records import Cell, Contract, Limits, NurseHistory, Place, Request, Week
 from ..week.soft_rules import (
@@ -66,8 +77,16 @@ def numbers(roster: Iterable[Cell]) -> Counter[Place]:
 
 
 def _has_forbidden_succession(week: Week, shifts: Shifts, nurse: str) -> bool:
-    days: List[Sequence[Optional[str]]] = [[week.history.nurses[nurse].last_shift], *(shifts[nurse, day] for day in range(7))]
-    return any(week.scenario.forbids(earlier, later) for before, now in zip(days, days[1:]) for earlier in before for later in now)
+    days: List[Sequence[Optional[str]]] = [
+        [week.history.nurses[nurse].last_shift],
+        *(shifts[nurse, day] for day in range(7)),
+    ]
+    return any(
+        week.scenario.forbids(earlier, later)
+        for before, now in zip(days, days[1:])
+        for earlier in before
+        for later in now
+    )
 
 
 def broken(week: Week, roster: Sequence[Cell], held: Iterable[Cell] = ()) -> Iterator[str]:
@@ -107,7 +126,9 @@ def run_charges(base: Charge, has: Sequence[bool], before: int, limits: Limits) 
         # A run that goes on after Sunday may still grow.
         below = minimum - length if 0 < length and day < 7 else 0
         if above > 0 or below > 0:
-            run = base._replace(days=(first, day - 1) if first < day else None, number=length, before=before)
+            run = base._replace(
+                days=(first, day - 1) if first < day else None, number=length, before=before
+            )
             if above > 0:
                 yield run._replace(what=f"{base.what} above", limit=maximum, times=above)
             if below > 0:
@@ -144,39 +165,76 @@ def requests_by_nurse(week: Week) -> Dict[str, List[Request]]:
     return requests
 
 
-def nurse_charges(week: Week, shifts: Shifts, requests: Sequence[Request], nurse: str, early: bool = False) -> Iterator[Charge]:
+def nurse_charges(
+    week: Week, shifts: Shifts, requests: Sequence[Request], nurse: str, early: bool = False
+) -> Iterator[Charge]:
     """What a nurse with these requests is charged, given the shift types that nurses have on days."""
     contract, history = week.scenario.contract_of(nurse), week.history.nurses[nurse]
     shift_on = [shifts[nurse, day] for day in range(7)]
     for name, shift in week.scenario.shift_types.items():
         before = history.consecutive_shifts if history.last_shift == name else 0
-        yield from run_charges(Charge("S2", "shift", nurse, SHIFT_RUN, name), [name in now for now in shift_on], before, shift.consecutive)
+        yield from run_charges(
+            Charge("S2", "shift", nurse, SHIFT_RUN, name),
+            [name in now for now in shift_on],
+            before,
+            shift.consecutive,
+        )
     work, off = Charge("S2", "work", nurse, WORK_RUN), Charge("S3", "off", nurse, DAYS_OFF_RUN)
-    yield from run_charges(work, [bool(now) for now in shift_on], history.working_days, contract.working_days)
+    yield from run_charges(
+        work, [bool(now) for now in shift_on], history.working_days, contract.working_days
+    )
     yield from run_charges(off, [not now for now in shift_on], history.days_off, contract.days_off)
     yield from _request_charges(nurse, shift_on, requests)
     saturday, sunday = bool(shift_on[SATURDAY]), bool(shift_on[SUNDAY])
     if contract.complete_weekends and saturday != sunday:
         day = SATURDAY if saturday else SUNDAY
         yield Charge("S5", "half", nurse, HALF_WEEKEND, days=(day, day))
-    yield from _total_charges(week, contract, history, works=sum(map(len, shift_on)), weekend=saturday or sunday, early=early)
+    yield from _total_charges(
+        week,
+        contract,
+        history,
+        works=sum(map(len, shift_on)),
+        weekend=saturday or sunday,
+        early=early,
+    )
 
 
-def _request_charges(nurse: str, shift_on: Sequence[List[str]], requests: Sequence[Request]) -> Iterator[Charge]:
+def _request_charges(
+    nurse: str, shift_on: Sequence[List[str]], requests: Sequence[Request]
+) -> Iterator[Charge]:
     """The requests that are not granted; equal ones are one charge."""
     for request, count in collections.Counter(requests).items():
         for shift in shift_on[request.day]:
             if request.shift in (None, shift):
                 what = "Any" if request.shift is None else "shift"
-                yield Charge("S4", what, nurse, weight=REQUEST, subject=shift, days=(request.day, request.day), number=count, times=count)
+                yield Charge(
+                    "S4",
+                    what,
+                    nurse,
+                    weight=REQUEST,
+                    subject=shift,
+                    days=(request.day, request.day),
+                    number=count,
+                    times=count,
+                )
 
 
-def _total_charges(week: Week, contract: Contract, history: NurseHistory, works: int, weekend: bool, early: bool) -> Iterator[Charge]:
+def _total_charges(
+    week: Week, contract: Contract, history: NurseHistory, works: int, weekend: bool, early: bool
+) -> Iterator[Charge]:
     """What S6 and S7 charge a nurse."""
     (minimum, maximum), most = contract.assignments, contract.max_weekends
     total, weekends = history.assignments + works, history.weekends + weekend
     if week.is_last and total < minimum:
-        charge = Charge("S6", "below", history.nurse, ASSIGNMENT_TOTAL, number=total, limit=minimum, times=minimum - total)
+        charge = Charge(
+            "S6",
+            "below",
+            history.nurse,
+            ASSIGNMENT_TOTAL,
+            number=total,
+            limit=minimum,
+            times=minimum - total,
+        )
         yield charge._replace(before=history.assignments)
     if week.is_last or early:
         for rule, now, limit, before, weight in (
@@ -185,7 +243,16 @@ def _total_charges(week: Week, contract: Contract, history: NurseHistory, works:
         ):
             times = now - max(limit, before) if early else now - limit
             if times > 0:
-                yield Charge(rule, "above", history.nurse, weight, number=now, limit=limit, before=before, times=times)
+                yield Charge(
+                    rule,
+                    "above",
+                    history.nurse,
+                    weight,
+                    number=now,
+                    limit=limit,
+                    before=before,
+                    times=times,
+                )
 
 
 def cost_by_rule(charged: Iterable[Charge]) -> Dict[str, int]:
@@ -201,7 +268,12 @@ def costs(week: Week, roster: Sequence[Cell], early: bool = False) -> Dict[str, 
     return cost_by_rule(charges(week, roster, early))
 
 
-def nurse_costs(week: Week, roster: Sequence[Cell], early: bool = False) -> Dict[str, Dict[str, int]]:
+def nurse_costs(
+    week: Week, roster: Sequence[Cell], early: bool = False
+) -> Dict[str, Dict[str, int]]:
     """The same of each nurse; no nurse pays for S1."""
     shifts, requests = shifts_by_day(roster), requests_by_nurse(week)
-    return {nurse: cost_by_rule(nurse_charges(week, shifts, requests[nurse], nurse, early)) for nurse in week.scenario.nurses}
+    return {
+        nurse: cost_by_rule(nurse_charges(week, shifts, requests[nurse], nurse, early))
+        for nurse in week.scenario.nurses
+    }

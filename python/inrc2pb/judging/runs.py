@@ -15,7 +15,8 @@ NEVER = 1 << 50
 
 class RunState(NamedTuple):
     """The runs that are open at the end of a day, and the choice of that day. `trained` is the run of days with work and training, if it
-    has training, and `is_due` says that no day of it could have been off. If `is_called`, a choice differs from that of an older row."""
+    has training, and `is_due` says that no day of it could have been off. If `is_called`, a choice differs from that of an older row.
+    """
 
     choice: int
     shift_run: int
@@ -78,7 +79,13 @@ class Runs:
         above: int = 0,
         beside: Beside = Beside(),
     ) -> None:
-        self.days, self.charging, self.contract, self._shift_run, self._above = days, charging, contract, shift_run, above
+        self.days, self.charging, self.contract, self._shift_run, self._above = (
+            days,
+            charging,
+            contract,
+            shift_run,
+            above,
+        )
         self._beside = beside
         self._known: Dict[Tuple[int, RunState], List[Step]] = {}
         self.shifts = [Limits(0, 0), *(kind.consecutive for kind in types)]
@@ -89,7 +96,13 @@ class Runs:
     def before(self, past: NurseHistory) -> RunState:
         """The state before the first day. The numbers of a history may contradict one another: all of them count."""
         choice = 0 if past.last_shift is None else self.numbers[past.last_shift]
-        return self.state(choice, past.consecutive_shifts if choice else 0, past.working_days, past.days_off, self.days)
+        return self.state(
+            choice,
+            past.consecutive_shifts if choice else 0,
+            past.working_days,
+            past.days_off,
+            self.days,
+        )
 
     def state(self, choice: int, shift: int, work: int, off: int, left: int) -> RunState:
         """The state after a choice and runs of these lengths, if this number of days is left."""
@@ -97,25 +110,34 @@ class Runs:
             return RunState(choice, 0, 0, 0)
         shift_run = shortened(shift, self.shifts[choice], left) if shift else 0
         work_run = shortened(work, self.contract.working_days, left) if work else 0
-        return RunState(choice, shift_run, work_run, shortened(off, self.contract.days_off, left) if off else 0)
+        return RunState(
+            choice, shift_run, work_run, shortened(off, self.contract.days_off, left) if off else 0
+        )
 
     def steps(self, day: int, now: RunState) -> List[Step]:
         """For each choice on a day what it costs, in points, and the state at its end; NEVER, if a hard rule forbids it."""
         steps = self._known.get((day, now))
         if steps is None:
-            steps = self._known[day, now] = self._steps(day, now) if self.charging else self._free_steps(now)
+            steps = self._known[day, now] = (
+                self._steps(day, now) if self.charging else self._free_steps(now)
+            )
         return steps
 
     def _free_steps(self, now: RunState) -> List[Step]:
         forbidden = self.forbidden[now.choice]
-        return [(NEVER, now) if choice in forbidden else (0, RunState(choice, 0, 0, 0)) for choice in range(len(self.shifts))]
+        return [
+            (NEVER, now) if choice in forbidden else (0, RunState(choice, 0, 0, 0))
+            for choice in range(len(self.shifts))
+        ]
 
     def _steps(self, day: int, now: RunState) -> List[Step]:
         work, off, left = self.contract.working_days, self.contract.days_off, self.days - day - 1
         half = HALF_WEEKEND if day % len(DAYS) == SUNDAY and self.contract.complete_weekends else 0
         closed = ended(now.shift_run, self.shifts[now.choice], self._shift_run)
         off_above = DAYS_OFF_RUN if now.off_run + 1 > off.maximum else 0
-        rest = closed + ended(now.work_run, work, WORK_RUN) + off_above + (half if now.choice else 0)
+        rest = (
+            closed + ended(now.work_run, work, WORK_RUN) + off_above + (half if now.choice else 0)
+        )
         steps = [(rest, self.state(0, 0, 0, now.off_run + 1, left))]
         work_above = WORK_RUN + self._above if now.work_run + 1 > work.maximum else 0
         works = ended(now.off_run, off, DAYS_OFF_RUN) + work_above + (0 if now.choice else half)
@@ -124,23 +146,40 @@ class Runs:
             if choice in forbidden or works >= NEVER:
                 steps.append((NEVER, now))
             else:
-                length, cost = (now.shift_run + 1, works) if choice == now.choice else (1, works + closed)
+                length, cost = (
+                    (now.shift_run + 1, works) if choice == now.choice else (1, works + closed)
+                )
                 cost += self._shift_run if length > limits.maximum else 0
                 steps.append((cost, RunState(choice, shortened(length, limits, left), run, 0)))
-        return [self._with_days_away(day, now, step) for step in steps] if self._beside.cost or self._beside.call else steps
+        return (
+            [self._with_days_away(day, now, step) for step in steps]
+            if self._beside.cost or self._beside.call
+            else steps
+        )
 
     def _with_days_away(self, day: int, before: RunState, step: Step) -> Step:
         """The step with the run of work and training at the end of the day, and with what that, a night before and a call cost."""
-        (cost, now), away, limits = step, self._beside, Limits(1, self.contract.working_days.maximum)
+        (cost, now), away, limits = (
+            step,
+            self._beside,
+            Limits(1, self.contract.working_days.maximum),
+        )
         run, is_due = 0, False
         if now.choice:
             run, is_due = before.trained + bool(before.trained), before.is_due and day < away.fixed
         elif day in away.training:
             run = (before.trained or before.work_run) + 1
             is_due = before.is_due if before.trained else not before.work_run or day <= away.fixed
-        from_night = day in away.free and day > away.fixed and not now.choice and before.choice in self._nights
+        from_night = (
+            day in away.free
+            and day > away.fixed
+            and not now.choice
+            and before.choice in self._nights
+        )
         cost += away.cost * ((run > limits.maximum and not is_due) + from_night)
-        is_called = before.is_called or (away.call > 0 and away.older[day] not in (now.choice, ANY_CHOICE))
+        is_called = before.is_called or (
+            away.call > 0 and away.older[day] not in (now.choice, ANY_CHOICE)
+        )
         cost += away.call if is_called and not before.is_called else 0
         trained = shortened(run, limits, self.days - day - 1) if run else 0
         return cost, now._replace(trained=trained, is_due=is_due, is_called=is_called)

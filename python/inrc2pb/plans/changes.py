@@ -8,7 +8,21 @@ import collections
 import time
 from dataclasses import replace
 from itertools import permutations
-from typing import Callable, Collection, Counter, Dict, FrozenSet, Iterable, Iterator, List, Mapping, NamedTuple, Optional, Sequence, Tuple
+from typing import (
+    Callable,
+    Collection,
+    Counter,
+    Dict,
+    FrozenSet,
+    Iterable,
+    Iterator,
+    List,
+    Mapping,
+    NamedTuple,
+    Optional,
+    Sequence,
+    Tuple,
+)
 
 from ..week.records import Cell, NurseDay, Place, Request, Scenario, WeekData
 from ..week.soft_rules import MISSING_NURSE, REQUEST
@@ -49,7 +63,10 @@ class ShiftChange(NamedTuple):
 def shift_changes(old: Iterable[Cell], new: Iterable[Cell]) -> List[ShiftChange]:
     """The nurses' days with another shift type or skill, in the order of days."""
     before, now = ({(cell.day, cell.nurse): cell for cell in cells} for cells in (old, new))
-    changes = [ShiftChange(nurse, day, before.get((day, nurse)), now.get((day, nurse))) for day, nurse in sorted({*before, *now})]
+    changes = [
+        ShiftChange(nurse, day, before.get((day, nurse)), now.get((day, nurse)))
+        for day, nurse in sorted({*before, *now})
+    ]
     return [change for change in changes if change.before != change.now]
 
 
@@ -63,7 +80,9 @@ def is_other_shift(before: Optional[Cell], now: Optional[Cell]) -> bool:
     return (before.shift if before else None) != (now.shift if now else None)
 
 
-def new_shift_points(place: Tuple[str, int], agreed: Collection[Tuple[str, int]], beside: Collection[Tuple[str, int]]) -> int:
+def new_shift_points(
+    place: Tuple[str, int], agreed: Collection[Tuple[str, int]], beside: Collection[Tuple[str, int]]
+) -> int:
     """What another shift of a nurse on a day costs, if it is one on which she has agreed, or a day off beside days away."""
     if place in agreed:
         return AGREED_POINTS
@@ -82,13 +101,27 @@ def with_few_changes(
     """The week's file with requests against all shifts on these days, and on agreed days of nurses, but those of the old roster. A new
     nurse may have any shift. The days off `beside` days away cost more."""
     shift_on = {(cell.nurse, cell.day): cell.shift for cell in old}
-    places = dict.fromkeys((*((nurse, day) for nurse in scenario.nurses if nurse not in new for day in days), *agreed))
+    places = dict.fromkeys(
+        (*((nurse, day) for nurse in scenario.nurses if nurse not in new for day in days), *agreed)
+    )
     costs = {place: new_shift_points(place, agreed, beside) for place in places}
-    asked = [(request, cost) for (nurse, day), cost in costs.items() for request in _requests(scenario, nurse, day, shift_on)]
-    return replace(data, requests=(*data.requests, *(request for request, cost in asked for _ in range(cost // REQUEST))))
+    asked = [
+        (request, cost)
+        for (nurse, day), cost in costs.items()
+        for request in _requests(scenario, nurse, day, shift_on)
+    ]
+    return replace(
+        data,
+        requests=(
+            *data.requests,
+            *(request for request, cost in asked for _ in range(cost // REQUEST)),
+        ),
+    )
 
 
-def _requests(scenario: Scenario, nurse: str, day: int, shift_on: Dict[Tuple[str, int], str]) -> Iterator[Request]:
+def _requests(
+    scenario: Scenario, nurse: str, day: int, shift_on: Dict[Tuple[str, int], str]
+) -> Iterator[Request]:
     """Who was off is asked to work nothing, who worked to work no other shift type."""
     old: Optional[str] = shift_on.get((nurse, day))
     if old is None:
@@ -100,10 +133,18 @@ def _requests(scenario: Scenario, nurse: str, day: int, shift_on: Dict[Tuple[str
 def days_off_beside_absences(plan: WardPlan) -> FrozenSet[NurseDay]:
     """The nurses' days off in the weeks that are not over, at most two days from a day on which they are away. Days on which a nurse is
     back earlier are none."""
-    back = {(absence.nurse, absence.day) for absence in plan.state.absences if absence.word in (BACK, SHEET)}
+    back = {
+        (absence.nurse, absence.day)
+        for absence in plan.state.absences
+        if absence.word in (BACK, SHEET)
+    }
     away = [(nurse, day) for (nurse, day), word in plan.away.items() if word not in DAYS_OFF]
     near = {NurseDay(nurse, day + later) for nurse, day in away for later in range(-NEAR, NEAR + 1)}
-    return frozenset(place for place in near if place not in plan.works and place not in plan.away and place not in back)
+    return frozenset(
+        place
+        for place in near
+        if place not in plan.works and place not in plan.away and place not in back
+    )
 
 
 # ---- skills of shifts that stay
@@ -115,10 +156,14 @@ def with_old_skills(scenario: Scenario, cells: Sequence[Cell], old: Sequence[Cel
     by_shift: Dict[Tuple[int, str], List[Cell]] = {}
     for cell in cells:
         by_shift.setdefault((cell.day, cell.shift), []).append(cell)
-    return [cell for of_shift in by_shift.values() for cell in _labelled(scenario, of_shift, before)]
+    return [
+        cell for of_shift in by_shift.values() for cell in _labelled(scenario, of_shift, before)
+    ]
 
 
-def _labelled(scenario: Scenario, cells: List[Cell], before: Dict[Tuple[str, int, str], str]) -> List[Cell]:
+def _labelled(
+    scenario: Scenario, cells: List[Cell], before: Dict[Tuple[str, int, str], str]
+) -> List[Cell]:
     """The nurses of a shift with other skills; as they are if their number of each skill would differ."""
     kept = [cell._replace(skill=before[cell[:3]]) for cell in cells if cell[:3] in before]
     others = [cell for cell in cells if cell[:3] not in before]
@@ -171,7 +216,9 @@ class _Judge:
 
     def _place_value(self, works: Works) -> _Value:
         """What the places with too few nurses add."""
-        number: Counter[Place] = collections.Counter(Place(cell.day, cell.shift, cell.skill) for cell in works.values())
+        number: Counter[Place] = collections.Counter(
+            Place(cell.day, cell.shift, cell.skill) for cell in works.values()
+        )
         below = missing = 0
         for place, asked in self._plan.needs.items():
             below += max(0, asked.minimum - number[place])
@@ -183,17 +230,35 @@ class _Judge:
         hold and beside days away, what they cost, and how much they change."""
         faults = self._alone.faults(nurse, cells)
         working = sum(fault.kind in (Kind.AWAY, Kind.NEVER) for fault in faults)
-        promised = sum(promise.nurse == nurse and cells.get(promise.day) != promise.cell for promise in self._plan.state.set_days)
-        not_kept = working + promised + self._alone.excess(nurse, cells) + self._alone.excess_beside(nurse, cells)
-        return _Value(len(faults) - working, not_kept, self._points(nurse, cells), self._changes(nurse, cells))
+        promised = sum(
+            promise.nurse == nurse and cells.get(promise.day) != promise.cell
+            for promise in self._plan.state.set_days
+        )
+        not_kept = (
+            working
+            + promised
+            + self._alone.excess(nurse, cells)
+            + self._alone.excess_beside(nurse, cells)
+        )
+        return _Value(
+            len(faults) - working, not_kept, self._points(nurse, cells), self._changes(nurse, cells)
+        )
 
     def _points(self, nurse: str, cells: Mapping[int, Cell]) -> int:
         """What the nurse is charged, with the points of her changes, as a search counts them; a nurse without shifts in the old plan may
         have any."""
         before = self._before[nurse]
-        changed = [day for day in {*before, *cells} if is_other_shift(before.get(day), cells.get(day))] if before else []
+        changed = (
+            [day for day in {*before, *cells} if is_other_shift(before.get(day), cells.get(day))]
+            if before
+            else []
+        )
         is_called = any(NurseDay(nurse, day) not in self._plan.away for day in changed)
-        new = sum(new_shift_points((nurse, day), self._agreed, self._beside) for day in changed if day in cells)
+        new = sum(
+            new_shift_points((nurse, day), self._agreed, self._beside)
+            for day in changed
+            if day in cells
+        )
         return self._alone.cost(nurse, cells) + new + (CALL_POINTS if is_called else 0)
 
     def _changes(self, nurse: str, cells: Mapping[int, Cell]) -> int:
@@ -202,9 +267,12 @@ class _Judge:
         return sum(before.get(day) != cells.get(day) for day in {*before, *cells})
 
 
-def without_needless_changes(old: WardPlan, new: WardPlan, clock: Callable[[], float] = time.monotonic) -> WardPlan:
+def without_needless_changes(
+    old: WardPlan, new: WardPlan, clock: Callable[[], float] = time.monotonic
+) -> WardPlan:
     """The new plan with shifts of the old one, or of fewer nurses, wherever that is worth it: changes of a nurse or of a day are taken
-    back, or given to another nurse, as long as a step makes the plan better, each change and each nurse to call counted as a charge."""
+    back, or given to another nurse, as long as a step makes the plan better, each change and each nurse to call counted as a charge.
+    """
     end, judge = clock() + SECONDS, _Judge(old, new)
     works: Works = new.works
     is_better = True
@@ -244,12 +312,20 @@ def _taken_back(works: Works, group: Sequence[ShiftChange]) -> Dict[NurseDay, Ce
     return taken
 
 
-def _given_to(old: Works, works: Works, of_nurse: Sequence[ShiftChange], other: str) -> Optional[Works]:
+def _given_to(
+    old: Works, works: Works, of_nurse: Sequence[ShiftChange], other: str
+) -> Optional[Works]:
     """The assignments with a nurse's new shifts given to another one; None if there are none, or she worked on one of these days."""
     given, new = _taken_back(works, of_nurse), [change for change in of_nurse if change.now]
     if not new or any(NurseDay(other, change.day) in old for change in new):
         return None
-    given.update({NurseDay(other, change.day): change.now._replace(nurse=other) for change in new if change.now})
+    given.update(
+        {
+            NurseDay(other, change.day): change.now._replace(nurse=other)
+            for change in new
+            if change.now
+        }
+    )
     return given
 
 
@@ -270,7 +346,9 @@ def _groups(changes: Sequence[ShiftChange]) -> Iterator[List[ShiftChange]]:
         yield from _runs(of_nurse)
     yield from by_day.values()
     for of_day in by_day.values():
-        yield from ([change, other] for number, change in enumerate(of_day) for other in of_day[:number])
+        yield from (
+            [change, other] for number, change in enumerate(of_day) for other in of_day[:number]
+        )
     yield from ([change] for change in changes)
 
 

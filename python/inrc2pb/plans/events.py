@@ -26,7 +26,9 @@ def _wording(plan: WardPlan, event: Event, usage: str) -> Wording:
 
 def first_day(plan: WardPlan, event: Event) -> int:
     """The day from which on a plan is asked for."""
-    wording = _wording(plan, event, "plan, or plan 2026-12-09 to leave all days before it as they are")
+    wording = _wording(
+        plan, event, "plan, or plan 2026-12-09 to leave all days before it as they are"
+    )
     first = plan.first if wording.is_over else wording.open_day()
     wording.end()
     return first
@@ -37,20 +39,31 @@ def first_day(plan: WardPlan, event: Event) -> int:
 
 def absence(old: WardPlan, event: Event) -> Away:
     """A nurse is away on these days for the reason that is the verb."""
-    wording = _wording(old, event, f"{event.verb} {readable(next(iter(old.scenario.nurses)))} Fri Sun")
+    wording = _wording(
+        old, event, f"{event.verb} {readable(next(iter(old.scenario.nurses)))} Fri Sun"
+    )
     nurse, first = wording.nurse(), wording.open_day()
     last = first if wording.is_over else wording.open_day(first)
     wording.end()
     if last < first:
-        raise Misuse(f"{old.days.text(last)} is before {old.days.text(first)}: give the first day first")
+        raise Misuse(
+            f"{old.days.text(last)} is before {old.days.text(first)}: give the first day first"
+        )
     days = tuple(range(first, last + 1))
     lost = lost_by(old, nurse, days) if event.verb == ILL and old.state.published else {}
-    return Away(old, old.with_absences(with_days(old.state.absences, nurse, days, event.verb, lost)), nurse, days, event.verb)
+    return Away(
+        old,
+        old.with_absences(with_days(old.state.absences, nurse, days, event.verb, lost)),
+        nurse,
+        days,
+        event.verb,
+    )
 
 
 def lost_by(old: WardPlan, nurse: str, days: Iterable[int]) -> Dict[int, int]:
     """The shifts that an illness of a nurse takes from a plan on the wall: her shift of each day, none if she is off, and what was known
-    before if she is ill already. Of days on which she is away for another reason only those of training have one."""
+    before if she is ill already. Of days on which she is away for another reason only those of training have one.
+    """
     known, lost = lost_shifts(old.state.absences), {}
     for place in (NurseDay(nurse, day) for day in days):
         word = old.away.get(place, "")
@@ -68,7 +81,11 @@ def back(old: WardPlan, event: Event) -> Away:
     wording.end()
     word, days = absence_from(old, nurse, first)
     is_written = words_of(old.state.absences, nurse).get(first) == word
-    lifted = without_last(old.state.absences, nurse, days) if is_written else with_days(old.state.absences, nurse, days, BACK)
+    lifted = (
+        without_last(old.state.absences, nurse, days)
+        if is_written
+        else with_days(old.state.absences, nurse, days, BACK)
+    )
     new = old.with_absences(lifted)
     same = [day for day in days if new.away.get(NurseDay(nurse, day)) == word]
     if same:
@@ -107,7 +124,9 @@ class Look(NamedTuple):
 def asked_swap(old: WardPlan, event: Event) -> Union[Look, Swap]:
     """The swap of two nurses that is asked for, or the look at all swaps of a shift."""
     names = [readable(nurse) for nurse in old.scenario.nurses][:2]
-    wording = _wording(old, event, f"swap {names[0]} Fri {names[-1]} Sat, or swap {names[0]} Fri for all who could")
+    wording = _wording(
+        old, event, f"swap {names[0]} Fri {names[-1]} Sat, or swap {names[0]} Fri for all who could"
+    )
     nurse, day = wording.nurse(), wording.open_day()
     if wording.is_over:
         if event.do:
@@ -124,7 +143,9 @@ def asked_swap(old: WardPlan, event: Event) -> Union[Look, Swap]:
 def offers_of(swaps: Swaps, nurse: str, day: int) -> Offers:
     """Who could take the nurse's shift on this day. Raises Misuse if she has none."""
     if swaps.works(nurse, day) is None:
-        raise Misuse(f"{readable(nurse)} is off on {swaps.plan.days.text(day)}: name a day on which she works")
+        raise Misuse(
+            f"{readable(nurse)} is off on {swaps.plan.days.text(day)}: name a day on which she works"
+        )
     return Offers(swaps, nurse, day, tuple(swaps.offers(nurse, day)))
 
 
@@ -134,23 +155,38 @@ def swap(old: WardPlan, asked: Swap, before: Optional[State], has_offers: bool) 
     swaps, new = Swaps(old), old.with_cells(swapped(old.cells, asked))
     if new.works == old.works:
         days = joined(map(old.days.text, asked.days))
-        raise Misuse(f"{readable(asked.nurse)} and {readable(asked.other)} have the same on {days}: nothing would change")
+        raise Misuse(
+            f"{readable(asked.nurse)} and {readable(asked.other)} have the same on {days}: nothing would change"
+        )
     faults = tuple(swaps.faults(asked))
     # The first shift that one of the two gives away.
-    first = next((nurse, day) for nurse in (asked.nurse, asked.other) for day in asked.days if swaps.works(nurse, day))
+    first = next(
+        (nurse, day)
+        for nurse in (asked.nurse, asked.other)
+        for day in asked.days
+        if swaps.works(nurse, day)
+    )
     offers = offers_of(swaps, *first) if faults or has_offers else None
     if faults:
         return Swapped(old, new, asked, faults, offers=offers, status=Status.NOT_KEPT)
     takes_back = before is not None and _shifts(before.cells, asked) == _shifts(new.cells, asked)
     kept = new.state.agreeing(lambda place: place not in asked.places)
-    agreed = [place for place in before.agreed if place in asked.places] if before and takes_back else asked.places
+    agreed = (
+        [place for place in before.agreed if place in asked.places]
+        if before and takes_back
+        else asked.places
+    )
     new = new.with_state(replace(kept, agreed=(*kept.agreed, *agreed)))
     return Swapped(old, new, asked, takes_back=takes_back, offers=offers)
 
 
 def _shifts(cells: Sequence[Cell], swap: Swap) -> Set[Tuple[str, int, str]]:
     """The shifts of the two nurses on the days of a swap."""
-    return {(cell.nurse, cell.day, cell.shift) for cell in cells if cell.nurse in (swap.nurse, swap.other) and cell.day in swap.days}
+    return {
+        (cell.nurse, cell.day, cell.shift)
+        for cell in cells
+        if cell.nurse in (swap.nurse, swap.other) and cell.day in swap.days
+    }
 
 
 # ---- a day that is set
@@ -159,47 +195,69 @@ def _shifts(cells: Sequence[Cell], swap: Swap) -> Set[Tuple[str, int, str]]:
 def set_day(old: WardPlan, event: Event) -> DaySet:
     """A nurse has this shift on a day, or is off, and later plans keep that; or, for the word `back`, they need not keep it any more."""
     name = readable(next(iter(old.scenario.nurses)))
-    wording = _wording(old, event, f"set {name} Fri {readable(next(iter(old.scenario.shift_types)))}, or set {name} Fri off")
+    wording = _wording(
+        old,
+        event,
+        f"set {name} Fri {readable(next(iter(old.scenario.shift_types)))}, or set {name} Fri off",
+    )
     place = NurseDay(wording.nurse(), wording.open_day())
     if wording.one_of((BACK,)):
         wording.end()
         return _set_back(old, place)
-    shift, skill = wording.shift([*old.scenario.shift_types, OFF], old.scenario.nurses[place.nurse].skills)
+    shift, skill = wording.shift(
+        [*old.scenario.shift_types, OFF], old.scenario.nurses[place.nurse].skills
+    )
     now = None if shift == OFF else Cell(*place, shift, skill or _skill(old, place, shift))
     promise = SetDay(*place, wording.rest(), now.shift if now else "", now.skill if now else "")
     if now == old.works.get(place) and promise in old.state.set_days:
         cure = f"set {readable(place.nurse)} {old.days.head(place.day)} {BACK} takes that back"
-        raise Misuse(f"{readable(place.nurse)} has this on {old.days.text(place.day)} already, and later plans keep it: {cure}")
+        raise Misuse(
+            f"{readable(place.nurse)} has this on {old.days.text(place.day)} already, and later plans keep it: {cure}"
+        )
     swaps = Swaps(old)
     faults = tuple(swaps.day_faults(place, now))
     new = _with_set_day(old, promise)
     instead, replaces = tuple(swaps.instead(place, now)), old.state.promised.get(place)
     status = Status.NOT_KEPT if faults else Status.DONE
-    return DaySet(old, new, promise, faults=faults, instead=instead, replaces=replaces, status=status)
+    return DaySet(
+        old, new, promise, faults=faults, instead=instead, replaces=replaces, status=status
+    )
 
 
 def _with_set_day(old: WardPlan, promise: SetDay) -> WardPlan:
     """The plan in which this is so. A swap of the day holds on below it, if the nurse has the same shift."""
-    place, others = promise.place, {other: cell for other, cell in old.works.items() if other != promise.place}
+    place, others = promise.place, {
+        other: cell for other, cell in old.works.items() if other != promise.place
+    }
     is_same = old.works.get(place) == promise.cell
     state = old.state.agreeing(lambda other: is_same or other != place)
     set_days = (*(other for other in state.set_days if other.place != place), promise)
-    return old.with_state(replace(state, set_days=set_days)).with_cells([*others.values(), *([promise.cell] if promise.cell else [])])
+    return old.with_state(replace(state, set_days=set_days)).with_cells(
+        [*others.values(), *([promise.cell] if promise.cell else [])]
+    )
 
 
 def _set_back(old: WardPlan, place: NurseDay) -> DaySet:
     """Later plans need not keep a nurse's day any more. Raises Misuse if it was not set."""
     promise = old.state.promised.get(place)
     if promise is None:
-        raise Misuse(f"nothing is set for {readable(place.nurse)} on {old.days.text(place.day)}: {_no_promise(old, place)}")
-    new = old.with_state(replace(old.state, set_days=tuple(other for other in old.state.set_days if other.place != place)))
+        raise Misuse(
+            f"nothing is set for {readable(place.nurse)} on {old.days.text(place.day)}: {_no_promise(old, place)}"
+        )
+    new = old.with_state(
+        replace(
+            old.state, set_days=tuple(other for other in old.state.set_days if other.place != place)
+        )
+    )
     return DaySet(old, new, promise, takes_back=True)
 
 
 def _no_promise(old: WardPlan, place: NurseDay) -> str:
     """What to do about a nurse's day for which nothing is set."""
     if place in old.held or old.away.get(place) == PROMISED:
-        return "the sheet plan promises it to her, so empty her cell of this day, and save the sheet"
+        return (
+            "the sheet plan promises it to her, so empty her cell of this day, and save the sheet"
+        )
     if place in old.state.agreed:
         return "the day is kept for a swap, which the same line as that of the swap, with --do, takes back"
     return "set it first, or type undo"
@@ -221,13 +279,19 @@ def end_of_week(old: WardPlan, event: Event) -> WeekOver:
     if not old.weeks:
         raise Misuse("all weeks are over")
     name = readable(next(iter(old.scenario.nurses)))
-    wording = _wording(old, event, f"over, or over {name} Fri off if {name} did not work on Friday, or over {name} Fri ill")
+    wording = _wording(
+        old,
+        event,
+        f"over, or over {name} Fri off if {name} did not work on Friday, or over {name} Fri ill",
+    )
     corrected = _Worked(dict(old.works), {})
     while not wording.is_over:
         _correct(old, wording, corrected)
     absences = old.state.absences
     for (nurse, day), word in corrected.away.items():
-        absences = with_days(absences, nurse, [day], word, lost_by(old, nurse, [day]) if word == ILL else {})
+        absences = with_days(
+            absences, nurse, [day], word, lost_by(old, nurse, [day]) if word == ILL else {}
+        )
     new = old.with_absences(absences) if corrected.away else old
     worked = plan_of(new.ward, new.state.with_open(corrected.cells.values()))
     state = replace(worked.state, open_week=old.state.open_week + 1)
@@ -240,14 +304,18 @@ def _correct(old: WardPlan, wording: Wording, worked: _Worked) -> None:
     nurse, day = wording.nurse(), wording.open_day()
     place = NurseDay(nurse, day)
     if day >= old.first + WEEK_DAYS:
-        raise Misuse(f"{old.days.text(day)} is after the week that ends now: the verb swap, or ill, changes later days")
+        raise Misuse(
+            f"{old.days.text(day)} is after the week that ends now: the verb swap, or ill, changes later days"
+        )
     worked.cells.pop(place, None)
     worked.away.pop(place, None)
     word = wording.one_of(AWAY)
     if word:
         worked.away[place] = word
         return
-    shift, skill = wording.shift([*old.scenario.shift_types, OFF], old.scenario.nurses[nurse].skills)
+    shift, skill = wording.shift(
+        [*old.scenario.shift_types, OFF], old.scenario.nurses[nurse].skills
+    )
     if shift != OFF:
         worked.cells[place] = Cell(nurse, day, shift, skill or _skill(old, place, shift))
         if old.away.get(place, ALWAYS_OFF) not in DAYS_OFF:
@@ -258,7 +326,12 @@ def _skill(old: WardPlan, place: NurseDay, shift: str) -> str:
     """The skill with which a nurse counts who worked another shift: her old one, or one that is asked for, if she has it."""
     before = old.works.get(place)
     skills = [*([before.skill] if before else []), *old.scenario.nurses[place.nurse].skills]
-    asked = [skill for skill in skills for need in [old.needs.get(Place(place.day, shift, skill))] if need and need.optimal]
+    asked = [
+        skill
+        for skill in skills
+        for need in [old.needs.get(Place(place.day, shift, skill))]
+        if need and need.optimal
+    ]
     return (asked or skills)[0]
 
 

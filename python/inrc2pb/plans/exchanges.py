@@ -79,16 +79,24 @@ class _RowCosts:
     hold and days away do not count here."""
 
     def __init__(self, plan: WardPlan, work: _Work) -> None:
-        types, self._past, self._work = list(plan.scenario.shift_types.values()), plan.past.nurses, work
+        types, self._past, self._work = (
+            list(plan.scenario.shift_types.values()),
+            plan.past.nurses,
+            work,
+        )
         self._contracts = {name: plan.scenario.contract_of(name) for name in plan.scenario.nurses}
         number = plan.days.total - plan.first
-        self._runs = {name: Runs(types, contract, number) for name, contract in self._contracts.items()}
+        self._runs = {
+            name: Runs(types, contract, number) for name, contract in self._contracts.items()
+        }
         self.numbers = {kind.name: index for index, kind in enumerate(types, 1)}
         self._wishes: Dict[str, List[Tuple[int, int]]] = {name: [] for name in plan.scenario.nurses}
         for week in plan.weeks:
             for wish in plan.data[week].requests:
                 day = WEEK_DAYS * week + wish.day - plan.first
-                self._wishes[wish.nurse].append((day, self.numbers[wish.shift] if wish.shift else 0))
+                self._wishes[wish.nurse].append(
+                    (day, self.numbers[wish.shift] if wish.shift else 0)
+                )
         self._known: Dict[Tuple[str, bytes], int] = {}
 
     def of(self, nurse: str, row: bytes) -> int:
@@ -100,7 +108,11 @@ class _RowCosts:
         return known
 
     def _cost(self, nurse: str, row: bytes) -> int:
-        runs, past, (minimum, most) = self._runs[nurse], self._past[nurse], self._contracts[nurse].assignments
+        runs, past, (minimum, most) = (
+            self._runs[nurse],
+            self._past[nurse],
+            self._contracts[nurse].assignments,
+        )
         state, cost = runs.before(past), 0
         for day, choice in enumerate(row):
             step, state = runs.steps(day, state)[choice]
@@ -108,25 +120,42 @@ class _RowCosts:
                 return NEVER
             cost += step
         total = past.assignments + len(row) - row.count(0)
-        weekends = past.weekends + sum(any(row[day : day + 2]) for day in range(SATURDAY, len(row), WEEK_DAYS))
+        weekends = past.weekends + sum(
+            any(row[day : day + 2]) for day in range(SATURDAY, len(row), WEEK_DAYS)
+        )
         cost += ASSIGNMENT_TOTAL * max(0, minimum - total, total - most)
         cost += WEEKEND_TOTAL * max(0, weekends - self._contracts[nurse].max_weekends)
-        return cost + REQUEST * sum(bool(row[day]) and choice in (0, row[day]) for day, choice in self._wishes[nurse])
+        return cost + REQUEST * sum(
+            bool(row[day]) and choice in (0, row[day]) for day, choice in self._wishes[nurse]
+        )
 
 
 class _Exchanges:
     """The rows of nurses, and exchanges in them, in a random order that is always the same."""
 
     def __init__(self, plan: WardPlan, first: int, work: _Work) -> None:
-        self._plan, self._alone, self._work, self._random = plan, NurseWeeks(plan), work, random.Random(1)
+        self._plan, self._alone, self._work, self._random = (
+            plan,
+            NurseWeeks(plan),
+            work,
+            random.Random(1),
+        )
         self._costs = _RowCosts(plan, work)
         self.rows: Dict[str, _Row] = dict(by_nurse(plan, plan.works))
         self._before = shares_before(plan, plan.first)
         self._firm = {*plan.held, *plan.state.kept}
         self._days = range(max(first, plan.first), plan.days.total)
-        self._spans = [_span(begin, end) for begin in self._days for end in range(begin + 1, self._days.stop + 1)]
+        self._spans = [
+            _span(begin, end)
+            for begin in self._days
+            for end in range(begin + 1, self._days.stop + 1)
+        ]
         self._groups = [group for group in contracts_of(plan).values() if len(group) > 1]
-        self._group = {nurse: number for number, group in enumerate(contracts_of(plan).values()) for nurse in group}
+        self._group = {
+            nurse: number
+            for number, group in enumerate(contracts_of(plan).values())
+            for nurse in group
+        }
         self._saturdays = _bits(range(SATURDAY, plan.days.total, WEEK_DAYS))
         self._works: Dict[str, _Bits] = {}
         self._nights: Dict[str, _Bits] = {}
@@ -147,15 +176,23 @@ class _Exchanges:
         for nurse, row in new.items():
             self._works[nurse] = _bits(row)
             self._nights[nurse] = _bits(day for day, cell in row.items() if cell.shift in nights)
-            self._choices[nurse] = bytes(numbers[row[day].shift] if day in row else 0 for day in days)
+            self._choices[nurse] = bytes(
+                numbers[row[day].shift] if day in row else 0 for day in days
+            )
 
     @property
     def is_even(self) -> bool:
         """Whether no exchange can help, since the numbers of each contract differ by one at most."""
         if self._is_even is None:
-            shared = evenness(self._plan.with_cells(cell for row in self.rows.values() for cell in row.values()))
+            shared = evenness(
+                self._plan.with_cells(cell for row in self.rows.values() for cell in row.values())
+            )
             spreads = (*shared.nights, *shared.weekends)
-            self._is_even = not self._groups or not self._days or all(spread.most <= spread.fewest + 1 for spread in spreads)
+            self._is_even = (
+                not self._groups
+                or not self._days
+                or all(spread.most <= spread.fewest + 1 for spread in spreads)
+            )
         return self._is_even
 
     def improved(self) -> bool:
@@ -203,7 +240,9 @@ class _Exchanges:
 
     def _any(self) -> _Exchange:
         """An exchange of two nurses of a contract, or of them and one more, on one row of days, or on two."""
-        pick, nurses = self._random.choice, self._random.sample(self._random.choice(self._groups), 2)
+        pick, nurses = self._random.choice, self._random.sample(
+            self._random.choice(self._groups), 2
+        )
         if pick(_NURSES) == 3 and len(self.rows) > 2:
             nurses.append(pick([nurse for nurse in self.rows if nurse not in nurses]))
         days = 0
@@ -216,7 +255,11 @@ class _Exchanges:
         """Whether each nurse may have what is given to her, and something changes."""
         self._work.takes(_FITTED)
         days = [day for day in self._days if exchange.days >> day & 1]
-        cells = [(nurse, day, self.rows[giver].get(day)) for nurse, giver in exchange.givers for day in days]
+        cells = [
+            (nurse, day, self.rows[giver].get(day))
+            for nurse, giver in exchange.givers
+            for day in days
+        ]
         changes = any(_kind(self.rows[nurse].get(day)) != _kind(cell) for nurse, day, cell in cells)
         return changes and all(self._may_have(nurse, day, cell) for nurse, day, cell in cells)
 
@@ -227,7 +270,9 @@ class _Exchanges:
         if NurseDay(nurse, day) in self._firm:
             return False
         has_skill = cell is None or cell.skill in self._plan.scenario.nurses[nurse].skills
-        return has_skill and (cell is None or not is_broken_by(self._plan.absences, cell._replace(nurse=nurse)))
+        return has_skill and (
+            cell is None or not is_broken_by(self._plan.absences, cell._replace(nurse=nurse))
+        )
 
     def _share(self, before: Share, works: _Bits, nights: _Bits) -> Share:
         """The nights and weekends of a nurse with these days."""
@@ -241,7 +286,11 @@ class _Exchanges:
         for nurse, giver in exchange.givers:
             works, at_night, before = self._works[nurse], self._nights[nurse], self._before[nurse]
             old = self._share(before, works, at_night)
-            now = self._share(before, works & ~days | self._works[giver] & days, at_night & ~days | self._nights[giver] & days)
+            now = self._share(
+                before,
+                works & ~days | self._works[giver] & days,
+                at_night & ~days | self._nights[giver] & days,
+            )
             if self._group[nurse] == group:
                 nights += now.nights**2 - old.nights**2
                 weekends += now.weekends**2 - old.weekends**2
@@ -262,22 +311,43 @@ class _Exchanges:
     def _exchanged(self, exchange: _Exchange) -> Tuple[int, Dict[str, _Row]]:
         """What an exchange costs, and the rows after it."""
         self._work.takes(_MADE)
-        mixed = {nurse: self._mixed(self._choices[nurse], self._choices[giver], exchange.days) for nurse, giver in exchange.givers}
-        added = sum(self._costs.of(nurse, row) - self._costs.of(nurse, self._choices[nurse]) for nurse, row in mixed.items())
-        return added, {nurse: self._row(nurse, giver, exchange.days) for nurse, giver in exchange.givers}
+        mixed = {
+            nurse: self._mixed(self._choices[nurse], self._choices[giver], exchange.days)
+            for nurse, giver in exchange.givers
+        }
+        added = sum(
+            self._costs.of(nurse, row) - self._costs.of(nurse, self._choices[nurse])
+            for nurse, row in mixed.items()
+        )
+        return added, {
+            nurse: self._row(nurse, giver, exchange.days) for nurse, giver in exchange.givers
+        }
 
     def _mixed(self, own: bytes, given: bytes, days: _Bits) -> bytes:
         """A nurse's choices with those that are given to her on these days."""
-        return bytes(there if days >> day & 1 else here for day, (here, there) in enumerate(zip(own, given), self._plan.first))
+        return bytes(
+            there if days >> day & 1 else here
+            for day, (here, there) in enumerate(zip(own, given), self._plan.first)
+        )
 
     def _row(self, nurse: str, giver: str, days: _Bits) -> _Row:
         """A nurse's shifts with those of another one on these days."""
         kept = {day: cell for day, cell in self.rows[nurse].items() if not days >> day & 1}
-        return {**kept, **{day: cell._replace(nurse=nurse) for day, cell in self.rows[giver].items() if days >> day & 1}}
+        return {
+            **kept,
+            **{
+                day: cell._replace(nurse=nurse)
+                for day, cell in self.rows[giver].items()
+                if days >> day & 1
+            },
+        }
 
     def _keeps_all(self, new: Mapping[str, _Row]) -> bool:
         """Whether these rows break nothing that holds, and exceed it by no more, than those of now."""
-        before, now = ([sum(numbers) for numbers in zip(*(self._broken(nurse, rows[nurse]) for nurse in new))] for rows in (self.rows, new))
+        before, now = (
+            [sum(numbers) for numbers in zip(*(self._broken(nurse, rows[nurse]) for nurse in new))]
+            for rows in (self.rows, new)
+        )
         return all(number <= older for number, older in zip(now, before))
 
     def _broken(self, nurse: str, row: _Row) -> Tuple[int, int, int]:
@@ -286,7 +356,11 @@ class _Exchanges:
         if key not in self._known:
             self._work.takes(_JUDGED)
             alone = self._alone
-            self._known[key] = len(alone.faults(nurse, row)), alone.excess(nurse, row), alone.excess_beside(nurse, row)
+            self._known[key] = (
+                len(alone.faults(nurse, row)),
+                alone.excess(nurse, row),
+                alone.excess_beside(nurse, row),
+            )
         return self._known[key]
 
 

@@ -90,7 +90,9 @@ def unkept(plan: WardPlan) -> List[Unkept]:
     missed: List[Unkept] = []
     for number in plan.weeks:
         week, cells = plan.week(number), plan.state.roster(number)
-        working, above = working_while_away(absences_of(week.data), cells), exceeded(week, week.data.limits, cells)
+        working, above = working_while_away(absences_of(week.data), cells), exceeded(
+            week, week.data.limits, cells
+        )
         if working:
             missed.append(Unkept(number, working=tuple(working)))
         if above:
@@ -120,17 +122,36 @@ def too_many_shifts(plan: WardPlan) -> List[TooMany]:
         return []
     too_many: List[TooMany] = []
     for (fact, _), (kept, _) in zip(plan.ward.claims, plan.limits):
-        if isinstance(fact, Charged) and isinstance(kept, Charged) and fact.kind == SHIFTS and fact.nurse is not None:
-            contract, shifts = plan.scenario.contract_of(fact.nurse).assignments.maximum, plan.shifts_of(fact.nurse)
+        if (
+            isinstance(fact, Charged)
+            and isinstance(kept, Charged)
+            and fact.kind == SHIFTS
+            and fact.nurse is not None
+        ):
+            contract, shifts = plan.scenario.contract_of(
+                fact.nurse
+            ).assignments.maximum, plan.shifts_of(fact.nurse)
             most = contract + fact.most
             if shifts > most:
-                too_many.append(TooMany(fact.nurse, shifts, most, contract + kept.most, _last_to_take(plan, fact.nurse, shifts - most)))
+                too_many.append(
+                    TooMany(
+                        fact.nurse,
+                        shifts,
+                        most,
+                        contract + kept.most,
+                        _last_to_take(plan, fact.nurse, shifts - most),
+                    )
+                )
     return too_many
 
 
 def _last_to_take(plan: WardPlan, nurse: str, number: int) -> Optional[int]:
     """The last day from which a plan can take so many shifts of a nurse away: they are not over, not held, and not on days away."""
-    free = sorted(place.day for place in plan.works if place.nurse == nurse and place not in plan.held and place not in plan.away)
+    free = sorted(
+        place.day
+        for place in plan.works
+        if place.nurse == nurse and place not in plan.held and place not in plan.away
+    )
     return free[-number] if len(free) >= number else None
 
 
@@ -151,11 +172,26 @@ def newly_exceeded(old: Optional[WardPlan], new: WardPlan) -> bool:
 
 def _exceeded(plan: WardPlan) -> Dict[_Exceeded, int]:
     """By how much each maximum that holds is exceeded, with shifts for days away and with days in a row with training."""
-    exceeded_by: Dict[_Exceeded, int] = {(charge.nurse or "", charge.rule, week): charge.times for week, charge in exceeded_in_weeks(plan)}
-    exceeded_by.update({(many.nurse, _TOTAL, 0): many.shifts - many.most for many in too_many_shifts(plan)})
-    kept = {fact.nurse for fact, _ in plan.limits if isinstance(fact, Charged) and fact.kind == WORK_DAYS}
+    exceeded_by: Dict[_Exceeded, int] = {
+        (charge.nurse or "", charge.rule, week): charge.times
+        for week, charge in exceeded_in_weeks(plan)
+    }
+    exceeded_by.update(
+        {(many.nurse, _TOTAL, 0): many.shifts - many.most for many in too_many_shifts(plan)}
+    )
+    kept = {
+        fact.nurse
+        for fact, _ in plan.limits
+        if isinstance(fact, Charged) and fact.kind == WORK_DAYS
+    }
     rows = beside_days_away(plan) if plan.is_planned else []
-    exceeded_by.update({(row.nurse, WORK_DAYS, row.days[0]): row.number - row.most for row in rows if row.nurse in kept and not row.shift})
+    exceeded_by.update(
+        {
+            (row.nurse, WORK_DAYS, row.days[0]): row.number - row.most
+            for row in rows
+            if row.nurse in kept and not row.shift
+        }
+    )
     return exceeded_by
 
 
@@ -168,24 +204,50 @@ def beside_of(plan: WardPlan, away: DaysAway, shifts: Mapping[NurseDay, str]) ->
     """The same with these days away and shift types, both by the days from the first one that is not over."""
     first = plan.first
     rows = long_rows(plan.scenario, plan.past, away, shifts)
-    odd = [Beside(row.nurse, (first + row.days[0], first + row.days[-1]), row.number, row.most) for row in rows]
-    known = {**{NurseDay(nurse, -1): before.last_shift or "" for nurse, before in plan.past.nurses.items()}, **shifts}
+    odd = [
+        Beside(row.nurse, (first + row.days[0], first + row.days[-1]), row.number, row.most)
+        for row in rows
+    ]
+    known = {
+        **{
+            NurseDay(nurse, -1): before.last_shift or ""
+            for nurse, before in plan.past.nurses.items()
+        },
+        **shifts,
+    }
     for nurse, day in nights_before(away, known):
         word = plan.away[NurseDay(nurse, first + day)]
-        odd.append(Beside(nurse, (first + day - 1, first + day), shift=known[NurseDay(nurse, day - 1)], word=word))
+        odd.append(
+            Beside(
+                nurse,
+                (first + day - 1, first + day),
+                shift=known[NurseDay(nurse, day - 1)],
+                word=word,
+            )
+        )
     return odd
 
 
 def sums(plan: WardPlan) -> Dict[str, Sums]:
     """What each nurse has in the whole period: in weeks that are over, and in those that are planned."""
-    wishes = [replace(wish, day=WEEK_DAYS * number + wish.day) for number, week in enumerate(plan.data) for wish in wishes_of(week)]
-    return sums_of(plan.scenario.nurses, plan.state.cells, wishes, plan.days_away.nights, plan.ward.times)
+    wishes = [
+        replace(wish, day=WEEK_DAYS * number + wish.day)
+        for number, week in enumerate(plan.data)
+        for wish in wishes_of(week)
+    ]
+    return sums_of(
+        plan.scenario.nurses, plan.state.cells, wishes, plan.days_away.nights, plan.ward.times
+    )
 
 
 def refused_wishes(plan: WardPlan) -> List[Request]:
     """The wishes of the weeks that are not over that the plan does not grant, with days of the plan."""
     works = {(cell.nurse, cell.day, shift) for cell in plan.cells for shift in (cell.shift, None)}
-    asked = [replace(wish, day=WEEK_DAYS * number + wish.day) for number in plan.weeks for wish in wishes_of(plan.data[number])]
+    asked = [
+        replace(wish, day=WEEK_DAYS * number + wish.day)
+        for number in plan.weeks
+        for wish in wishes_of(plan.data[number])
+    ]
     return [wish for wish in dict.fromkeys(asked) if (wish.nurse, wish.day, wish.shift) in works]
 
 
@@ -232,14 +294,28 @@ def _due(plan: WardPlan, number: int, charge: Charge, nurse: str) -> Tuple[int, 
 
 def _away_words(plan: WardPlan, nurse: str, days: Iterable[int]) -> Tuple[str, ...]:
     """Why the nurse is away on some of these days."""
-    return tuple(dict.fromkeys(plan.ward.reasons[NurseDay(nurse, day)] for day in days if NurseDay(nurse, day) in plan.ward.reasons))
+    return tuple(
+        dict.fromkeys(
+            plan.ward.reasons[NurseDay(nurse, day)]
+            for day in days
+            if NurseDay(nurse, day) in plan.ward.reasons
+        )
+    )
 
 
 def broken_agreements(old: WardPlan, new: WardPlan) -> List[Agreement]:
     """What a new plan does not keep of the days of swaps, and of those that were set. A promise to a nurse who is away is told once: the
     older plan had kept it."""
     kept = {*new.state.agreed, *new.state.promised}
-    swaps = [Agreement(place, old.works.get(place)) for place in old.state.agreed if place not in kept]
-    broken = [promise for promise in new.state.set_days if new.works.get(promise.place) != promise.cell]
-    told = [promise for promise in broken if promise.place not in new.away or old.works.get(promise.place) == promise.cell]
+    swaps = [
+        Agreement(place, old.works.get(place)) for place in old.state.agreed if place not in kept
+    ]
+    broken = [
+        promise for promise in new.state.set_days if new.works.get(promise.place) != promise.cell
+    ]
+    told = [
+        promise
+        for promise in broken
+        if promise.place not in new.away or old.works.get(promise.place) == promise.cell
+    ]
     return [*swaps, *(Agreement(promise.place, promise.cell, is_set=True) for promise in told)]

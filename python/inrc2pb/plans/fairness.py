@@ -57,14 +57,24 @@ def _share(plan: WardPlan, row: Mapping[int, Cell]) -> Share:
 def evenness(plan: WardPlan) -> Evenness:
     """How even a plan is."""
     by_nurse, owners = shares(plan), contracts_of(plan)
-    nights = {name: [by_nurse[nurse].nights for nurse in nurses if may_work_nights(plan, nurse)] for name, nurses in owners.items()}
-    weekends = {name: [by_nurse[nurse].weekends for nurse in nurses if may_work_weekends(plan, nurse)] for name, nurses in owners.items()}
+    nights = {
+        name: [by_nurse[nurse].nights for nurse in nurses if may_work_nights(plan, nurse)]
+        for name, nurses in owners.items()
+    }
+    weekends = {
+        name: [by_nurse[nurse].weekends for nurse in nurses if may_work_weekends(plan, nurse)]
+        for name, nurses in owners.items()
+    }
     return Evenness(_spreads(nights), _spreads(weekends))
 
 
 def _spreads(numbers: Mapping[str, Sequence[int]]) -> Tuple[Spread, ...]:
     """The fewest and the most of each contract that several nurses have, unless all have none."""
-    return tuple(Spread(name, min(some), max(some)) for name, some in numbers.items() if len(some) > 1 and any(some))
+    return tuple(
+        Spread(name, min(some), max(some))
+        for name, some in numbers.items()
+        if len(some) > 1 and any(some)
+    )
 
 
 def contracts_of(plan: WardPlan) -> Dict[str, List[str]]:
@@ -90,5 +100,9 @@ def may_work_weekends(plan: WardPlan, nurse: str) -> bool:
 def _places_of(plan: WardPlan, nurse: str) -> Iterator[Cell]:
     """The shifts that a nurse could have, by her skills and absences."""
     skills = plan.scenario.nurses[nurse].skills
-    cells = (Cell(nurse, *place) for place, needed in plan.needs.items() if needed.optimal and place.skill in skills)
+    cells = (
+        Cell(nurse, *place)
+        for place, needed in plan.needs.items()
+        if needed.optimal and place.skill in skills
+    )
     return (cell for cell in cells if not is_broken_by(plan.absences, cell))

@@ -42,7 +42,9 @@ def _looks(files: Iterable[Path]) -> Tuple[Tuple[str, int, int, int], ...]:
     looks = []
     for path in files:
         look = path.stat()
-        looks.append((str(path), max(look.st_mtime_ns, look.st_ctime_ns), look.st_size, look.st_ino))
+        looks.append(
+            (str(path), max(look.st_mtime_ns, look.st_ctime_ns), look.st_size, look.st_ino)
+        )
     return tuple(looks)
 
 
@@ -53,4 +55,6 @@ class KeptSheet:
         self._read, self._kept = read, Kept[Ward]()
 
     def __call__(self, path: Path, name: Optional[str], absences: Sequence[DayWord]) -> Ward:
-        return self._kept.of(tables_of(path), (name, tuple(absences)), lambda: self._read(path, name, absences))
+        return self._kept.of(
+            tables_of(path), (name, tuple(absences)), lambda: self._read(path, name, absences)
+        )

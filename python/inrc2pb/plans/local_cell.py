@@ -30,8 +30,21 @@ def cell_address(address: str, place: NurseDay) -> str:
 class Actions:
     """What can be done with a nurse's day of a plan. `agreed` is the swap that was written for it, if there is one."""
 
-    def __init__(self, plan: WardPlan, place: NurseDay, address: str, stamp: str, agreed: Optional[Swap] = None) -> None:
-        self._plan, self._place, self._address, self._stamp, self._agreed = plan, place, address, stamp, agreed
+    def __init__(
+        self,
+        plan: WardPlan,
+        place: NurseDay,
+        address: str,
+        stamp: str,
+        agreed: Optional[Swap] = None,
+    ) -> None:
+        self._plan, self._place, self._address, self._stamp, self._agreed = (
+            plan,
+            place,
+            address,
+            stamp,
+            agreed,
+        )
         self._swaps = Swaps(plan)
         self._promise = plan.state.promised.get(place)
         self._first = plan.days.head(place.day)
@@ -40,13 +53,25 @@ class Actions:
         """The section of the page: what she has, what can be done, and what her week costs."""
         nurse, day = self._place
         heading = element("h2", f"{readable(nurse)}, {self._plan.days.text(day)}: {self._has()}")
-        groups = [group for group in (self._others(), self._shifts(), self._away(), self._back()) if group]
-        return element("section", heading, self._days(), element("div", *groups, class_="actions"), self._charges(), id=CELL)
+        groups = [
+            group for group in (self._others(), self._shifts(), self._away(), self._back()) if group
+        ]
+        return element(
+            "section",
+            heading,
+            self._days(),
+            element("div", *groups, class_="actions"),
+            self._charges(),
+            id=CELL,
+        )
 
     def _has(self) -> str:
         """Her shift, or why she is off, and whether it is promised to her, with the reason."""
         word = self._plan.away.get(self._place, OFF)
-        has = cell_text(self._swaps.works(*self._place), f"{OFF}, {PROMISED} by the spreadsheet" if word == PROMISED else word)
+        has = cell_text(
+            self._swaps.works(*self._place),
+            f"{OFF}, {PROMISED} by the spreadsheet" if word == PROMISED else word,
+        )
         if not self._kept_promise:
             return has
         return f"{has}, {PROMISED}{f' ({self._kept_promise.reason})' if self._kept_promise.reason else ''}"
@@ -54,20 +79,43 @@ class Actions:
     @property
     def _kept_promise(self) -> Optional[SetDay]:
         """What was promised for the day, if the plan has it so."""
-        return self._promise if self._promise and self._swaps.works(*self._place) == self._promise.cell else None
+        return (
+            self._promise
+            if self._promise and self._swaps.works(*self._place) == self._promise.cell
+            else None
+        )
 
     def _days(self) -> Markup:
         """Links to her other days, and a form for one that is far away."""
         nurse, day = self._place
-        beside = [(day - 1, f"\u2039 {self._plan.days.text(day - 1)}"), (day + 1, f"{self._plan.days.text(day + 1)} \u203a")]
-        inside = [(other, text) for other, text in beside if self._plan.first <= other < self._plan.days.total]
-        links = [element("a", text, href=cell_address(self._address, NurseDay(nurse, other))) for other, text in inside]
-        return element("p", *(joined(link, " ") for link in links), element("a", "Close", href=self._address), class_="links")
+        beside = [
+            (day - 1, f"\u2039 {self._plan.days.text(day - 1)}"),
+            (day + 1, f"{self._plan.days.text(day + 1)} \u203a"),
+        ]
+        inside = [
+            (other, text)
+            for other, text in beside
+            if self._plan.first <= other < self._plan.days.total
+        ]
+        links = [
+            element("a", text, href=cell_address(self._address, NurseDay(nurse, other)))
+            for other, text in inside
+        ]
+        return element(
+            "p",
+            *(joined(link, " ") for link in links),
+            element("a", "Close", href=self._address),
+            class_="links",
+        )
 
     def _button(self, text: str, **words: str) -> Markup:
         """A button for an event of this nurse's day."""
         fields = {"nurse": self._place.nurse, "first": self._first, STAMP: self._stamp}
-        return button_markup({**fields, **{name.replace("_", " "): value for name, value in words.items()}}, text, self._address)
+        return button_markup(
+            {**fields, **{name.replace("_", " "): value for name, value in words.items()}},
+            text,
+            self._address,
+        )
 
     def _others(self) -> Optional[Markup]:
         """Who could take her shift, the cheapest first."""
@@ -76,10 +124,17 @@ class Actions:
             return None
         offers = offers_of(self._swaps, nurse, day)
         if not offers.offers:
-            return _group("Someone else takes it", [element("p", f"Nobody can take it: {nobody_text(offers)}.")])
+            return _group(
+                "Someone else takes it",
+                [element("p", f"Nobody can take it: {nobody_text(offers)}.")],
+            )
         buttons = []
         for offer in offers.offers[:MOST_OFFERS]:
-            others = {"other_day": self._plan.days.head(other) for other in offer.swap.days if other != day}
+            others = {
+                "other_day": self._plan.days.head(other)
+                for other in offer.swap.days
+                if other != day
+            }
             words = {"verb": "swap", "other": offer.swap.other, "write_it": "yes", **others}
             buttons.append(self._button(offer_text(self._swaps, offer).strip(), **words))
         return _group("Someone else takes it", buttons)
@@ -95,11 +150,30 @@ class Actions:
             name = cell_text(cell, f"{OFF}, {PROMISED}")
             faults = self._swaps.day_faults(self._place, cell)
             if faults:
-                refused.append(element("li", f"{name}: {', '.join(fault_text(self._plan, fault) for fault in faults)}"))
+                refused.append(
+                    element(
+                        "li",
+                        f"{name}: {', '.join(fault_text(self._plan, fault) for fault in faults)}",
+                    )
+                )
             else:
-                keeps = ", as now, and later plans keep it" if cell == self._swaps.works(*self._place) else ""
-                buttons.append(self._button(f"{self._swaps.day_cost(self._place, cell):+}  {name}{keeps}", verb="set", shift=shift))
-        why = [element("details", element("summary", "Not possible"), element("ul", *refused))] if refused else []
+                keeps = (
+                    ", as now, and later plans keep it"
+                    if cell == self._swaps.works(*self._place)
+                    else ""
+                )
+                buttons.append(
+                    self._button(
+                        f"{self._swaps.day_cost(self._place, cell):+}  {name}{keeps}",
+                        verb="set",
+                        shift=shift,
+                    )
+                )
+        why = (
+            [element("details", element("summary", "Not possible"), element("ul", *refused))]
+            if refused
+            else []
+        )
         return _group("She has another shift, or a promised day off", [*buttons, *why])
 
     def _choices(self) -> Iterator[Tuple[str, Optional[Cell]]]:
@@ -122,14 +196,41 @@ class Actions:
         if self._is_away:
             return None
         later = range(self._place.day + 1, self._plan.days.total)
-        choices = [("", "this day only"), *((self._plan.days.head(day), f"to {self._plan.days.text(day)}") for day in later)]
+        choices = [
+            ("", "this day only"),
+            *((self._plan.days.head(day), f"to {self._plan.days.text(day)}") for day in later),
+        ]
         options = [element("option", text, value=value) for value, text in choices]
-        fields = {"verb": "away", "nurse": self._place.nurse, "first": self._first, STAMP: self._stamp}
-        hidden = [element("input", type="hidden", name=name, value=value) for name, value in fields.items()]
+        fields = {
+            "verb": "away",
+            "nurse": self._place.nurse,
+            "first": self._first,
+            STAMP: self._stamp,
+        }
+        hidden = [
+            element("input", type="hidden", name=name, value=value)
+            for name, value in fields.items()
+        ]
         words = ("ill", *(word for word in AWAY if word != "ill"))
-        buttons = [joined(element("button", word, name="reason", value=word), " ") for word in words]
+        buttons = [
+            joined(element("button", word, name="reason", value=word), " ") for word in words
+        ]
         select = element("select", *options, name="last", aria_label="last day")
-        return _group("She is away", [element("form", *hidden, select, " ", *buttons, method="post", action=self._address, class_="words")])
+        return _group(
+            "She is away",
+            [
+                element(
+                    "form",
+                    *hidden,
+                    select,
+                    " ",
+                    *buttons,
+                    method="post",
+                    action=self._address,
+                    class_="words",
+                )
+            ],
+        )
 
     def _back(self) -> Optional[Markup]:
         """What was written for this day is taken back: an absence, a day that was set, or a swap."""
@@ -138,14 +239,28 @@ class Actions:
 
     def _taken_back(self) -> Iterator[Markup]:
         if self._is_away:
-            yield self._button(f"she is back from this day on ({self._plan.away[self._place]})", verb="back")
+            yield self._button(
+                f"she is back from this day on ({self._plan.away[self._place]})", verb="back"
+            )
         if self._promise:
-            yield self._button("what was promised for this day: swaps and later plans may change it", verb="set", shift=BACK)
+            yield self._button(
+                "what was promised for this day: swaps and later plans may change it",
+                verb="set",
+                shift=BACK,
+            )
         if self._agreed:
             first, other, days = self._agreed
             nurse = other if first == self._place.nurse else first
-            others = {"other_day": self._plan.days.head(day) for day in days if day != self._place.day}
-            yield self._button(f"the swap with {readable(nurse)}", verb="swap", other=nurse, write_it="yes", **others)
+            others = {
+                "other_day": self._plan.days.head(day) for day in days if day != self._place.day
+            }
+            yield self._button(
+                f"the swap with {readable(nurse)}",
+                verb="swap",
+                other=nurse,
+                write_it="yes",
+                **others,
+            )
 
     def _charges(self) -> Markup:
         """What she is charged in the week of the day."""
@@ -157,7 +272,10 @@ class Actions:
             return element("p", "This week has no cost, since it breaks a hard rule.")
         if not charged:
             return element("p", "Nothing is charged to her in this week.")
-        items = [element("li", readable(f"{charge.cost} points: {in_words(charge, False, names)}")) for charge in charged]
+        items = [
+            element("li", readable(f"{charge.cost} points: {in_words(charge, False, names)}"))
+            for charge in charged
+        ]
         return joined(element("p", "Her week costs:"), element("ul", *items))
 
 

@@ -25,7 +25,9 @@ class Changed(Misuse):
 
     def __init__(self) -> None:
         now = "look at the plan below, and press the button again"
-        super().__init__(f"this form was shown for an older plan, so nothing was written by it: {now}")
+        super().__init__(
+            f"this form was shown for an older plan, so nothing was written by it: {now}"
+        )
 
 
 class Busy(Misuse):
@@ -48,7 +50,9 @@ class Said(NamedTuple):
     @property
     def ends_period(self) -> bool:
         """Whether it says that a period is over."""
-        return isinstance(self.fault, PeriodOver) or (isinstance(self.outcome, WeekOver) and self.outcome.next is None)
+        return isinstance(self.fault, PeriodOver) or (
+            isinstance(self.outcome, WeekOver) and self.outcome.next is None
+        )
 
     @property
     def look(self) -> Optional[Planned]:
@@ -64,9 +68,16 @@ class Said(NamedTuple):
 class Jobs:
     """The events of a folder. `stop` ends the one that runs, which keeps its best plan."""
 
-    def __init__(self, folder: WardFolder, read: Reader, signals: Interrupts, seconds: Optional[float] = None) -> None:
+    def __init__(
+        self, folder: WardFolder, read: Reader, signals: Interrupts, seconds: Optional[float] = None
+    ) -> None:
         # The seconds of a search, if they are not the usual ones.
-        self.folder, self.seconds, self._read, self._signals = folder, seconds, KeptSheet(read), signals
+        self.folder, self.seconds, self._read, self._signals = (
+            folder,
+            seconds,
+            KeptSheet(read),
+            signals,
+        )
         self._lock = threading.Lock()
         self._thread: Optional[threading.Thread] = None
         self._spoken = io.StringIO()
@@ -75,7 +86,10 @@ class Jobs:
     def verbs(self, spoken: Optional[io.StringIO] = None) -> Verbs:
         """The verbs of the folder, which say to this text how far they are."""
         text = spoken or io.StringIO()
-        return Verbs(self.folder, Means(self._read, WardProgress(text), lambda line: print(line, file=text), ""))
+        return Verbs(
+            self.folder,
+            Means(self._read, WardProgress(text), lambda line: print(line, file=text), ""),
+        )
 
     def asked(self, event: Event) -> Said:
         """What an event comes to before it is done, as a question says it, or the fault that it would have."""
@@ -106,7 +120,11 @@ class Jobs:
 
     def said(self) -> Said:
         """What the last event has said until now."""
-        return Said(self._spoken.getvalue().splitlines(), self._said.fields, runs=True) if self.runs else self._said
+        return (
+            Said(self._spoken.getvalue().splitlines(), self._said.fields, runs=True)
+            if self.runs
+            else self._said
+        )
 
     def begin(self, event: Event, fields: Fields, stamp: Optional[str]) -> None:
         """Begins to do what a form asks for, if the plan that holds has this stamp, or with any plan; a plan that was found for the same
@@ -117,10 +135,14 @@ class Jobs:
             self._spoken = io.StringIO()
             failed = Misuse("this failed: the terminal of inrc2pb-plan says why")
             self._said = Said([str(failed)], fields, fault=failed)
-            self._thread = threading.Thread(target=self._run, args=(event, stamp, self._spoken, planned))
+            self._thread = threading.Thread(
+                target=self._run, args=(event, stamp, self._spoken, planned)
+            )
             self._thread.start()
 
-    def _run(self, event: Event, stamp: Optional[str], spoken: io.StringIO, planned: Optional[Planned]) -> None:
+    def _run(
+        self, event: Event, stamp: Optional[str], spoken: io.StringIO, planned: Optional[Planned]
+    ) -> None:
         fields = self._said.fields
         try:
             with self.folder.locked(lambda line: print(line, file=spoken)):

@@ -86,18 +86,32 @@ def roster_of(top: Path, plan: WardPlan, address: str) -> Roster:
     content = replace(roster_content(top, plan), link=link)
     table, notes = RosterTable(content), [element("p", note) for note in content.notes]
     legend = element("ul", *(element("li", line) for line in table.legend()), class_="legend")
-    hint = element("p", "Click a nurse's day, or by keyboard her name: what it costs, and what can be done with it.")
+    hint = element(
+        "p",
+        "Click a nurse's day, or by keyboard her name: what it costs, and what can be done with it.",
+    )
     points = content.view.penalty
-    return Roster("" if points is None else f"{points} points. ", joined(*notes, hint, *table.tables(), legend))
+    return Roster(
+        "" if points is None else f"{points} points. ",
+        joined(*notes, hint, *table.tables(), legend),
+    )
 
 
 def page_markup(plan: Optional[WardPlan], shown: Shown, address: str) -> str:
     """The page: what was said or is asked, what can be done with the cell that was clicked, the roster, and below it the forms. While a
-    verb runs it loads itself again and again, and has no plan, which would take the time of the search."""
+    verb runs it loads itself again and again, and has no plan, which would take the time of the search.
+    """
     name, said = shown.name, shown.said
     # A cell that was clicked, a question, and a form that was refused take the place of an older verb's answer.
-    is_old = bool(shown.asks) or (not said.runs and (bool(plan and shown.refused) or (shown.place is not None and not said.fault)))
-    parts: List[Markup] = [element("h1", name), *_lines(shown.refused, True), *([] if is_old else _said(said, shown, address))]
+    is_old = bool(shown.asks) or (
+        not said.runs
+        and (bool(plan and shown.refused) or (shown.place is not None and not said.fault))
+    )
+    parts: List[Markup] = [
+        element("h1", name),
+        *_lines(shown.refused, True),
+        *([] if is_old else _said(said, shown, address)),
+    ]
     if shown.asks:
         parts.append(sure_markup(shown.asks, plan, address, shown.lines))
     elif plan and not said.runs:
@@ -109,7 +123,11 @@ def page_markup(plan: Optional[WardPlan], shown: Shown, address: str) -> str:
         parts.append(_roster(plan, shown.roster, shown, address))
     if plan and not shown.asks and not said.runs:
         parts.append(_forms(plan, shown, address))
-    chosen = f'\ntd a[href="{cell_address(address, shown.place)}"] {{ outline: 3px solid #05c }}' if shown.place else ""
+    chosen = (
+        f'\ntd a[href="{cell_address(address, shown.place)}"] {{ outline: 3px solid #05c }}'
+        if shown.place
+        else ""
+    )
     heads = [element("style", Markup(page_style() + STYLE + chosen))]
     if said.runs:
         heads.append(element("meta", http_equiv="refresh", content=str(REFRESH_SECONDS)))
@@ -123,20 +141,41 @@ def _forms(plan: WardPlan, shown: Shown, address: str) -> Markup:
     forms.sort(key=lambda form: bool(form.fields))
     kept = shown.kept
     parts = [
-        form_markup(form, plan, address, stamp=shown.stamp, kept=kept if form.verb == kept.get("verb") else {}, seconds=shown.seconds)
+        form_markup(
+            form,
+            plan,
+            address,
+            stamp=shown.stamp,
+            kept=kept if form.verb == kept.get("verb") else {},
+            seconds=shown.seconds,
+        )
         for form in forms
     ]
     guide = element("p", _GUIDE.format(shown.spreadsheet))
-    return element("section", guide, *parts, element("p", *_linked(_worked(shown), address), class_="links"), id=_FORMS)
+    return element(
+        "section",
+        guide,
+        *parts,
+        element("p", *_linked(_worked(shown), address), class_="links"),
+        id=_FORMS,
+    )
 
 
 def _without_plan(shown: Shown, address: str) -> List[Markup]:
     """What there is if the spreadsheet has a fault, or not yet the days of the next period."""
     again = element("a", "load this page again", href=address)
-    begin = "Correct that in" if shown.said.fault else "Write the days of the next period into the sheet plan of"
+    begin = (
+        "Correct that in"
+        if shown.said.fault
+        else "Write the days of the next period into the sheet plan of"
+    )
     return [
         element("p", f"{begin} {shown.spreadsheet}, save it, and ", again, "."),
-        *(form_markup(form, None, address, shown.stamp) for form in FORMS if not (form.needs_plan or form.fields)),
+        *(
+            form_markup(form, None, address, shown.stamp)
+            for form in FORMS
+            if not (form.needs_plan or form.fields)
+        ),
         element("p", *_linked(_worked(shown), address), class_="links"),
     ]
 
@@ -164,17 +203,33 @@ def _lines(lines: Sequence[str], is_fault: bool) -> List[Markup]:
 
 def _said(said: Said, shown: Shown, address: str) -> List[Markup]:
     """The lines of the last verb, and a button that stops it, that takes back what it wrote, or that writes that of which it tells."""
-    stop = element("form", element("button", "Stop, and keep the best plan", name="verb", value="stop"), method="post", action=address)
+    stop = element(
+        "form",
+        element("button", "Stop, and keep the best plan", name="verb", value="stop"),
+        method="post",
+        action=address,
+    )
     outcome = said.outcome
     is_look = isinstance(outcome, Swapped) and not outcome.is_written and not outcome.faults
     words = {name: value for name, value in shown.kept.items() if value}
-    write = [button_markup({**words, "write it": "yes"}, "Write this swap", address)] if is_look else []
+    write = (
+        [button_markup({**words, "write it": "yes"}, "Write this swap", address)] if is_look else []
+    )
     if isinstance(outcome, (Away, Planned, WeekOver)) and not outcome.is_written:
         asked = {name: value for name, value in said.fields.items() if value}
         write = [button_markup({**asked, "write it": "yes"}, "Write it all the same", address)]
     is_written = outcome is not None and outcome.is_written and not said.is_undo
-    undo = [button_markup({"verb": "undo", STAMP: shown.stamp}, "Take it back", address)] if is_written and not shown.asks else []
-    return [*_lines(said.lines, said.fault is not None), *([stop] if said.runs else []), *write, *undo]
+    undo = (
+        [button_markup({"verb": "undo", STAMP: shown.stamp}, "Take it back", address)]
+        if is_written and not shown.asks
+        else []
+    )
+    return [
+        *_lines(said.lines, said.fault is not None),
+        *([stop] if said.runs else []),
+        *write,
+        *undo,
+    ]
 
 
 def _worked(shown: Shown) -> List[Tuple[str, str]]:
@@ -186,7 +241,13 @@ def _roster(plan: WardPlan, roster: Roster, shown: Shown, address: str) -> Marku
     """The roster, and links to its other pages."""
     calendars = [("Calendars", CALENDARS)] if plan.days.monday else []
     to_forms = [] if shown.asks else [element("a", "All buttons", href=f"#{_FORMS}"), " "]
-    links = [*to_forms, *_linked([("Costs, totals and coverage", "roster"), ("Page for the wall", "wall"), *calendars], address)]
+    links = [
+        *to_forms,
+        *_linked(
+            [("Costs, totals and coverage", "roster"), ("Page for the wall", "wall"), *calendars],
+            address,
+        ),
+    ]
     return element("section", element("p", roster.points, *links, class_="links"), roster.tables)
 
 
@@ -197,9 +258,24 @@ def _linked(links: Sequence[Tuple[str, str]], address: str) -> List[Markup]:
 
 def calendars_markup(plan: WardPlan, address: str, there: Collection[str]) -> str:
     """The page with a link to the calendar of each nurse, as far as they are there."""
-    links = [(readable(nurse), name) for nurse, name in file_names(plan.scenario.nurses).items() if name in there]
-    items = [element("li", element("a", nurse, href=f"{address}{CALENDARS}/{quote(name)}")) for nurse, name in links]
-    text = "Each opens in a calendar program." if items else "There are none yet: the button Publish writes them, if the plan has dates."
+    links = [
+        (readable(nurse), name)
+        for nurse, name in file_names(plan.scenario.nurses).items()
+        if name in there
+    ]
+    items = [
+        element("li", element("a", nurse, href=f"{address}{CALENDARS}/{quote(name)}"))
+        for nurse, name in links
+    ]
+    text = (
+        "Each opens in a calendar program."
+        if items
+        else "There are none yet: the button Publish writes them, if the plan has dates."
+    )
     back = element("p", element("a", "Back", href=address))
     style = element("style", Markup(page_style() + STYLE))
-    return page_of("Calendars", [style], [element("h1", "Calendars"), element("p", text), element("ul", *items), back])
+    return page_of(
+        "Calendars",
+        [style],
+        [element("h1", "Calendars"), element("p", text), element("ul", *items), back],
+    )

@@ -51,7 +51,10 @@ class _Handler(BaseHTTPRequestHandler):
             raise
         except OSError as fault:
             what = f"{fault.filename or self.site.jobs.folder.top}: {fault.strerror}"
-            self._refuse(503, f"{what}: nothing is lost: see that the ward's folder is there again, and load this page again")
+            self._refuse(
+                503,
+                f"{what}: nothing is lost: see that the ward's folder is there again, and load this page again",
+            )
 
     def _get(self) -> None:
         path, query = self._path()
@@ -68,8 +71,14 @@ class _Handler(BaseHTTPRequestHandler):
         if path is None:
             return
         lengths: List[str] = self.headers.get_all("Content-Length", [])
-        length = _length(lengths[0]) if len(lengths) == 1 and "Transfer-Encoding" not in self.headers else None
-        is_foreign = any(origin not in self.site.origins for origin in self.headers.get_all("Origin", []))
+        length = (
+            _length(lengths[0])
+            if len(lengths) == 1 and "Transfer-Encoding" not in self.headers
+            else None
+        )
+        is_foreign = any(
+            origin not in self.site.origins for origin in self.headers.get_all("Origin", [])
+        )
         if is_foreign or self.headers.get("Sec-Fetch-Site") in _FOREIGN:
             return self._refuse(403, "this form is of another page")
         if path or length is None:
@@ -89,11 +98,18 @@ class _Handler(BaseHTTPRequestHandler):
         place, _, query = self.path.partition("?")
         known = hmac.compare_digest(place[: len(self.site.base)].encode(), self.site.base.encode())
         hosts: List[str] = self.headers.get_all("Host", [])
-        if not known or len(hosts) != 1 or hosts[0] not in self.site.hosts or len(self.path) > _MOST_BYTES:
+        if (
+            not known
+            or len(hosts) != 1
+            or hosts[0] not in self.site.hosts
+            or len(self.path) > _MOST_BYTES
+        ):
             self._refuse(403, "open the address that inrc2pb-plan has printed")
             return None, {}
         try:
-            return place[len(self.site.base) :], dict(parse_qsl(query, keep_blank_values=True, max_num_fields=_MOST_FIELDS))
+            return place[len(self.site.base) :], dict(
+                parse_qsl(query, keep_blank_values=True, max_num_fields=_MOST_FIELDS)
+            )
         except ValueError:
             self._refuse(400, "this is no address of the page")
             return None, {}
@@ -136,13 +152,20 @@ class _Server(ThreadingHTTPServer):
 
 class LocalServer:
     """A server that runs until a signal comes, at a port. `address` is that of its page. It begins with `origin`, if a proxy stands before
-    the server, so that browsers know the page by another name, and ends with the secret, or else a new one."""
+    the server, so that browsers know the page by another name, and ends with the secret, or else a new one.
+    """
 
-    def __init__(self, jobs: Jobs, host: str, port: int, origin: str = "", secret: str = "") -> None:
+    def __init__(
+        self, jobs: Jobs, host: str, port: int, origin: str = "", secret: str = ""
+    ) -> None:
         self._jobs, self._server = jobs, _Server((host, port), _Handler)
         self.port = self._server.server_port
         names = [host, "localhost"] if host == LOCAL else [host]
-        site = Site(jobs, [origin] if origin else [f"http://{name}:{self.port}" for name in names], secret or new_secret())
+        site = Site(
+            jobs,
+            [origin] if origin else [f"http://{name}:{self.port}" for name in names],
+            secret or new_secret(),
+        )
         self._server.RequestHandlerClass = type("Handler", (_Handler,), {"site": site})
         self.address = f"{site.origins[0]}{site.base}"
 

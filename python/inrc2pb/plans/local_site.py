@@ -46,7 +46,8 @@ class Sent(NamedTuple):
 
 class Site:
     """The page of a folder's verbs at an address with this secret. `origins` are the beginnings of the addresses by which browsers know it,
-    as `http://127.0.0.1:8000`: a form of another page, and a page of another name that leads to this server, are refused."""
+    as `http://127.0.0.1:8000`: a form of another page, and a page of another name that leads to this server, are refused.
+    """
 
     def __init__(self, jobs: Jobs, origins: Sequence[str], secret: str) -> None:
         self.jobs, self.origins = jobs, origins
@@ -80,7 +81,9 @@ class Site:
             # The page says what undo has done, even if the spreadsheet has a fault.
             done = said.lines if said.is_undo else []
             self._had_fault = True
-            return None, said if said.runs else Said([*fault_lines(fault), *done], said.fields, fault=fault)
+            return None, said if said.runs else Said(
+                [*fault_lines(fault), *done], said.fields, fault=fault
+            )
         if self._had_fault and said.fault:
             # The lines of a verb about the fault no longer hold.
             self.jobs.forget()
@@ -106,7 +109,8 @@ class Site:
 
     def post(self, fields: Dict[str, str]) -> str:
         """Does what a form asks for, unless it writes and the user was not asked yet. Returns the query of the page that follows: it has
-        the form if that is not done, so that this page asks the user, or says why it was refused."""
+        the form if that is not done, so that this page asks the user, or says why it was refused.
+        """
         if fields.get("verb") == "stop":
             self.jobs.stop()
             return ""
@@ -117,7 +121,12 @@ class Site:
             if stamp is not None:
                 self.jobs.check_stamp(stamp)
                 self.jobs.check_free()
-            if stamp is not None and SURE not in fields and form["verb"] in _LOOKED and not self.jobs.asked(event).fault:
+            if (
+                stamp is not None
+                and SURE not in fields
+                and form["verb"] in _LOOKED
+                and not self.jobs.asked(event).fault
+            ):
                 # The question says who moves where, which the search finds.
                 self.jobs.begin(event._replace(look=True), form, stamp)
                 return ""
@@ -149,7 +158,9 @@ class Site:
             answer = self.jobs.asked(event_of(form, self.jobs.seconds))
         except Misuse as fault:
             return Sent(form, fault_lines(fault), True)
-        is_refused = answer.fault is not None or (isinstance(answer.outcome, (DaySet, Swapped)) and bool(answer.outcome.faults))
+        is_refused = answer.fault is not None or (
+            isinstance(answer.outcome, (DaySet, Swapped)) and bool(answer.outcome.faults)
+        )
         return Sent(form, answer.lines, is_refused) if is_refused or writes(form) else None
 
     def page(self, path: str, query: Dict[str, str]) -> Optional[Page]:
@@ -172,7 +183,9 @@ class Site:
             return Page(own_bytes(self.jobs.folder.top, path).decode(errors="replace"))
         return self._page_of_plan(path, plan) if plan and plan.is_planned and plan.weeks else None
 
-    def _first_page(self, plan: Optional[WardPlan], shown: Shown, sent: Optional[Sent], query: Dict[str, str]) -> Shown:
+    def _first_page(
+        self, plan: Optional[WardPlan], shown: Shown, sent: Optional[Sent], query: Dict[str, str]
+    ) -> Shown:
         """What the page with the forms shows, with the form that was sent, if it is not done, and the cell that was clicked."""
         said, clicked, kept = shown.said, _place(plan, query), _kept(shown.said, sent)
         place = clicked or (None if sent else _looked(plan, kept, said))
@@ -195,14 +208,20 @@ class Site:
         """Another page of a plan: with costs, for the wall, of calendars, or a calendar."""
         top = self.jobs.folder.top
         there = own_calendars(top) if plan.state.published else set()
-        names = {f"{CALENDARS}/{quote(name)}": name for name in file_names(plan.scenario.nurses).values() if name in there}
+        names = {
+            f"{CALENDARS}/{quote(name)}": name
+            for name in file_names(plan.scenario.nurses).values()
+            if name in there
+        }
         if path in ("roster", "wall"):
             content = roster_content(top, plan, self.jobs.verbs().hung_up(plan))
             return Page(page_text(replace(content, only_table=path == "wall")))
         if path == CALENDARS:
             return Page(calendars_markup(plan, self.base, there))
         if path in names:
-            return Page(own_bytes(top, f"{CALENDARS}/{names[path]}").decode(errors="replace"), _CALENDAR)
+            return Page(
+                own_bytes(top, f"{CALENDARS}/{names[path]}").decode(errors="replace"), _CALENDAR
+            )
         return None
 
 
@@ -213,7 +232,11 @@ def _asked(fields: Fields) -> Dict[str, str]:
 
 def _look(said: Said, stamp: str) -> Optional[Sent]:
     """The question whether to write a plan that was found, if the plan with this stamp still holds."""
-    return Sent(dict(said.fields), said.lines, False) if said.look and said.fields.get(STAMP) == stamp else None
+    return (
+        Sent(dict(said.fields), said.lines, False)
+        if said.look and said.fields.get(STAMP) == stamp
+        else None
+    )
 
 
 def _kept(said: Said, sent: Optional[Sent]) -> Fields:
@@ -226,7 +249,13 @@ def _kept(said: Said, sent: Optional[Sent]) -> Fields:
 def _place(plan: Optional[WardPlan], query: Dict[str, str]) -> Optional[NurseDay]:
     """The cell that an address names, if the plan has it."""
     nurse, day = query.get("nurse", ""), query.get("day", "")
-    known = plan and nurse in plan.scenario.nurses and day.isdecimal() and len(day) < 4 and plan.first <= int(day) < plan.days.total
+    known = (
+        plan
+        and nurse in plan.scenario.nurses
+        and day.isdecimal()
+        and len(day) < 4
+        and plan.first <= int(day) < plan.days.total
+    )
     return NurseDay(nurse, int(day)) if known else None
 
 

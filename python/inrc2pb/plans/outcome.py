@@ -34,7 +34,9 @@ class Event(NamedTuple):
     @property
     def typed(self) -> str:
         """The words that the user typed, with the option that changes what comes of them."""
-        return " ".join(" ".join((self.verb, *self.words, *(["--free"] if self.free else []))).split())
+        return " ".join(
+            " ".join((self.verb, *self.words, *(["--free"] if self.free else []))).split()
+        )
 
 
 class Status(enum.Enum):
@@ -67,7 +69,8 @@ class Keep(enum.Enum):
 
 class Asked(NamedTuple):
     """What a search is asked for: the first day that may change, whether few shifts may change, how many seconds it has, how it keeps
-    agreed days, and whether its plan is written if it exceeds a maximum that holds and the plan before it does not."""
+    agreed days, and whether its plan is written if it exceeds a maximum that holds and the plan before it does not.
+    """
 
     first: int
     few_changes: bool
@@ -123,7 +126,9 @@ class Away(Outcome):
     @property
     def there(self) -> WardPlan:
         """The plan with this, before a search, without the shifts of days away."""
-        return self.new.with_cells(cell for cell in self.new.cells if NurseDay(cell.nurse, cell.day) not in self.new.away)
+        return self.new.with_cells(
+            cell for cell in self.new.cells if NurseDay(cell.nurse, cell.day) not in self.new.away
+        )
 
 
 @dataclass(frozen=True)
@@ -180,7 +185,8 @@ class Swapped(Outcome):
 @dataclass(frozen=True)
 class DaySet(Outcome):
     """A nurse's day is set: the plans before and after it, what is promised for it; why it cannot be; who could do it instead; what was
-    promised for the day before; or, if it takes the promise back, that later plans need not keep it."""
+    promised for the day before; or, if it takes the promise back, that later plans need not keep it.
+    """
 
     old: WardPlan
     new: WardPlan

@@ -43,11 +43,21 @@ def write_pages(
         contents[worked] = replace(_worked_content(plan), name=ward_name(top))
     if plan.is_planned and plan.weeks:
         content = roster_content(top, plan, old)
-        both = {nurse: now.plus(earlier.get(nurse, Sums())) for nurse, now in content.sums.items()} if earlier else {}
+        both = (
+            {nurse: now.plus(earlier.get(nurse, Sums())) for nurse, now in content.sums.items()}
+            if earlier
+            else {}
+        )
         contents[ROSTER] = replace(content, plan=stamp, all_sums=both)
-        contents.update({WALL: replace(contents[ROSTER], only_table=True)} if plan.state.published else {})
+        contents.update(
+            {WALL: replace(contents[ROSTER], only_table=True)} if plan.state.published else {}
+        )
     gone = taken_away(top, [name for name in (worked, ROSTER, WALL) if name not in contents])
-    gone += [] if plan.state.published else calendars_taken_away(top, list(plan.scenario.nurses), before)
+    gone += (
+        []
+        if plan.state.published
+        else calendars_taken_away(top, list(plan.scenario.nurses), before)
+    )
     # The pages that say which plan they show come last, so a run that was killed before its end is known by them.
     calendars = _write_calendars(top, plan, before) if plan.state.published else []
     for name, content in contents.items():
@@ -59,7 +69,11 @@ def other_plan_pages(top: Path, stamp: str) -> Tuple[str, ...]:
     """The names of the pages that show another plan than the one with this name."""
     names = []
     for path in (top / ROSTER, top / WALL):
-        shown = _PLAN.search(own_bytes(top, path.name).decode(errors="replace")) if is_own_file(path) else None
+        shown = (
+            _PLAN.search(own_bytes(top, path.name).decode(errors="replace"))
+            if is_own_file(path)
+            else None
+        )
         if shown and shown[1] != stamp:
             names.append(path.name)
     return tuple(names)
@@ -73,7 +87,9 @@ def taken_away(top: Path, names: Sequence[str]) -> List[Path]:
     return there
 
 
-def calendars_taken_away(top: Path, nurses: Sequence[str], before: Mapping[str, Collection[int]]) -> List[Path]:
+def calendars_taken_away(
+    top: Path, nurses: Sequence[str], before: Mapping[str, Collection[int]]
+) -> List[Path]:
     """Takes the calendars of this period away, if it has some. Returns their folder, if there were any."""
     names = file_names(dict.fromkeys((*nurses, *before))).values() if before else ()
     without_link(top / CALENDARS)
@@ -90,7 +106,11 @@ def worked_name(days: PlanDays, periods: int) -> str:
 
 def worked_pages(top: Path) -> Dict[str, str]:
     """The names of the pages of weeks that are over, of all periods, the last one first, and their texts."""
-    names = sorted((file.name for file in top.iterdir() if is_own_file(file)), key=lambda name: (len(name), name), reverse=True)
+    names = sorted(
+        (file.name for file in top.iterdir() if is_own_file(file)),
+        key=lambda name: (len(name), name),
+        reverse=True,
+    )
     matches = [match for match in map(_WORKED.fullmatch, names) if match]
     return {match[0]: f"Weeks that are over{_period_text(match[1])}" for match in matches}
 
@@ -109,22 +129,40 @@ def _period_text(period: Optional[str]) -> str:
 def own_calendars(top: Path) -> Set[str]:
     """The names of the files in the folder of the calendars, if this folder is no link."""
     folder = top / CALENDARS
-    return {path.name for path in folder.iterdir() if is_own_file(path)} if folder.is_dir() and not folder.is_symlink() else set()
+    return (
+        {path.name for path in folder.iterdir() if is_own_file(path)}
+        if folder.is_dir() and not folder.is_symlink()
+        else set()
+    )
 
 
 def _worked_content(plan: WardPlan) -> Content:
     """What the page of the weeks that are over shows: how they were worked."""
-    return Content(plan.view(range(plan.state.open_week)), None, plan.days.monday, plan.ward.times, as_of=datetime.datetime.now())
+    return Content(
+        plan.view(range(plan.state.open_week)),
+        None,
+        plan.days.monday,
+        plan.ward.times,
+        as_of=datetime.datetime.now(),
+    )
 
 
-def _write_calendars(top: Path, plan: WardPlan, before: Mapping[str, Collection[int]]) -> List[Path]:
+def _write_calendars(
+    top: Path, plan: WardPlan, before: Mapping[str, Collection[int]]
+) -> List[Path]:
     """Writes a calendar of the whole period for each nurse if the plan has dates: weeks that are over as they were worked."""
     monday = plan.days.monday
     if monday is None or not plan.is_planned:
         return []
     dates = {nurse: [plan.days.date(day) for day in days] for nurse, days in before.items()}
     without_link(top / CALENDARS)
-    write_calendars(plan.view(range(plan.days.weeks)), top / CALENDARS, monday, plan.ward.times, issue_now(dates))
+    write_calendars(
+        plan.view(range(plan.days.weeks)),
+        top / CALENDARS,
+        monday,
+        plan.ward.times,
+        issue_now(dates),
+    )
     return [top / CALENDARS]
 
 
@@ -140,11 +178,22 @@ def roster_content(top: Path, plan: WardPlan, old: Optional[WardPlan] = None) ->
     holidays = {day - plan.first for day in plan.ward.holidays if day >= plan.first}
     notes = (*unkept_lines(plan, unkept(plan)), *days_away_lines(plan), *beside_lines(plan))
     now = datetime.datetime.now()
-    content = Content(plan.view(), before, monday, plan.ward.times, holidays=holidays, as_of=now, notes=notes)
-    content = replace(content, swapped=_of_table(plan, plan.state.agreed), promised=_of_table(plan, promised_days(plan)))
-    return replace(content, name=ward_name(top), since="the plan that was hung up before", sums=sums(plan))
+    content = Content(
+        plan.view(), before, monday, plan.ward.times, holidays=holidays, as_of=now, notes=notes
+    )
+    content = replace(
+        content,
+        swapped=_of_table(plan, plan.state.agreed),
+        promised=_of_table(plan, promised_days(plan)),
+    )
+    return replace(
+        content, name=ward_name(top), since="the plan that was hung up before", sums=sums(plan)
+    )
 
 
 def _of_table(plan: WardPlan, places: Iterable[NurseDay]) -> Set[Tuple[int, str, int]]:
     """These nurses' days as a table of the weeks that are not over counts them."""
-    return {(place.day // WEEK_DAYS - plan.state.open_week, place.nurse, place.day % WEEK_DAYS) for place in places}
+    return {
+        (place.day // WEEK_DAYS - plan.state.open_week, place.nurse, place.day % WEEK_DAYS)
+        for place in places
+    }

@@ -3,7 +3,13 @@
 
 from typing import Iterator, List, Optional
 
-from ..shown.ward_sentences import history_sentences, limit_sentences, scenario_sentences, supply_text, ward_sentence
+from ..shown.ward_sentences import (
+    history_sentences,
+    limit_sentences,
+    scenario_sentences,
+    supply_text,
+    ward_sentence,
+)
 from ..shown.week_sentences import DescribedWeek, weeks_sentences
 from ..shown.why import plain_breach_lines
 from ..week.faults import fault_line
@@ -11,9 +17,37 @@ from ..week.records import WEEK_DAYS, in_week
 from ..week.words import readable
 from .changes import shift_changes
 from .facts import broken
-from .outcome import Away, Checked, DaySet, Made, NoPlan, Offers, Outcome, Planned, Published, Status, Swapped, Undone, WeekOver
-from .search_sentences import away_lines, counts_lines, no_plan_lines, not_written_text, planned_lines
-from .sentences import anew_lines, beside_lines, broken_text, change_lines, days_away_lines, exceeded_lines, pages_lines
+from .outcome import (
+    Away,
+    Checked,
+    DaySet,
+    Made,
+    NoPlan,
+    Offers,
+    Outcome,
+    Planned,
+    Published,
+    Status,
+    Swapped,
+    Undone,
+    WeekOver,
+)
+from .search_sentences import (
+    away_lines,
+    counts_lines,
+    no_plan_lines,
+    not_written_text,
+    planned_lines,
+)
+from .sentences import (
+    anew_lines,
+    beside_lines,
+    broken_text,
+    change_lines,
+    days_away_lines,
+    exceeded_lines,
+    pages_lines,
+)
 from .swap_sentences import day_set_lines, offers_lines, swapped_lines
 from .ward import WardPlan
 from .words import PERIOD_IS_OVER
@@ -68,7 +102,10 @@ def warning_lines(checked: Checked) -> List[str]:
 def checked_lines(checked: Checked) -> List[str]:
     """What is odd in the spreadsheet and wrong in the plan that holds, and the ward in sentences."""
     plan = checked.plan
-    said = [*warning_lines(checked), *(f"warning: {line}" for line in (*exceeded_lines(plan), *beside_lines(plan)))]
+    said = [
+        *warning_lines(checked),
+        *(f"warning: {line}" for line in (*exceeded_lines(plan), *beside_lines(plan))),
+    ]
     if plan.is_planned and plan.weeks:
         said += plain_breach_lines(plan.view())
     said = [*(said or ["No mistake found."]), "", *_ward_lines(plan)]
@@ -82,11 +119,29 @@ def _ward_lines(plan: WardPlan) -> List[str]:
     limits = limit_sentences(plan.scenario, plan.data[plan.state.open_week]) if plan.weeks else ()
     past = history_sentences(plan.past, plan.ward.counted)
     weeks = [
-        DescribedWeek(number, plan.data[number], plan.reasons(number), in_week(plan.ward.held, number), _calendar_name(plan, number))
+        DescribedWeek(
+            number,
+            plan.data[number],
+            plan.reasons(number),
+            in_week(plan.ward.held, number),
+            _calendar_name(plan, number),
+        )
         for number in plan.weeks
     ]
-    sentences = weeks_sentences(plan.scenario, weeks, lambda days: plan.days.spans([plan.first + day for day in days]))
-    return [ward_sentence(plan.scenario), *_supplies(plan), "", *scenario_sentences(plan.scenario), *limits, "", *past, "", *sentences]
+    sentences = weeks_sentences(
+        plan.scenario, weeks, lambda days: plan.days.spans([plan.first + day for day in days])
+    )
+    return [
+        ward_sentence(plan.scenario),
+        *_supplies(plan),
+        "",
+        *scenario_sentences(plan.scenario),
+        *limits,
+        "",
+        *past,
+        "",
+        *sentences,
+    ]
 
 
 def _calendar_name(plan: WardPlan, number: int) -> str:
@@ -109,9 +164,18 @@ def _supplies(plan: WardPlan) -> Iterator[str]:
 def week_over_lines(over: WeekOver, write: str) -> List[str]:
     """What was worked otherwise than planned, and with which week the plan goes on, or how the next period begins."""
     if over.status is Status.NOT_KEPT and not over.is_written:
-        exceeded = [line for plan in (over.worked, over.next) if plan for line in exceeded_lines(plan)]
-        return [*_correction_lines(over), *dict.fromkeys(exceeded), *([not_written_text(write)] if write else [])]
-    return [*_correction_lines(over), *(_goes_on_lines(over, over.next) if over.next else _period_over_lines(over))]
+        exceeded = [
+            line for plan in (over.worked, over.next) if plan for line in exceeded_lines(plan)
+        ]
+        return [
+            *_correction_lines(over),
+            *dict.fromkeys(exceeded),
+            *([not_written_text(write)] if write else []),
+        ]
+    return [
+        *_correction_lines(over),
+        *(_goes_on_lines(over, over.next) if over.next else _period_over_lines(over)),
+    ]
 
 
 def _correction_lines(over: WeekOver) -> List[str]:
@@ -120,12 +184,22 @@ def _correction_lines(over: WeekOver) -> List[str]:
     said: List[str] = []
     for (nurse, day), word in over.away.items():
         absence = Away(old, worked, nurse, (day,), word)
-        said += [f"{readable(nurse)}: {word}, {old.days.text(day)}", *(line for line in counts_lines(absence) if line not in said)]
+        said += [
+            f"{readable(nurse)}: {word}, {old.days.text(day)}",
+            *(line for line in counts_lines(absence) if line not in said),
+        ]
     said += change_lines(shift_changes(old.cells, worked.cells), old.days, worked.away, old.away)
     number = old.state.open_week
     known = broken(old, number)
     by_hand = [broken_text(worked, fault) for fault in broken(worked, number) if fault not in known]
-    return [*said, *([*by_hand, "if it was not worked so: undo, then over with other corrections"] if by_hand else [])]
+    return [
+        *said,
+        *(
+            [*by_hand, "if it was not worked so: undo, then over with other corrections"]
+            if by_hand
+            else []
+        ),
+    ]
 
 
 def _goes_on_lines(over: WeekOver, new: WardPlan) -> List[str]:
@@ -138,7 +212,9 @@ def _goes_on_lines(over: WeekOver, new: WardPlan) -> List[str]:
         *(broken_text(new, fault) for fault in now),
     ]
     if any(fault not in known for fault in now):
-        said.append(f"after these corrections the plan does not fit any more: plan again, from {begin} on")
+        said.append(
+            f"after these corrections the plan does not fit any more: plan again, from {begin} on"
+        )
     return [*said, *days_away_lines(new), *pages_lines(over.pages)]
 
 
@@ -149,7 +225,12 @@ def _period_over_lines(over: WeekOver) -> List[str]:
     then = "into the sheet plan, with its wishes and absences; then plan"
     closed = f"{over.old.days.week_text(over.old.state.open_week)} is over, and with it the {PERIOD_IS_OVER}"
     rows = anew_lines(over.worked.ward.week_rows, days)
-    return [*pages_lines(over.pages), closed, f"write the days of the next one, {begin}{then}", *rows]
+    return [
+        *pages_lines(over.pages),
+        closed,
+        f"write the days of the next one, {begin}{then}",
+        *rows,
+    ]
 
 
 # ---- publishing and undo
@@ -173,6 +254,12 @@ def undone_lines(undone: Undone) -> List[str]:
     said = [f"undone: {made}" if holds else f"undone: {made}; there is no plan any more"]
     if holds:
         is_same = undone.undone.record is not None and undone.undone.record.verb == "page"
-        said.append(f"the plan of {_made_text(holds)} holds again{', with the same shifts' if is_same else ''}")
+        said.append(
+            f"the plan of {_made_text(holds)} holds again{', with the same shifts' if is_same else ''}"
+        )
     said += [*(exceeded_lines(undone.plan) if undone.plan else []), *pages_lines(undone.pages)]
-    return [*said, f"its pages are not written: {fault_line(undone.fault)}"] if undone.fault and holds else said
+    return (
+        [*said, f"its pages are not written: {fault_line(undone.fault)}"]
+        if undone.fault and holds
+        else said
+    )

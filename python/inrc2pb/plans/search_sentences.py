@@ -28,7 +28,9 @@ from .ward import ALWAYS_OFF, DAYS_OFF, WardPlan, for_leavers
 
 UNKNOWN_BOUND = "how much less another plan can cost is not known"
 # What a search says before it begins anew.
-WITHOUT_AGREED = "no plan was found that keeps all agreed swaps: a search for one that may break them"
+WITHOUT_AGREED = (
+    "no plan was found that keeps all agreed swaps: a search for one that may break them"
+)
 FOR_REASON = "no plan was found: a search for the reason, at most 30 s for each week"
 
 
@@ -48,10 +50,14 @@ def absence_lines(absence: Away) -> List[str]:
         return [f"{nurse}: {absence.word}, {absence.old.days.span(absence.days)}"]
     stays: Dict[str, List[int]] = {}
     for day in range(absence.days[0], absence.new.days.total):
-        stays.setdefault(absence.new.away.get(NurseDay(absence.nurse, day), ALWAYS_OFF), []).append(day)
+        stays.setdefault(absence.new.away.get(NurseDay(absence.nurse, day), ALWAYS_OFF), []).append(
+            day
+        )
     said = [f"{nurse}: back, {absence.old.days.span(absence.days)} ({absence.was})"]
     away = {word: days for word, days in stays.items() if word not in DAYS_OFF}
-    return said + [f"{nurse} stays away: {word}, {absence.new.days.spans(days)}" for word, days in away.items()]
+    return said + [
+        f"{nurse} stays away: {word}, {absence.new.days.spans(days)}" for word, days in away.items()
+    ]
 
 
 def away_lines(absence: Away, write: str) -> List[str]:
@@ -64,9 +70,15 @@ def away_lines(absence: Away, write: str) -> List[str]:
 def counts_lines(absence: Away) -> List[str]:
     """The shifts that the spreadsheet holds and the absence lifts, and what counts of the nurse's contract now."""
     old = absence.old
-    lifted = [old.held.get(NurseDay(absence.nurse, day)) for day in absence.days] if absence.word != BACK else []
+    lifted = (
+        [old.held.get(NurseDay(absence.nurse, day)) for day in absence.days]
+        if absence.word != BACK
+        else []
+    )
     said = [
-        readable(f"{cell.nurse}, {old.days.text(cell.day)}: {absence.word} lifts {cell.shift}, which the spreadsheet holds")
+        readable(
+            f"{cell.nurse}, {old.days.text(cell.day)}: {absence.word} lifts {cell.shift}, which the spreadsheet holds"
+        )
         for cell in lifted
         if cell
     ]
@@ -99,10 +111,17 @@ def planned_lines(planned: Planned, write: str) -> List[str]:
         said = [*absence_lines(planned.absence), *said]
     said += unkept_lines(new, missing)
     if len(missing) > len(unkept(for_leavers(new, planned.asked.first))):
-        said.append(f"shifts before {new.days.text(planned.asked.first)} stay: plan from an earlier day can take some of them away")
+        said.append(
+            f"shifts before {new.days.text(planned.asked.first)} stay: plan from an earlier day can take some of them away"
+        )
     said += [*days_away_lines(new), *_changed_lines(planned)]
     said += [_agreement_text(new, broken) for broken in broken_agreements(planned.old, new)]
-    said += [*beside_lines(new), *due_lines(new), *wish_lines(planned.before, new), *cost_lines(planned.penalties, new.days)]
+    said += [
+        *beside_lines(new),
+        *due_lines(new),
+        *wish_lines(planned.before, new),
+        *cost_lines(planned.penalties, new.days),
+    ]
     said += evenness_lines(new)
     if not missing and not planned.asked.few_changes:
         said.append(bound_text(planned.bound))
@@ -113,7 +132,9 @@ def planned_lines(planned: Planned, write: str) -> List[str]:
     if not planned.is_written:
         return [*said, *days_away_lines(new), not_written_text(write)]
     if missing:
-        said.append("this plan is written, but it does not keep what the first lines say: do what helps and plan again, or undo")
+        said.append(
+            "this plan is written, but it does not keep what the first lines say: do what helps and plan again, or undo"
+        )
     return [*said, *pages_lines(planned.pages)]
 
 
@@ -124,7 +145,9 @@ def _changed_lines(planned: Planned) -> List[str]:
         return []
     changes = shift_changes(before.cells, new.cells)
     if not (before.state.published or planned.asked.few_changes):
-        return [f"{plural(len(changes), 'shift')} {'differs' if len(changes) == 1 else 'differ'} from the last plan"]
+        return [
+            f"{plural(len(changes), 'shift')} {'differs' if len(changes) == 1 else 'differ'} from the last plan"
+        ]
     if not changes:
         return ["no shift changes"]
     calls = call_lines(changes, new.away) or ["no nurse has to be called"]
@@ -133,7 +156,9 @@ def _changed_lines(planned: Planned) -> List[str]:
 
 def _agreement_text(new: WardPlan, broken: Agreement) -> str:
     """That a plan does not keep what two nurses have agreed on, or what was promised."""
-    place, now = broken.place, readable(new.away.get(broken.place) or cell_text(new.works.get(broken.place)))
+    place, now = broken.place, readable(
+        new.away.get(broken.place) or cell_text(new.works.get(broken.place))
+    )
     what, was = ("a promise", "promised was") if broken.is_set else ("an agreed swap", "agreed was")
     return f"this breaks {what}: {readable(place.nurse)}, {new.days.text(place.day)}: {now}, {was} {cell_text(broken.cell)}"
 
@@ -141,7 +166,11 @@ def _agreement_text(new: WardPlan, broken: Agreement) -> str:
 def cost_lines(penalties: Mapping[int, int], days: PlanDays) -> List[str]:
     """What each week costs, and all of them."""
     said = [f"{days.week_text(number)}: {points} points" for number, points in penalties.items()]
-    return [*said, f"{plural(len(said), 'week')}: {sum(penalties.values())} points"] if len(said) > 1 else said
+    return (
+        [*said, f"{plural(len(said), 'week')}: {sum(penalties.values())} points"]
+        if len(said) > 1
+        else said
+    )
 
 
 def bound_text(known: Optional[KnownBound]) -> str:
@@ -149,7 +178,12 @@ def bound_text(known: Optional[KnownBound]) -> str:
     if not known:
         return UNKNOWN_BOUND
     plans = f"plan that keeps all {known.bound.only}" if known.bound.only else "plan"
-    said = _least_text(known.penalty, known.bound.points, plans, f"proved by {known.bound.by}" if known.is_proved else "not proved")
+    said = _least_text(
+        known.penalty,
+        known.bound.points,
+        plans,
+        f"proved by {known.bound.by}" if known.is_proved else "not proved",
+    )
     least = known.bound.points
     if known.beside is not None and known.beside > least:
         least = known.beside
@@ -174,10 +208,18 @@ def no_plan_lines(none: NoPlan) -> List[str]:
     plan, begin = none.plan, counts_lines(none.absence) if none.absence else []
     said = [f"{plan.days.week_text(none.week)}: {shortage_head(none.shortage)}"]
     for short in none.shortage.places:
-        said.append(readable(f"{plan.days.text(WEEK_DAYS * none.week + short.place.day)} {lowered_text(short)}"))
+        said.append(
+            readable(
+                f"{plan.days.text(WEEK_DAYS * none.week + short.place.day)} {lowered_text(short)}"
+            )
+        )
         if not short.is_known:
             said.append(readable(f"    nobody has the skill {short.place.skill}"))
-        said += [readable(f"    {owner.nurse} {owner.why or CAN}") for owner in short.owners if not owner.is_away]
+        said += [
+            readable(f"    {owner.nurse} {owner.why or CAN}")
+            for owner in short.owners
+            if not owner.is_away
+        ]
         away = [owner.nurse for owner in short.owners if owner.is_away]
         if away:
             said.append(readable(f"    away: {', '.join(away)}"))

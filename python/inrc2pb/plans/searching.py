@@ -40,9 +40,21 @@ def search_plan(old: WardPlan, asked: Asked, progress: Progress) -> Found:
     """The best plan of the weeks that are not over. It begins with the old one, if there is one."""
     kept: List[Sequence[Cell]] = []
     with tempfile.TemporaryDirectory(prefix="inrc2pb-plan-") as name:
-        files, beside = _files(old, asked, Path(name)), old.days_away._replace(fixed=asked.first - old.first)
-        weeks = _weeks(files, beside, Calls(_older_rows(old), CALL_POINTS) if asked.few_changes and old.is_planned else Calls())
-        start = [cell._replace(day=cell.day - old.first) for cell in old.cells] if old.is_planned else None
+        files, beside = _files(old, asked, Path(name)), old.days_away._replace(
+            fixed=asked.first - old.first
+        )
+        weeks = _weeks(
+            files,
+            beside,
+            Calls(_older_rows(old), CALL_POINTS)
+            if asked.few_changes and old.is_planned
+            else Calls(),
+        )
+        start = (
+            [cell._replace(day=cell.day - old.first) for cell in old.cells]
+            if old.is_planned
+            else None
+        )
         clock = Clock(asked.seconds)
         search = PeriodSearch(weeks, kept.append, clock, progress, start=start)
         with interrupts() as signals, signals.calling(search.interrupt):
@@ -73,7 +85,10 @@ def _older_rows(old: WardPlan) -> Dict[str, bytes]:
     for nurse in dict.fromkeys(place.nurse for place in old.works):
         places = (NurseDay(nurse, day) for day in range(old.first, old.days.total))
         cells = ((place, old.works.get(place)) for place in places)
-        rows[nurse] = bytes(ANY_CHOICE if place in old.away else numbers[cell.shift] if cell else 0 for place, cell in cells)
+        rows[nurse] = bytes(
+            ANY_CHOICE if place in old.away else numbers[cell.shift] if cell else 0
+            for place, cell in cells
+        )
     return rows
 
 
@@ -82,7 +97,12 @@ def _weeks(files: PeriodFiles, beside: DaysAway, calls: Calls) -> PlannedWeeks:
     try:
         return PlannedWeeks(files, beside, calls)
     except FileFault as fault:
-        raise FileFault(fault.path.name, fault.line, f"{fault.message}: correct the plan or the spreadsheet", fault.fault) from fault
+        raise FileFault(
+            fault.path.name,
+            fault.line,
+            f"{fault.message}: correct the plan or the spreadsheet",
+            fault.fault,
+        ) from fault
 
 
 def _files(old: WardPlan, asked: Asked, folder: Path) -> PeriodFiles:
@@ -90,20 +110,32 @@ def _files(old: WardPlan, asked: Asked, folder: Path) -> PeriodFiles:
     history, given = folder / history_name(old.state.open_week), folder / _FACTS
     agreed = kept_agreed(old, asked)
     claims = [*_later_claims(old, asked.first), *_past_claims(old, asked.first)]
-    claims += [_off(place) for place, cell in agreed.items() if cell is None and asked.agreed is not Keep.MOST]
+    claims += [
+        _off(place)
+        for place, cell in agreed.items()
+        if cell is None and asked.agreed is not Keep.MOST
+    ]
     write_text(folder / "ward.txt", old.ward.texts["ward.txt"])
     write_text(history, history_text(old.past))
     write_text(given, facts_text(old.scenario.name, claims))
-    held = [cell for cell in old.held.values() if cell.day >= asked.first] + [cell for cell in old.cells if cell.day < asked.first]
+    held = [cell for cell in old.held.values() if cell.day >= asked.first] + [
+        cell for cell in old.cells if cell.day < asked.first
+    ]
     if asked.agreed is not Keep.MOST:
         held += [cell for cell in agreed.values() if cell]
     weeks, fixes = [], {}
     for number in old.weeks:
         path, fixes[number] = folder / f"week-{number}.txt", folder / f"fix-{number}.txt"
-        write_text(path, week_text(_week(old, number, asked, agreed if asked.agreed is Keep.MOST else {})))
-        write_text(fixes[number], solution_text(Solution(number, old.scenario.name, in_week(held, number))))
+        write_text(
+            path, week_text(_week(old, number, asked, agreed if asked.agreed is Keep.MOST else {}))
+        )
+        write_text(
+            fixes[number], solution_text(Solution(number, old.scenario.name, in_week(held, number)))
+        )
         weeks.append(path)
-    return PeriodFiles(folder / "ward.txt", history, weeks, dict(enumerate(fixes.values())), given=given)
+    return PeriodFiles(
+        folder / "ward.txt", history, weeks, dict(enumerate(fixes.values())), given=given
+    )
 
 
 # The shifts on nurses' days that a search keeps; None is a day off.
@@ -123,7 +155,9 @@ def _week(old: WardPlan, number: int, asked: Asked, agreed: _Agreed) -> WeekData
     )
     works: Dict[NurseDay, Optional[Cell]] = {**old.works, **agreed}
     roster = in_week([cell for cell in works.values() if cell], number)
-    return with_few_changes(old.scenario, old.data[number], roster, softly, agreed=of_week, new=new, beside=beside)
+    return with_few_changes(
+        old.scenario, old.data[number], roster, softly, agreed=of_week, new=new, beside=beside
+    )
 
 
 def kept_agreed(old: WardPlan, asked: Asked) -> Dict[NurseDay, Optional[Cell]]:
@@ -131,11 +165,22 @@ def kept_agreed(old: WardPlan, asked: Asked) -> Dict[NurseDay, Optional[Cell]]:
     holds no shift."""
 
     def can_be_kept(place: NurseDay, cell: Optional[Cell]) -> bool:
-        is_possible = cell is None or (cell.skill in old.scenario.nurses[place.nurse].skills and not is_broken_by(old.absences, cell))
+        is_possible = cell is None or (
+            cell.skill in old.scenario.nurses[place.nurse].skills
+            and not is_broken_by(old.absences, cell)
+        )
         return place.day >= asked.first and place not in old.held and is_possible
 
-    swaps = {} if asked.agreed is Keep.NONE else {place: old.works.get(place) for place in old.state.agreed}
-    asked_for = {**swaps, **{promise.place: promise.cell for promise in old.state.set_days}} if old.is_planned else {}
+    swaps = (
+        {}
+        if asked.agreed is Keep.NONE
+        else {place: old.works.get(place) for place in old.state.agreed}
+    )
+    asked_for = (
+        {**swaps, **{promise.place: promise.cell for promise in old.state.set_days}}
+        if old.is_planned
+        else {}
+    )
     return {place: cell for place, cell in asked_for.items() if can_be_kept(place, cell)}
 
 
@@ -150,12 +195,18 @@ def _later_claims(old: WardPlan, first: int) -> List[Claim]:
     def is_past(fact: Fact) -> bool:
         return isinstance(fact, Choice) and WEEK_DAYS * (fact.week - 1) + fact.day < first
 
-    return [claim for claim in limits_for_leavers(old.ward, old.state, old.limits, first) if not is_past(claim.fact)]
+    return [
+        claim
+        for claim in limits_for_leavers(old.ward, old.state, old.limits, first)
+        if not is_past(claim.fact)
+    ]
 
 
 def _past_claims(old: WardPlan, first: int) -> Iterator[Claim]:
     """That whoever was off before this day, in the weeks that are not over, stays off."""
-    places = (NurseDay(nurse, day) for day in range(old.first, first) for nurse in old.scenario.nurses)
+    places = (
+        NurseDay(nurse, day) for day in range(old.first, first) for nurse in old.scenario.nurses
+    )
     return (_off(place) for place in places if place not in old.works)
 
 
@@ -174,8 +225,13 @@ def why_no_plan(plan: WardPlan) -> Optional[Tuple[int, Shortage]]:
 def _week_files(plan: WardPlan, week: Week, folder: Path) -> WeekFiles:
     """The files of a week, in this folder."""
     number = week.history.week
-    paths = [folder / file for file in ("ward.txt", "history.txt", f"week-{number}.txt", f"fix-{number}.txt", _FACTS)]
+    paths = [
+        folder / file
+        for file in ("ward.txt", "history.txt", f"week-{number}.txt", f"fix-{number}.txt", _FACTS)
+    ]
     texts = plan.ward.texts
     for path in paths:
-        write_text(path, history_text(week.history) if path.name == "history.txt" else texts[path.name])
+        write_text(
+            path, history_text(week.history) if path.name == "history.txt" else texts[path.name]
+        )
     return WeekFiles(paths[0], paths[1], paths[2], paths[3], given=paths[4])

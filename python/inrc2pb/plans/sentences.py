@@ -37,7 +37,10 @@ def cell_text(cell: Optional[Cell], away: str = OFF) -> str:
 
 
 def change_lines(
-    changes: Iterable[ShiftChange], days: PlanDays, away: Mapping[NurseDay, str] = {}, before: Mapping[NurseDay, str] = {}
+    changes: Iterable[ShiftChange],
+    days: PlanDays,
+    away: Mapping[NurseDay, str] = {},
+    before: Mapping[NurseDay, str] = {},
 ) -> List[str]:
     """A line for each change. `away` has words for the nurses' days on which they are away, and `before` those of the older plan."""
     return [
@@ -53,13 +56,20 @@ def change_lines(
 def call_lines(changes: Iterable[ShiftChange], away: Mapping[NurseDay, str] = {}) -> List[str]:
     """The nurses to call, if there are some."""
     nurses = called(changes, away)
-    return [f"{plural(len(nurses), 'nurse')} to call: {quoted(map(readable, nurses), len(nurses))}"] if nurses else []
+    return (
+        [f"{plural(len(nurses), 'nurse')} to call: {quoted(map(readable, nurses), len(nurses))}"]
+        if nurses
+        else []
+    )
 
 
 def wish_lines(old: Optional[WardPlan], new: WardPlan) -> List[str]:
     """The wishes that are not granted, or only those that an older plan grants and this one does not."""
     begin = "wish lost" if old else "wish not granted"
-    return [f"{begin}: {readable(wish.nurse)}, {wish_text(wish.shift)} on {new.days.text(wish.day)}" for wish in lost_wishes(old, new)]
+    return [
+        f"{begin}: {readable(wish.nurse)}, {wish_text(wish.shift)} on {new.days.text(wish.day)}"
+        for wish in lost_wishes(old, new)
+    ]
 
 
 # ---- what a plan does not keep
@@ -69,13 +79,23 @@ def unkept_lines(plan: WardPlan, unkept: Iterable[Unkept]) -> List[str]:
     """Who works while she is away, or above a limit that holds, and what would help."""
     said: List[str] = []
     for missed in unkept:
-        week, names, cells = plan.days.week_text(missed.week), plan.day_names(missed.week), plan.state.roster(missed.week)
+        week, names, cells = (
+            plan.days.week_text(missed.week),
+            plan.day_names(missed.week),
+            plan.state.roster(missed.week),
+        )
         if missed.working:
             skills = joined(dict.fromkeys(readable(cell.skill) for cell in missed.working))
-            said.append(f"{week}: no plan was found that keeps every absence: {in_words(missed.working, names)}")
-            said.append(f"{week}: lower the minimum of {skills} in the sheet needs, or give someone the skill")
+            said.append(
+                f"{week}: no plan was found that keeps every absence: {in_words(missed.working, names)}"
+            )
+            said.append(
+                f"{week}: lower the minimum of {skills} in the sheet needs, or give someone the skill"
+            )
         else:
-            said.append(f"{week}: no plan was found that keeps every limit: {limits_in_words(missed.above, cells, names)}")
+            said.append(
+                f"{week}: no plan was found that keeps every limit: {limits_in_words(missed.above, cells, names)}"
+            )
             said.append(f"{week}: {limits_way_out(plan.week(missed.week), missed.above, cells)}")
     return said
 
@@ -85,7 +105,9 @@ def exceeded_lines(plan: WardPlan) -> List[str]:
     said = []
     for number, charge in exceeded_in_weeks(plan):
         words = limits_in_words([charge], plan.state.roster(number), plan.day_names(number))
-        said.append(f"{plan.days.week_text(number)} exceeds a limit that holds: {words}: plan again, or allow her more")
+        said.append(
+            f"{plan.days.week_text(number)} exceeds a limit that holds: {words}: plan again, or allow her more"
+        )
     return said + [_shifts_line(plan, many) for many in too_many_shifts(plan)]
 
 
@@ -137,16 +159,24 @@ def due_lines(plan: WardPlan) -> List[str]:
     due = due_to_days_away(plan)
     said = []
     for part in due:
-        text, why = charge_text(part.charge, names=plan.day_names(part.week)), _DUE[part.charge.rule].format(joined(part.words))
+        text, why = charge_text(part.charge, names=plan.day_names(part.week)), _DUE[
+            part.charge.rule
+        ].format(joined(part.words))
         said.append(readable(f"{part.points} points: {text}: {why}"))
-    return [*said, f"{sum(part.points for part in due)} of the points are due to days away"] if len(due) > 1 else said
+    return (
+        [*said, f"{sum(part.points for part in due)} of the points are due to days away"]
+        if len(due) > 1
+        else said
+    )
 
 
 def broken_text(plan: WardPlan, broken: Broken) -> str:
     """The hard rule that a week of a plan breaks, or the limits that it exceeds."""
     if broken.rule:
         return f"{plan.days.week_text(broken.week)}, {readable(broken.rule)}"
-    words = limits_in_words(broken.above, plan.state.roster(broken.week), plan.day_names(broken.week))
+    words = limits_in_words(
+        broken.above, plan.state.roster(broken.week), plan.day_names(broken.week)
+    )
     return f"{plan.days.week_text(broken.week)} exceeds a limit that holds: {words}"
 
 
@@ -155,9 +185,14 @@ def evenness_lines(plan: WardPlan) -> List[str]:
     shared = evenness(plan)
     said = []
     for kind, spreads in (("nights", shared.nights), ("weekends", shared.weekends)):
-        numbers = [f"{readable(spread.contract)} {spread.fewest}{_to_most(spread.fewest, spread.most)}" for spread in spreads]
+        numbers = [
+            f"{readable(spread.contract)} {spread.fewest}{_to_most(spread.fewest, spread.most)}"
+            for spread in spreads
+        ]
         if numbers:
-            said.append(f"{kind} of each nurse who may work them, by contract: {', '.join(numbers)}")
+            said.append(
+                f"{kind} of each nurse who may work them, by contract: {', '.join(numbers)}"
+            )
     return said
 
 
@@ -174,7 +209,11 @@ def pages_lines(pages: Pages) -> List[str]:
         return [f"the plan holds, but its pages are not written: {fault_line(pages.fault)}"]
     said = [f"written: {', '.join(map(str, pages.written))}"] if pages.written else []
     if pages.gone:
-        wall = ": take down what hangs on the wall" if any(path.name == "wall.html" for path in pages.gone) else ""
+        wall = (
+            ": take down what hangs on the wall"
+            if any(path.name == "wall.html" for path in pages.gone)
+            else ""
+        )
         said.append(f"taken away: {', '.join(map(str, pages.gone))}{wall}")
     return said
 
@@ -186,6 +225,10 @@ def anew_lines(rows: Iterable[WeekRow], days: PlanDays) -> Iterator[str]:
         numbers_of.setdefault(row.week, []).append(str(row.number))
     for week, numbers in numbers_of.items():
         named = f"row{'s' if len(numbers) > 1 else ''} {joined(numbers)}"
-        span = f", now {days.span([WEEK_DAYS * week, WEEK_DAYS * week + WEEK_DAYS - 1])}" if days.monday else ""
+        span = (
+            f", now {days.span([WEEK_DAYS * week, WEEK_DAYS * week + WEEK_DAYS - 1])}"
+            if days.monday
+            else ""
+        )
         now = f"weeks count anew, and this is {days.week_text(week)}{span}"
         yield f"sheet needs, {named}: {now}: correct it, or delete what the last period needed"

@@ -8,7 +8,19 @@ import datetime
 import json
 from dataclasses import dataclass, replace
 from pathlib import Path
-from typing import Any, Callable, Collection, Dict, Iterable, List, Mapping, NamedTuple, Optional, Sequence, Tuple
+from typing import (
+    Any,
+    Callable,
+    Collection,
+    Dict,
+    Iterable,
+    List,
+    Mapping,
+    NamedTuple,
+    Optional,
+    Sequence,
+    Tuple,
+)
 
 from ..judging.leave import ILL
 from ..week.dates import PlanDays
@@ -64,7 +76,8 @@ class SetDay(NamedTuple):
 class Record(NamedTuple):
     """What a plan's folder says of itself: the verb that made it, and when; the days of the plan; the first week that is not over; whether
     it hangs on the wall, so that later plans change little; the days away that verbs have written, of which the last one of a day holds;
-    the days of swaps that were written, and those that were set, whose shifts later plans keep; and the words that its user typed."""
+    the days of swaps that were written, and those that were set, whose shifts later plans keep; and the words that its user typed.
+    """
 
     verb: str
     time: datetime.datetime
@@ -142,28 +155,53 @@ class State:
 
     def keeping(self, fits: Callable[[NurseDay], bool]) -> "State":
         """The same with those days of swaps, and those that were set, that fit."""
-        return replace(self.agreeing(fits), set_days=tuple(promise for promise in self.set_days if fits(promise.place)))
+        return replace(
+            self.agreeing(fits),
+            set_days=tuple(promise for promise in self.set_days if fits(promise.place)),
+        )
 
 
 # ---- the words of days away
 
 
-def with_days(absences: Sequence[DayWord], nurse: str, days: Iterable[int], word: str, lost: Mapping[int, int] = {}) -> Tuple[DayWord, ...]:
+def with_days(
+    absences: Sequence[DayWord],
+    nurse: str,
+    days: Iterable[int],
+    word: str,
+    lost: Mapping[int, int] = {},
+) -> Tuple[DayWord, ...]:
     """The absences with this word for these days of a nurse, in place of older ones, or, if she is ill, above them; `lost` has the shifts
     that her illness takes from a plan on the wall."""
     new = [DayWord(nurse, day, word, lost.get(day)) for day in days]
     # Other words stay below: who is ill on days of leave has her leave again if she is back.
     taken, stay = {(absence.nurse, absence.day) for absence in new}, word == ILL
-    kept = (absence for absence in absences if (absence.nurse, absence.day) not in taken or (stay and absence.word not in (ILL, SHEET)))
+    kept = (
+        absence
+        for absence in absences
+        if (absence.nurse, absence.day) not in taken or (stay and absence.word not in (ILL, SHEET))
+    )
     return (*kept, *new)
 
 
-def without_last(absences: Sequence[DayWord], nurse: str, days: Collection[int]) -> Tuple[DayWord, ...]:
+def without_last(
+    absences: Sequence[DayWord], nurse: str, days: Collection[int]
+) -> Tuple[DayWord, ...]:
     """The absences without the last one of each of these days of a nurse: the one below it holds again, or else what the spreadsheet
     says."""
-    words = {day: [absence.word for absence in absences if (absence.nurse, absence.day) == (nurse, day)] for day in days}
+    words = {
+        day: [absence.word for absence in absences if (absence.nurse, absence.day) == (nurse, day)]
+        for day in days
+    }
     others = (absence for absence in absences if absence.nurse != nurse or absence.day not in words)
-    return (*others, *(DayWord(nurse, day, word) for day, written in words.items() for word in written[:-1] or [SHEET]))
+    return (
+        *others,
+        *(
+            DayWord(nurse, day, word)
+            for day, written in words.items()
+            for word in written[:-1] or [SHEET]
+        ),
+    )
 
 
 def words_of(absences: Sequence[DayWord], nurse: str) -> Dict[int, str]:
@@ -194,12 +232,18 @@ def record_text(record: Record) -> str:
         "weeks": record.days.weeks,
         "weeks over": record.open_week,
         "published": record.published,
-        "days away": [list(absence if absence.lost is not None else absence[:3]) for absence in record.absences],
+        "days away": [
+            list(absence if absence.lost is not None else absence[:3])
+            for absence in record.absences
+        ],
         "agreed days": [list(place) for place in record.agreed],
         _SET: [list(promise) for promise in record.set_days],
         _TYPED: record.typed,
     }
-    lines = [f"  {json.dumps(name)}: {json.dumps(value, ensure_ascii=False)}" for name, value in values.items()]
+    lines = [
+        f"  {json.dumps(name)}: {json.dumps(value, ensure_ascii=False)}"
+        for name, value in values.items()
+    ]
     return "{\n" + ",\n".join(lines) + "\n}\n"
 
 
@@ -207,18 +251,28 @@ def read_record(folder: Path) -> Record:
     """The record of a plan's folder. Raises FileFault with place and cure if the file is not as a verb has written it."""
     path = folder / NAME
     if not path.exists():
-        raise FileFault(folder, 0, "this folder is no plan: move it away, or type undo to go back to the plan before it")
+        raise FileFault(
+            folder,
+            0,
+            "this folder is no plan: move it away, or type undo to go back to the plan before it",
+        )
     check_own(folder)
     if path.stat().st_size > _MOST_BYTES:
         raise FileFault(path, 0, f"the file has more than {_MOST_BYTES} bytes: {_CURE}")
     text = text_of(path)
     for number, line in enumerate(text.split("\n"), 1):
         if any("\udc80" <= letter <= "\udcff" for letter in line):
-            raise FileFault(path, number, f"this line has a byte that is no UTF-8, as another program has saved it: {_CURE}")
+            raise FileFault(
+                path,
+                number,
+                f"this line has a byte that is no UTF-8, as another program has saved it: {_CURE}",
+            )
     try:
         return _record_of(json.loads(text))
     except json.JSONDecodeError as fault:
-        raise FileFault(path, fault.lineno, f"this line was changed, and is no JSON any more: {_CURE}") from fault
+        raise FileFault(
+            path, fault.lineno, f"this line was changed, and is no JSON any more: {_CURE}"
+        ) from fault
     except (ValueError, RecursionError) as fault:
         what = fault.args[0] if isinstance(fault, _Changed) else "it is no plan"
         raise FileFault(path, 0, f"this file was changed: {what}: {_CURE}") from fault
@@ -229,17 +283,32 @@ class _Changed(ValueError):
 
 
 def _record_of(values: Any) -> Record:
-    names = ("verb", "time", "monday", "weeks", "weeks over", "published", "days away", "agreed days", _SET, _TYPED)
+    names = (
+        "verb",
+        "time",
+        "monday",
+        "weeks",
+        "weeks over",
+        "published",
+        "days away",
+        "agreed days",
+        _SET,
+        _TYPED,
+    )
     if not isinstance(values, dict) or {_SET, _TYPED, *values} != set(names):
         raise _Changed(f"it has not the names {', '.join(names)}")
     values = {_SET: [], _TYPED: "", **values}
     monday = values["monday"]
     weeks = _taken(values, "weeks", _is_number_to(_MOST_WEEKS))
     days = PlanDays(None if monday is None else _time(values, "monday", "%Y-%m-%d").date(), weeks)
-    is_day, open_week = _is_number_to(days.total - 1), _taken(values, "weeks over", _is_number_to(weeks))
+    is_day, open_week = _is_number_to(days.total - 1), _taken(
+        values, "weeks over", _is_number_to(weeks)
+    )
     absences = _rows(values, "days away", [_is_text, is_day, _is_text, _is_number_to(1)], least=3)
     agreed = _rows(values, "agreed days", [_is_text, is_day])
-    set_days = _rows(values, _SET, [_is_text, is_day, *[lambda value: isinstance(value, str)] * 3], least=3)
+    set_days = _rows(
+        values, _SET, [_is_text, is_day, *[lambda value: isinstance(value, str)] * 3], least=3
+    )
     return Record(
         _taken(values, "verb", _is_text),
         _time(values, "time", "%Y-%m-%d %H:%M"),
@@ -258,7 +327,9 @@ def _is_text(value: object) -> bool:
 
 
 def _is_number_to(most: int) -> Callable[[object], bool]:
-    return lambda value: isinstance(value, int) and not isinstance(value, bool) and 0 <= value <= most
+    return (
+        lambda value: isinstance(value, int) and not isinstance(value, bool) and 0 <= value <= most
+    )
 
 
 def _taken(values: Dict[str, Any], name: str, fits: Callable[[object], bool]) -> Any:
@@ -276,12 +347,21 @@ def _time(values: Dict[str, Any], name: str, form: str) -> datetime.datetime:
         raise _Changed(f"'{name}' has a value that no plan has") from None
 
 
-def _rows(values: Dict[str, Any], name: str, fits: Sequence[Callable[[object], bool]], least: Optional[int] = None) -> List[List[Any]]:
+def _rows(
+    values: Dict[str, Any],
+    name: str,
+    fits: Sequence[Callable[[object], bool]],
+    least: Optional[int] = None,
+) -> List[List[Any]]:
     """The rows of this name, whose values fit one by one: all of them, or the first ones, at least so many."""
     lengths = range(len(fits) if least is None else least, len(fits) + 1)
     rows = _taken(values, name, lambda value: isinstance(value, list))
     for number, row in enumerate(rows, 1):
-        if not isinstance(row, list) or len(row) not in lengths or not all(fit(value) for fit, value in zip(fits, row)):
+        if (
+            not isinstance(row, list)
+            or len(row) not in lengths
+            or not all(fit(value) for fit, value in zip(fits, row))
+        ):
             raise _Changed(f"row {number} of '{name}' is none of a plan")
     return list(rows)
 
@@ -289,7 +369,10 @@ def _rows(values: Dict[str, Any], name: str, fits: Sequence[Callable[[object], b
 def read_state(folder: Path) -> State:
     """Reads the folder of a plan."""
     record = read_record(folder)
-    planned = next((week for week in range(record.days.weeks) if not (folder / roster_name(week)).exists()), record.days.weeks)
+    planned = next(
+        (week for week in range(record.days.weeks) if not (folder / roster_name(week)).exists()),
+        record.days.weeks,
+    )
     cells = in_plan([read_solution(folder / roster_name(week)).cells for week in range(planned)])
     start = read_history(folder / START, read_scenario(folder / "ward.txt"))
     return State(
@@ -310,17 +393,28 @@ def _with_shifts(set_days: Sequence[SetDay], cells: Sequence[Cell]) -> Tuple[Set
     works = {NurseDay(cell.nurse, cell.day): cell for cell in cells}
     pairs = ((promise, works.get(promise.place)) for promise in set_days)
     return tuple(
-        promise if promise.shift is not None else promise._replace(shift=cell.shift if cell else "", skill=cell.skill if cell else "")
+        promise
+        if promise.shift is not None
+        else promise._replace(shift=cell.shift if cell else "", skill=cell.skill if cell else "")
         for promise, cell in pairs
     )
 
 
-def state_texts(state: State, record: Record, scenario: Scenario, histories: Sequence[History]) -> Dict[str, str]:
+def state_texts(
+    state: State, record: Record, scenario: Scenario, histories: Sequence[History]
+) -> Dict[str, str]:
     """The files of a plan's folder beside those of the ward: what its verbs have written, and the rosters and histories that are known."""
     order = {nurse: number for number, nurse in enumerate(scenario.nurses)}
     texts = {START: history_text(state.start), NAME: record_text(record)}
-    texts.update({f"history-{week}.txt": history_text(past) for week, past in enumerate(histories[: state.open_week + 1])})
+    texts.update(
+        {
+            f"history-{week}.txt": history_text(past)
+            for week, past in enumerate(histories[: state.open_week + 1])
+        }
+    )
     for week in range(state.planned):
-        cells = sorted(state.roster(week), key=lambda cell: (order.get(cell.nurse, len(order)), cell.day))
+        cells = sorted(
+            state.roster(week), key=lambda cell: (order.get(cell.nurse, len(order)), cell.day)
+        )
         texts[roster_name(week)] = solution_text(Solution(week, scenario.name, tuple(cells)))
     return texts

@@ -58,7 +58,9 @@ class PlanStore:
         """The same. Raises Misuse if it has no rosters."""
         plan = self.current()
         if not plan.is_planned:
-            raise Misuse(f"{self.folder.top} has no plan yet: type inrc2pb-plan {shlex.quote(str(self.folder.top))} plan")
+            raise Misuse(
+                f"{self.folder.top} has no plan yet: type inrc2pb-plan {shlex.quote(str(self.folder.top))} plan"
+            )
         return plan
 
     def fitting(self) -> WardPlan:
@@ -73,7 +75,9 @@ class PlanStore:
     def add(self, verb: str, plan: WardPlan, typed: str = "") -> None:
         """Writes the plan that this verb has made, for which these words were typed, without pages."""
         now = datetime.datetime.now()
-        self.folder.add(verb.split(" ", 1)[0], plan_texts(plan, plan.state.record(verb, now, typed)), now)
+        self.folder.add(
+            verb.split(" ", 1)[0], plan_texts(plan, plan.state.record(verb, now, typed)), now
+        )
 
     def other_pages(self) -> Tuple[str, ...]:
         """The names of pages that show another plan than the one that holds, as after a run that was killed."""
@@ -86,7 +90,11 @@ class PlanStore:
             return ()
         ward = read_scenario(last / "ward.txt")
         paths = {row.week: last / f"week-{row.week}.txt" for row in plan.ward.week_rows}
-        older = {number: read_week(path, ward).requirements for number, path in paths.items() if path.exists()}
+        older = {
+            number: read_week(path, ward).requirements
+            for number, path in paths.items()
+            if path.exists()
+        }
         return tuple(unchanged_rows(plan.ward.week_rows, older))
 
     def worked_pages(self, plan: Optional[WardPlan]) -> Dict[str, str]:
@@ -99,7 +107,14 @@ class PlanStore:
         """The last plan of the same days that was hung up before the one that holds, if the spreadsheet still has its names."""
         older = reversed(self.folder.all_plans()[:-1])
         records = ((path, known_record(path)) for path in older)
-        path = next((path for path, record in records if record and record.verb == PAGE and record.days == plan.days), None)
+        path = next(
+            (
+                path
+                for path, record in records
+                if record and record.verb == PAGE and record.days == plan.days
+            ),
+            None,
+        )
         if path is None:
             return None
         try:
@@ -113,8 +128,15 @@ class PlanStore:
         is_ended = bool(plan.state.open_week) and not plan.weeks
         periods, before = self._periods() - is_ended, self._before(plan.days)
         try:
-            top, stamp, old, earlier = self.folder.top, self.folder.stamp, self.hung_up(plan), self._earlier_sums(plan)
-            return pages.write_pages(top, plan, stamp, periods=periods, before=before, old=old, earlier=earlier)
+            top, stamp, old, earlier = (
+                self.folder.top,
+                self.folder.stamp,
+                self.hung_up(plan),
+                self._earlier_sums(plan),
+            )
+            return pages.write_pages(
+                top, plan, stamp, periods=periods, before=before, old=old, earlier=earlier
+            )
         except OSError as fault:
             return Pages(fault=fault)
 
@@ -125,9 +147,16 @@ class PlanStore:
         names = [pages.ROSTER, pages.WALL]
         if undone and holds and (undone.days, undone.open_week) != (holds.days, holds.open_week):
             names.append(pages.worked_name(holds.days, self._periods()))
-        before = {nurse: days for record in (undone, holds) if record for nurse, days in self._before(record.days).items()}
+        before = {
+            nurse: days
+            for record in (undone, holds)
+            if record
+            for nurse, days in self._before(record.days).items()
+        }
         try:
-            return Pages(gone=(*pages.taken_away(top, names), *pages.calendars_taken_away(top, [], before)))
+            return Pages(
+                gone=(*pages.taken_away(top, names), *pages.calendars_taken_away(top, [], before))
+            )
         except OSError as fault:
             return Pages(fault=fault)
 
@@ -155,7 +184,9 @@ def fitted(plan: WardPlan) -> WardPlan:
     if plan.unknown:
         row = plan.unknown[0]._replace(day=plan.unknown[0].day % WEEK_DAYS).row()
         names = f"the plan has '{row}', and the spreadsheet has not all of these names"
-        raise Misuse(f"{names}: the verb plan makes a plan that fits, undo goes back to the plan before it")
+        raise Misuse(
+            f"{names}: the verb plan makes a plan that fits, undo goes back to the plan before it"
+        )
     return plan
 
 
@@ -177,10 +208,16 @@ def _sums_of_folder(folder: Path, plan: WardPlan) -> Dict[str, Sums]:
     """What each nurse had by the plan of a folder; the times of shift types, and which are nights, are those of another plan."""
     try:
         state, ward = read_state(folder), read_scenario(folder / "ward.txt")
-        weeks = [read_week(folder / f"week-{number}.txt", ward) for number in range(state.days.weeks)]
+        weeks = [
+            read_week(folder / f"week-{number}.txt", ward) for number in range(state.days.weeks)
+        ]
     except (FileFault, OSError):
         return {}
-    wishes = [replace(wish, day=WEEK_DAYS * number + wish.day) for number, week in enumerate(weeks) for wish in wishes_of(week)]
+    wishes = [
+        replace(wish, day=WEEK_DAYS * number + wish.day)
+        for number, week in enumerate(weeks)
+        for wish in wishes_of(week)
+    ]
     return sums_of(ward.nurses, state.cells, wishes, plan.days_away.nights, plan.ward.times)
 
 
@@ -188,8 +225,16 @@ def published_days(folders: Iterable[Path], days: PlanDays) -> Dict[str, Set[int
     """The days of each nurse's shifts in plans of these days that hung on the wall, but for damaged files."""
     days_of: Dict[str, Set[int]] = {}
     records = ((folder, known_record(folder)) for folder in folders)
-    published = [folder for folder, of_plan in records if of_plan and of_plan.published and of_plan.days == days]
-    for number, path in ((number, folder / roster_name(number)) for folder in published for number in range(days.weeks)):
+    published = [
+        folder
+        for folder, of_plan in records
+        if of_plan and of_plan.published and of_plan.days == days
+    ]
+    for number, path in (
+        (number, folder / roster_name(number))
+        for folder in published
+        for number in range(days.weeks)
+    ):
         for cell in _known_cells(path):
             days_of.setdefault(cell.nurse, set()).add(WEEK_DAYS * number + cell.day)
     return days_of
@@ -218,5 +263,7 @@ def penalties(plan: WardPlan) -> Dict[int, int]:
             history, roster = folder / f"history-{number}.txt", folder / roster_name(number)
             write_text(history, history_text(plan.histories[number]))
             write_solution(roster, Solution(number, plan.scenario.name, plan.state.roster(number)))
-            by_week[number] = penalty_of(WeekFiles(folder / "ward.txt", history, folder / f"week-{number}.txt"), roster)
+            by_week[number] = penalty_of(
+                WeekFiles(folder / "ward.txt", history, folder / f"week-{number}.txt"), roster
+            )
     return by_week

@@ -10,7 +10,15 @@ from ..week.words import OFF, plural, readable
 from .changes import shift_changes
 from .facts import beside_days_away
 from .outcome import DaySet, Offers, Swapped
-from .sentences import beside_text, call_lines, cell_text, change_lines, exceeded_lines, pages_lines, wish_lines
+from .sentences import (
+    beside_text,
+    call_lines,
+    cell_text,
+    change_lines,
+    exceeded_lines,
+    pages_lines,
+    wish_lines,
+)
 from .state import BACK, SetDay
 from .swaps import Fault, Instead, Kind, Offer, Swaps
 from .ward import ALWAYS_OFF, PROMISED, WardPlan
@@ -26,7 +34,10 @@ def fault_text(plan: WardPlan, fault: Fault) -> str:
     """Why a swap, or a day that is set, cannot be."""
     nurse, day = fault.nurse, plan.days.text(fault.day)
     if fault.kind is Kind.LIMIT:
-        above = (limits_in_words(week.charges, week.cells, plan.day_names(week.week)) for week in fault.above)
+        above = (
+            limits_in_words(week.charges, week.cells, plan.day_names(week.week))
+            for week in fault.above
+        )
         return f"{', '.join(above)}, and this limit holds"
     if fault.kind is Kind.BESIDE and fault.beside:
         return beside_text(plan.days, fault.beside)
@@ -70,7 +81,11 @@ def offer_text(swaps: Swaps, offer: Offer) -> str:
     """Who takes a shift, which of hers is taken for it, and what that adds to the points."""
     _, other, days = offer.swap
     given = ((day, swaps.works(other, day)) for day in days)
-    taken = "".join(f", in exchange for {readable(cell.shift)} on {swaps.plan.days.text(day)}" for day, cell in given if cell)
+    taken = "".join(
+        f", in exchange for {readable(cell.shift)} on {swaps.plan.days.text(day)}"
+        for day, cell in given
+        if cell
+    )
     return f"{offer.cost:+5}  {readable(other)} takes it{taken}"
 
 
@@ -87,7 +102,9 @@ def nobody_text(none: Offers) -> str:
 
 def offers_lines(offers: Offers) -> List[str]:
     """Who could take a shift, the cheapest first, or why nobody can."""
-    cell, day = offers.swaps.works(offers.nurse, offers.day), offers.swaps.plan.days.text(offers.day)
+    cell, day = offers.swaps.works(offers.nurse, offers.day), offers.swaps.plan.days.text(
+        offers.day
+    )
     shift = f"{readable(offers.nurse)}'s {readable(cell.shift if cell else '')} on {day}"
     if not offers.offers:
         return [f"nobody can take {shift}: {nobody_text(offers)}"]
@@ -117,7 +134,13 @@ def changed_lines(old: WardPlan, new: WardPlan) -> List[str]:
     changes = shift_changes(old.cells, new.cells)
     known = beside_days_away(old)
     beside = [beside_text(new.days, odd) for odd in beside_days_away(new) if odd not in known]
-    return [*change_lines(changes, old.days), *call_lines(changes), *wish_lines(old, new), *beside, *_charge_lines(old, new)]
+    return [
+        *change_lines(changes, old.days),
+        *call_lines(changes),
+        *wish_lines(old, new),
+        *beside,
+        *_charge_lines(old, new),
+    ]
 
 
 def _charge_lines(old: WardPlan, new: WardPlan) -> List[str]:
@@ -125,13 +148,20 @@ def _charge_lines(old: WardPlan, new: WardPlan) -> List[str]:
     before, now = old.view().penalty, new.view().penalty
     if before is None or now is None:
         return []
-    return [*charge_lines(_charged(old), _charged(new)), sum_text(before, now, f": {now} points instead of {before}")]
+    return [
+        *charge_lines(_charged(old), _charged(new)),
+        sum_text(before, now, f": {now} points instead of {before}"),
+    ]
 
 
 def _charged(plan: WardPlan) -> List[Charged]:
     """The cost of each charge, and the charge in words."""
     weeks = ((week.charges or (), plan.day_names(week.number)) for week in plan.view().weeks)
-    return [Charged(charge.cost, readable(charge_text(charge, names=names))) for charges, names in weeks for charge in charges]
+    return [
+        Charged(charge.cost, readable(charge_text(charge, names=names)))
+        for charges, names in weeks
+        for charge in charges
+    ]
 
 
 # ---- a day that is set
@@ -140,13 +170,21 @@ def _charged(plan: WardPlan) -> List[Charged]:
 def day_set_lines(day_set: DaySet, write: str) -> List[str]:
     """Why a nurse's day cannot be set, or what that changes and costs, and whether it is written; who could do it instead."""
     if day_set.takes_back:
-        said = [f"{_promise_text(day_set.old, day_set.promise)}: swaps and later plans may change it again"]
+        said = [
+            f"{_promise_text(day_set.old, day_set.promise)}: swaps and later plans may change it again"
+        ]
     elif day_set.faults:
         return [*_refused_lines(day_set.old, [*day_set.faults]), *_instead_lines(day_set)]
     else:
-        older = [f"this replaces what was promised: {_promise_text(day_set.old, day_set.replaces)}"] if day_set.replaces else []
+        older = (
+            [f"this replaces what was promised: {_promise_text(day_set.old, day_set.replaces)}"]
+            if day_set.replaces
+            else []
+        )
         said = [*older, *changed_lines(day_set.old, day_set.new)]
-        said.append(f"{_promise_text(day_set.old, day_set.promise)}: swaps and later plans keep it, until it is taken back")
+        said.append(
+            f"{_promise_text(day_set.old, day_set.promise)}: swaps and later plans keep it, until it is taken back"
+        )
     if not day_set.is_written:
         instead = [] if day_set.takes_back else _instead_lines(day_set)
         return [*said, f"nothing is written: {write}", *instead] if write else said
@@ -166,9 +204,17 @@ def _instead_lines(day_set: DaySet) -> List[str]:
         return ["nobody else could do it without a broken rule or promise"]
     nurse, day = readable(day_set.place.nurse), day_set.old.days.head(day_set.place.day)
     shown = day_set.instead[:MOST_OFFERS]
-    ways = [f"swap {nurse} {day} NAME" if way.swap or not day_set.now else f"set NAME {day} {readable(day_set.now.shift)}" for way in shown]
+    ways = [
+        f"swap {nurse} {day} NAME"
+        if way.swap or not day_set.now
+        else f"set NAME {day} {readable(day_set.now.shift)}"
+        for way in shown
+    ]
     swaps = Swaps(day_set.old)
-    said = ["other ways, and what they add to the points:", *(_instead_text(swaps, day_set, way) for way in shown)]
+    said = [
+        "other ways, and what they add to the points:",
+        *(_instead_text(swaps, day_set, way) for way in shown),
+    ]
     return [*said, f"with the name of one of them: {', or '.join(dict.fromkeys(ways))}"]
 
 

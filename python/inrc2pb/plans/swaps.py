@@ -72,7 +72,9 @@ class NurseWeeks:
     def __init__(self, plan: WardPlan) -> None:
         self._plan, self._held = plan, by_nurse(plan, plan.held)
         self._data: Dict[Tuple[str, int], WeekData] = {
-            (nurse, number): _of_nurse(plan.data[number], nurse) for nurse in plan.scenario.nurses for number in plan.weeks
+            (nurse, number): _of_nurse(plan.data[number], nurse)
+            for nurse in plan.scenario.nurses
+            for number in plan.weeks
         }
 
     def _weeks(self, nurse: str, cells: NurseCells) -> Iterator[Tuple[Week, Tuple[Cell, ...]]]:
@@ -82,18 +84,29 @@ class NurseWeeks:
         past = plan.past.nurses[nurse]
         for number in plan.weeks:
             of_week = in_week(cells.values(), number)
-            yield Week(scenario, History(number, scenario.name, {nurse: past}), self._data[nurse, number]), of_week
+            yield Week(
+                scenario, History(number, scenario.name, {nurse: past}), self._data[nurse, number]
+            ), of_week
             past = next_nurse_history(past, {cell.day: cell.shift for cell in of_week})
 
     def cost(self, nurse: str, cells: NurseCells) -> int:
         """What the nurse is charged for these shifts."""
-        return sum(sum(costs(week, of_week).values()) for week, of_week in self._weeks(nurse, cells))
+        return sum(
+            sum(costs(week, of_week).values()) for week, of_week in self._weeks(nurse, cells)
+        )
 
     def faults(self, nurse: str, cells: NurseCells) -> List[Fault]:
         """The hard rules, absences and held shifts that these shifts break, each by itself, in the order of days."""
         last = self._plan.past.nurses[nurse].last_shift
-        shift_on = {**({self._plan.first - 1: last} if last else {}), **{day: cell.shift for day, cell in cells.items()}}
-        faults = [Fault(Kind.HELD, nurse, day) for day, cell in self._held[nurse].items() if cells.get(day) != cell]
+        shift_on = {
+            **({self._plan.first - 1: last} if last else {}),
+            **{day: cell.shift for day, cell in cells.items()},
+        }
+        faults = [
+            Fault(Kind.HELD, nurse, day)
+            for day, cell in self._held[nurse].items()
+            if cells.get(day) != cell
+        ]
         for cell in cells.values():
             faults += self._cell_faults(cell)
             before = shift_on.get(cell.day - 1)
@@ -113,8 +126,15 @@ class NurseWeeks:
 
     def above(self, nurse: str, cells: NurseCells) -> List[Above]:
         """What these shifts of the nurse have above limits that hold."""
-        weeks = ((week, exceeded(week, week.data.limits, of_week), of_week) for week, of_week in self._weeks(nurse, cells))
-        return [Above(week.history.week, tuple(charges), of_week) for week, charges, of_week in weeks if charges]
+        weeks = (
+            (week, exceeded(week, week.data.limits, of_week), of_week)
+            for week, of_week in self._weeks(nurse, cells)
+        )
+        return [
+            Above(week.history.week, tuple(charges), of_week)
+            for week, charges, of_week in weeks
+            if charges
+        ]
 
     def excess(self, nurse: str, cells: NurseCells) -> int:
         """How much that is in all."""
@@ -130,13 +150,20 @@ class NurseWeeks:
 
     def _around(self, nurse: str, cells: NurseCells) -> Tuple[DaysAway, Dict[NurseDay, str]]:
         """The nurse's days away, and her shift types on the days from the first one that is not over."""
-        return self._plan.days_away.of(nurse), {NurseDay(nurse, day - self._plan.first): cell.shift for day, cell in cells.items()}
+        return self._plan.days_away.of(nurse), {
+            NurseDay(nurse, day - self._plan.first): cell.shift for day, cell in cells.items()
+        }
 
 
 def _of_nurse(data: WeekData, nurse: str) -> WeekData:
     """What a week's file has about one nurse."""
     requests = tuple(request for request in data.requests if request.nurse == nurse)
-    return replace(data, requirements={}, requests=requests, limits=frozenset(limit for limit in data.limits if limit.nurse == nurse))
+    return replace(
+        data,
+        requirements={},
+        requests=requests,
+        limits=frozenset(limit for limit in data.limits if limit.nurse == nurse),
+    )
 
 
 def by_nurse(plan: WardPlan, works: Mapping[NurseDay, Cell]) -> Dict[str, Dict[int, Cell]]:
@@ -179,7 +206,10 @@ class Instead(NamedTuple):
 def swapped(cells: Sequence[Cell], swap: Swap) -> List[Cell]:
     """The shifts after the swap."""
     pairs = ((swap.nurse, swap.other), (swap.other, swap.nurse))
-    return exchanged(cells, {NurseDay(nurse, day): NurseDay(other, day) for nurse, other in pairs for day in swap.days})
+    return exchanged(
+        cells,
+        {NurseDay(nurse, day): NurseDay(other, day) for nurse, other in pairs for day in swap.days},
+    )
 
 
 class Swaps:
@@ -189,7 +219,9 @@ class Swaps:
         self.plan = plan
         self._cells = by_nurse(plan, plan.works)
         self._alone = NurseWeeks(plan)
-        self._costs = {nurse: self._alone.cost(nurse, cells) for nurse, cells in self._cells.items()}
+        self._costs = {
+            nurse: self._alone.cost(nurse, cells) for nurse, cells in self._cells.items()
+        }
         self._number = Counter(Place(*cell[1:]) for cell in plan.cells)
 
     def works(self, nurse: str, day: int) -> Optional[Cell]:
@@ -200,31 +232,60 @@ class Swaps:
         """The shifts of the two nurses after the swap."""
         for nurse, other in ((swap.nurse, swap.other), (swap.other, swap.nurse)):
             kept = {day: cell for day, cell in self._cells[nurse].items() if day not in swap.days}
-            gained = {day: cell._replace(nurse=nurse) for day, cell in self._cells[other].items() if day in swap.days}
+            gained = {
+                day: cell._replace(nurse=nurse)
+                for day, cell in self._cells[other].items()
+                if day in swap.days
+            }
             yield nurse, {**kept, **gained}
 
     def cost(self, swap: Swap) -> int:
         """What the swap adds to the penalty: only the two nurses' charges change."""
-        return sum(self._alone.cost(nurse, cells) - self._costs[nurse] for nurse, cells in self._after(swap))
+        return sum(
+            self._alone.cost(nurse, cells) - self._costs[nurse]
+            for nurse, cells in self._after(swap)
+        )
 
     def faults(self, swap: Swap) -> List[Fault]:
         """Why the swap cannot be: promises, hard rules, limits, absences and held shifts that it breaks, and what it makes worse beside
         days away."""
         after = list(self._after(swap))
-        promises = [fault for nurse, cells in after for fault in self._broken_promises(nurse, cells, swap.days)]
-        return [*promises, *(fault for nurse, cells in after for fault in self._faults(nurse, cells, swap.days))]
+        promises = [
+            fault
+            for nurse, cells in after
+            for fault in self._broken_promises(nurse, cells, swap.days)
+        ]
+        return [
+            *promises,
+            *(fault for nurse, cells in after for fault in self._faults(nurse, cells, swap.days)),
+        ]
 
-    def _broken_promises(self, nurse: str, cells: NurseCells, days: Sequence[int]) -> Iterator[Fault]:
+    def _broken_promises(
+        self, nurse: str, cells: NurseCells, days: Sequence[int]
+    ) -> Iterator[Fault]:
         """The promised days of the nurse, of these days, on which such shifts are other ones than now, and not those that were promised."""
         promised = self.plan.state.promised
-        for promise in (promised[place] for place in (NurseDay(nurse, day) for day in days) if place in promised):
+        for promise in (
+            promised[place] for place in (NurseDay(nurse, day) for day in days) if place in promised
+        ):
             if cells.get(promise.day) not in (promise.cell, self.works(nurse, promise.day)):
                 yield Fault(Kind.PROMISED, nurse, promise.day, promise=promise)
 
     def offers(self, nurse: str, day: int) -> List[Offer]:
         """All swaps by which another nurse takes this shift, the cheapest and nearest first: alone, or for one of her shifts."""
-        offers = [Offer(self.cost(swap), swap) for swap in self._possible(nurse, day) if not self.faults(swap)]
-        return sorted(offers, key=lambda offer: (offer.cost, len(offer.swap.days), max(abs(other - day) for other in offer.swap.days)))
+        offers = [
+            Offer(self.cost(swap), swap)
+            for swap in self._possible(nurse, day)
+            if not self.faults(swap)
+        ]
+        return sorted(
+            offers,
+            key=lambda offer: (
+                offer.cost,
+                len(offer.swap.days),
+                max(abs(other - day) for other in offer.swap.days),
+            ),
+        )
 
     # ---- one day of one nurse
 
@@ -235,14 +296,20 @@ class Swaps:
         for left, step in self._steps(place, now):
             minimum = self.plan.needs[left].minimum if left in self.plan.needs else 0
             if step < 0 and self._number[left] <= minimum:
-                faults.append(Fault(Kind.MINIMUM, nurse, day, f"{left.shift} {left.skill}", number=minimum))
+                faults.append(
+                    Fault(Kind.MINIMUM, nurse, day, f"{left.shift} {left.skill}", number=minimum)
+                )
         return faults
 
     def day_cost(self, place: NurseDay, now: Optional[Cell]) -> int:
         """What that adds to the penalty: the charges of the nurse, and of the places that she leaves and takes."""
-        changed = self._alone.cost(place.nurse, self._with_day(place, now)) - self._costs[place.nurse]
+        changed = (
+            self._alone.cost(place.nurse, self._with_day(place, now)) - self._costs[place.nurse]
+        )
         for left, step in self._steps(place, now):
-            missing = self.plan.needs[left].optimal - self._number[left] if left in self.plan.needs else 0
+            missing = (
+                self.plan.needs[left].optimal - self._number[left] if left in self.plan.needs else 0
+            )
             changed += MISSING_NURSE * (max(0, missing - step) - max(0, missing))
         return changed
 
@@ -285,7 +352,11 @@ class Swaps:
             if same is None or same.shift != self._cells[nurse][day].shift:
                 yield Swap(nurse, other, (day,))
             if same is None:
-                yield from (Swap(nurse, other, (day, back)) for back in cells if back not in self._cells[nurse])
+                yield from (
+                    Swap(nurse, other, (day, back))
+                    for back in cells
+                    if back not in self._cells[nurse]
+                )
 
     def _faults(self, nurse: str, cells: NurseCells, days: Sequence[int]) -> Iterator[Fault]:
         """Why the nurse cannot have these shifts, of which those on these days are new."""
@@ -294,7 +365,11 @@ class Swaps:
             yield Fault(Kind.LIMIT, nurse, above=tuple(self._alone.above(nurse, cells)))
         if self._alone.excess_beside(nurse, cells) > self._alone.excess_beside(nurse, before):
             known = self._alone.beside(nurse, before)
-            yield from (Fault(Kind.BESIDE, nurse, beside=beside) for beside in self._alone.beside(nurse, cells) if beside not in known)
+            yield from (
+                Fault(Kind.BESIDE, nurse, beside=beside)
+                for beside in self._alone.beside(nurse, cells)
+                if beside not in known
+            )
         for fault in self._alone.faults(nurse, cells):
             if fault.day in days or (fault.kind is Kind.FOLLOWS and fault.day - 1 in days):
                 yield fault

@@ -21,7 +21,23 @@ from . import events
 from .changes import without_needless_changes
 from .facts import newly_exceeded, unkept
 from .exchanges import STEPS_A_SECOND, more_even
-from .outcome import Asked, Away, Checked, DaySet, Event, Keep, Made, NoPlan, Offers, Outcome, Pages, Planned, Published, Status, Swapped
+from .outcome import (
+    Asked,
+    Away,
+    Checked,
+    DaySet,
+    Event,
+    Keep,
+    Made,
+    NoPlan,
+    Offers,
+    Outcome,
+    Pages,
+    Planned,
+    Published,
+    Status,
+    Swapped,
+)
 from .outcome import Undone, WeekOver
 from .render import warning_lines
 from .search_sentences import FOR_REASON, WITHOUT_AGREED, absence_lines, search_lines
@@ -97,13 +113,18 @@ class Verbs:
 
     def written(self, planned: Planned, event: Event) -> Planned:
         """Writes the plan that an event has found, after its user has looked at it."""
-        return _saved(replace(planned, is_look=False), self._store.save(planned.verb, planned.plan, event.typed))
+        return _saved(
+            replace(planned, is_look=False),
+            self._store.save(planned.verb, planned.plan, event.typed),
+        )
 
 
 def _check(store: PlanStore, event: Event) -> Checked:
     """Reads the spreadsheet. The status is that which a plan would have, as far as the warnings show it."""
     plan = store.current()
-    status = {Reach.NONE: Status.NO_PLAN, Reach.NOT_ALL: Status.NOT_KEPT, Reach.ALL: Status.DONE}[plan.ward.reach]
+    status = {Reach.NONE: Status.NO_PLAN, Reach.NOT_ALL: Status.NOT_KEPT, Reach.ALL: Status.DONE}[
+        plan.ward.reach
+    ]
     return Checked(plan, store.other_pages(), store.anew(plan), status=status)
 
 
@@ -118,7 +139,9 @@ def _plan(store: PlanStore, event: Event) -> Outcome:
     few = old.state.published and old.is_planned and not event.free
     asked = Asked(first, few, event.seconds or WEEK_SECONDS * len(old.weeks), do=event.do)
     keeping = replace(old, limits=limits_of(old.ward, old.state, first))
-    return _searched(store, event, "plan", keeping, asked._replace(agreed=Keep.NONE) if event.free else asked)
+    return _searched(
+        store, event, "plan", keeping, asked._replace(agreed=Keep.NONE) if event.free else asked
+    )
 
 
 def _away(store: PlanStore, event: Event) -> Outcome:
@@ -149,7 +172,14 @@ def _say(store: PlanStore, said: Sequence[str]) -> None:
         store.means.say(line)
 
 
-def _searched(store: PlanStore, event: Event, verb: str, old: WardPlan, asked: Asked, absence: Optional[Away] = None) -> Outcome:
+def _searched(
+    store: PlanStore,
+    event: Event,
+    verb: str,
+    old: WardPlan,
+    asked: Asked,
+    absence: Optional[Away] = None,
+) -> Outcome:
     """Searches, and writes the plan. `absence` has the older plan with the absences that it had, if these are other ones now."""
     _say(store, search_lines(old, asked, store.means.end))
     store.means.progress.counts_changes = asked.few_changes and old.is_planned
@@ -166,7 +196,9 @@ def _searched(store: PlanStore, event: Event, verb: str, old: WardPlan, asked: A
         if not asked.few_changes:
             found = found._replace(plan=_evened(found, asked))
         works, before = found.plan.works, old.works
-        new = found.plan.with_state(found.plan.state.agreeing(lambda place: works.get(place) == before.get(place)))
+        new = found.plan.with_state(
+            found.plan.state.agreeing(lambda place: works.get(place) == before.get(place))
+        )
         older = absence.old if absence else old
         seen = older if old.is_planned else None
         status = Status.NOT_KEPT if unkept(new) else Status.DONE
@@ -193,7 +225,9 @@ def _evened(found: Found, asked: Asked) -> WardPlan:
     """The plan with nights and weekends that are shared more evenly, if the program charges as much for it."""
     seconds = STOPPED_EVENING if found.stopped else min(EVENING_SHARE * asked.seconds, MOST_EVENING)
     even = more_even(found.plan, asked.first, round(STEPS_A_SECOND * seconds))
-    return even if sum(penalties(even).values()) == sum(penalties(found.plan).values()) else found.plan
+    return (
+        even if sum(penalties(even).values()) == sum(penalties(found.plan).values()) else found.plan
+    )
 
 
 _AnOutcome = TypeVar("_AnOutcome", bound=Outcome)
@@ -224,7 +258,9 @@ def _found(store: PlanStore, old: WardPlan, asked: Asked) -> Found:
     return firm if firm and len(unkept(firm.plan)) <= len(unkept(free.plan)) else free
 
 
-def _no_plan(store: PlanStore, old: WardPlan, fault: ProgramFault, absence: Optional[Away]) -> NoPlan:
+def _no_plan(
+    store: PlanStore, old: WardPlan, fault: ProgramFault, absence: Optional[Away]
+) -> NoPlan:
     """Which minimum numbers to lower, if that is why there is no plan."""
     if fault.status != NO_ROSTER:
         raise fault
@@ -276,14 +312,24 @@ def _set(store: PlanStore, event: Event) -> DaySet:
 
 def _agreed_swap(store: PlanStore, plan: WardPlan, place: NurseDay) -> Optional[Swap]:
     """The last swap that was written for a nurse's day, by the verbs of the plans, if the plan keeps it, and a swap may move its days."""
-    records = (known_record(path) for path in reversed(store.folder.all_plans())) if place in plan.state.agreed else ()
+    records = (
+        (known_record(path) for path in reversed(store.folder.all_plans()))
+        if place in plan.state.agreed
+        else ()
+    )
     for record in records:
         words = record.verb.split(" ") if record and record.days == plan.days else []
         if words[:1] == ["swap"] and place.nurse in words[1:3]:
             heads = f" {' '.join(words[3:])} "
-            swap = Swap(words[1], words[2], tuple(day for day in range(plan.days.total) if f" {plan.days.head(day)} " in heads))
+            swap = Swap(
+                words[1],
+                words[2],
+                tuple(day for day in range(plan.days.total) if f" {plan.days.head(day)} " in heads),
+            )
             if place in swap.places:
-                is_kept = set(swap.places) <= set(plan.state.agreed) and not set(swap.places) & {*plan.state.promised}
+                is_kept = set(swap.places) <= set(plan.state.agreed) and not set(swap.places) & {
+                    *plan.state.promised
+                }
                 return swap if is_kept else None
     return None
 
@@ -292,10 +338,21 @@ def _before_swap(store: PlanStore, old: WardPlan, asked: Swap) -> Optional[State
     """What the last swap of these two on these days began with, if they have agreed on one."""
     if not set(asked.places) <= set(old.state.agreed):
         return None
-    verbs = [_named(old, swap) for swap in (asked, asked._replace(nurse=asked.other, other=asked.nurse))]
+    verbs = [
+        _named(old, swap) for swap in (asked, asked._replace(nurse=asked.other, other=asked.nurse))
+    ]
     plans = store.folder.all_plans()
-    records = ((before, known_record(path)) for before, path in zip(reversed(plans[:-1]), reversed(plans)))
-    folder = next((before for before, record in records if record and record.days == old.days and record.verb in verbs), None)
+    records = (
+        (before, known_record(path)) for before, path in zip(reversed(plans[:-1]), reversed(plans))
+    )
+    folder = next(
+        (
+            before
+            for before, record in records
+            if record and record.days == old.days and record.verb in verbs
+        ),
+        None,
+    )
     try:
         return read_state(folder) if folder else None
     except (FileFault, OSError):
@@ -310,8 +367,14 @@ def _over(store: PlanStore, event: Event) -> WeekOver:
         return replace(over, status=Status.NOT_KEPT)
     if over.next:
         return _saved(over, store.save(f"over {number}", over.next, event.typed))
-    past = next_history(worked.scenario, worked.histories[number], worked.state.roster(number), new_period=True)
-    store.add("over period", first_plan(replace(worked.ward, days=worked.days.next(), counted=Counted()), past), event.typed)
+    past = next_history(
+        worked.scenario, worked.histories[number], worked.state.roster(number), new_period=True
+    )
+    store.add(
+        "over period",
+        first_plan(replace(worked.ward, days=worked.days.next(), counted=Counted()), past),
+        event.typed,
+    )
     # The pages show the period that is over.
     return _saved(over, store.pages(worked.with_state(replace(worked.state, open_week=number + 1))))
 

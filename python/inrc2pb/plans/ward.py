@@ -17,7 +17,19 @@ from ..shown.roster_view import RosterView, WeekView
 from ..week.dates import PlanDays, Times
 from ..week.facts import SHIFTS, Charged, Claim
 from ..week.faults import Misuse
-from ..week.records import WEEK_DAYS, Absence, Cell, History, NurseDay, Place, Requirement, Scenario, Week, WeekData, in_week
+from ..week.records import (
+    WEEK_DAYS,
+    Absence,
+    Cell,
+    History,
+    NurseDay,
+    Place,
+    Requirement,
+    Scenario,
+    Week,
+    WeekData,
+    in_week,
+)
 from ..week.words import OFF, plural, readable
 from .state import SHEET, DayWord, State
 from .ward_sheet import WeekRow
@@ -66,7 +78,9 @@ class Ward:
     @cached_property
     def leaving(self) -> Dict[str, int]:
         """The day from which each nurse is gone to the end of the plan, if there is one."""
-        gone, total = {place for place, word in self.reasons.items() if word in NOT_EMPLOYED}, self.days.total
+        gone, total = {
+            place for place, word in self.reasons.items() if word in NOT_EMPLOYED
+        }, self.days.total
         leaving: Dict[str, int] = {}
         for nurse in dict.fromkeys(nurse for nurse, _ in sorted(gone)):
             first = total
@@ -79,7 +93,11 @@ class Ward:
     def knows(self, cell: Cell) -> bool:
         """Whether the ward has the names of a shift."""
         scenario = self.scenario
-        return cell.nurse in scenario.nurses and cell.shift in scenario.shift_types and cell.skill in scenario.skills
+        return (
+            cell.nurse in scenario.nurses
+            and cell.shift in scenario.shift_types
+            and cell.skill in scenario.skills
+        )
 
 
 # ---- limits: what plans of a ward keep, as functions of the ward, of what verbs have made, and of a first day
@@ -89,10 +107,18 @@ def limits_of(ward: Ward, state: State, first: Optional[int] = None) -> Tuple[Cl
     """The absences and limits that a plan of this state is judged by. A maximum of a nurse's shifts allows the shifts that she has before
     the day `first`, or all of them, as far as they are too many only since days away count as shifts: no limit takes shifts of other days
     from a nurse who is ill."""
-    return _with_more(ward.claims, ward, state, _planned(ward, state, ward.days.total if first is None else first), ward.credit)
+    return _with_more(
+        ward.claims,
+        ward,
+        state,
+        _planned(ward, state, ward.days.total if first is None else first),
+        ward.credit,
+    )
 
 
-def limits_for_leavers(ward: Ward, state: State, limits: Sequence[Claim], first: int) -> Tuple[Claim, ...]:
+def limits_for_leavers(
+    ward: Ward, state: State, limits: Sequence[Claim], first: int
+) -> Tuple[Claim, ...]:
     """These limits for a search from the day `first` on: a nurse who leaves the ward keeps her shifts before it, also if the part of her
     contract that counts has fewer."""
     planned = _planned(ward, state, first)
@@ -101,10 +127,20 @@ def limits_for_leavers(ward: Ward, state: State, limits: Sequence[Claim], first:
 
 def _planned(ward: Ward, state: State, end: int) -> List[str]:
     """The nurse of each shift before the day `end`, but for shifts on days on which she is away."""
-    return [cell.nurse for cell in state.cells if cell.day < end and NurseDay(cell.nurse, cell.day) not in ward.reasons]
+    return [
+        cell.nurse
+        for cell in state.cells
+        if cell.day < end and NurseDay(cell.nurse, cell.day) not in ward.reasons
+    ]
 
 
-def _with_more(limits: Sequence[Claim], ward: Ward, state: State, planned: Sequence[str], more: Mapping[str, int]) -> Tuple[Claim, ...]:
+def _with_more(
+    limits: Sequence[Claim],
+    ward: Ward,
+    state: State,
+    planned: Sequence[str],
+    more: Mapping[str, int],
+) -> Tuple[Claim, ...]:
     """The limits, with maxima that allow nurses these planned shifts, but by no more than `more` says for each."""
     before = credited(state.start, ward.counted).nurses
 
@@ -114,7 +150,9 @@ def _with_more(limits: Sequence[Claim], ward: Ward, state: State, planned: Seque
             return claim
         shifts = before[fact.nurse].assignments + planned.count(fact.nurse)
         above = shifts - ward.scenario.contract_of(fact.nurse).assignments.maximum
-        return claim._replace(fact=fact._replace(most=max(fact.most, min(above, more.get(fact.nurse, 0)))))
+        return claim._replace(
+            fact=fact._replace(most=max(fact.most, min(above, more.get(fact.nurse, 0))))
+        )
 
     return tuple(map(allowing, limits))
 
@@ -125,7 +163,8 @@ def _with_more(limits: Sequence[Claim], ward: Ward, state: State, planned: Seque
 @dataclass(frozen=True)
 class WardPlan:
     """A ward, what verbs have made of it, and the limits that it is judged by. A plan that is made from it is judged by the same limits.
-    `unknown` are the planned shifts that were left out, since the spreadsheet does not have their names."""
+    `unknown` are the planned shifts that were left out, since the spreadsheet does not have their names.
+    """
 
     ward: Ward
     state: State
@@ -160,26 +199,43 @@ class WardPlan:
     @cached_property
     def data(self) -> Tuple[WeekData, ...]:
         """The needs, wishes, absences and limits of each week, with the days of the week, as judges of a week take them."""
-        return tuple(with_given(self.scenario, week, self.limits, number) for number, week in enumerate(self.ward.weeks))
+        return tuple(
+            with_given(self.scenario, week, self.limits, number)
+            for number, week in enumerate(self.ward.weeks)
+        )
 
     @cached_property
     def needs(self) -> Dict[Place, Requirement]:
         """How many nurses the places of the weeks that are not over need."""
         weeks = ((WEEK_DAYS * number, self.data[number].requirements) for number in self.weeks)
-        return {place._replace(day=first + place.day): needed for first, of_week in weeks for place, needed in of_week.items()}
+        return {
+            place._replace(day=first + place.day): needed
+            for first, of_week in weeks
+            for place, needed in of_week.items()
+        }
 
     @cached_property
     def absences(self) -> FrozenSet[Absence]:
         """The shifts that nurses may not have in the weeks that are not over."""
         weeks = ((WEEK_DAYS * number, absences_of(self.data[number])) for number in self.weeks)
-        return frozenset(absence._replace(day=first + absence.day) for first, of_week in weeks for absence in of_week)
+        return frozenset(
+            absence._replace(day=first + absence.day)
+            for first, of_week in weeks
+            for absence in of_week
+        )
 
     @cached_property
     def away(self) -> Dict[NurseDay, str]:
         """The days of the weeks that are not over on which nurses are away, and why: a word of the sheet plan, `promised` for days off that
         it promises, or `off` for days on which they are always off."""
-        off = (NurseDay(absence.nurse, absence.day) for absence in self.absences if absence.shift is None)
-        words = {place: word for place, word in self.ward.reasons.items() if place.day >= self.first}
+        off = (
+            NurseDay(absence.nurse, absence.day)
+            for absence in self.absences
+            if absence.shift is None
+        )
+        words = {
+            place: word for place, word in self.ward.reasons.items() if place.day >= self.first
+        }
         return {**{place: self._off_word(place) for place in off}, **words}
 
     def _off_word(self, place: NurseDay) -> str:
@@ -191,11 +247,19 @@ class WardPlan:
         """The days away that concern the days beside them, in the weeks that are not over. Night shifts are known by their times, or else
         by their names. Here and in `shifts` days count from the first one that is not over."""
         training, free = (
-            frozenset(NurseDay(place.nurse, place.day - self.first) for place, word in self.away.items() if word in words)
+            frozenset(
+                NurseDay(place.nurse, place.day - self.first)
+                for place, word in self.away.items()
+                if word in words
+            )
             for words in (_TRAINING, _FREE)
         )
         times = self.ward.times
-        nights = (name for name in self.scenario.shift_types if (times[name].is_night if name in times else NIGHT.search(name)))
+        nights = (
+            name
+            for name in self.scenario.shift_types
+            if (times[name].is_night if name in times else NIGHT.search(name))
+        )
         return DaysAway(training, free, frozenset(nights))
 
     @cached_property
@@ -211,12 +275,19 @@ class WardPlan:
     @cached_property
     def held(self) -> Dict[NurseDay, Cell]:
         """The shifts of the weeks that are not over that the sheet plan fixes."""
-        return {NurseDay(cell.nurse, cell.day): cell for cell in self.ward.held if cell.day >= self.first}
+        return {
+            NurseDay(cell.nurse, cell.day): cell
+            for cell in self.ward.held
+            if cell.day >= self.first
+        }
 
     @cached_property
     def shifts(self) -> Dict[NurseDay, str]:
         """The shift types of the nurses' days in the weeks that are not over."""
-        return {NurseDay(nurse, day - self.first): cell.shift for (nurse, day), cell in self.works.items()}
+        return {
+            NurseDay(nurse, day - self.first): cell.shift
+            for (nurse, day), cell in self.works.items()
+        }
 
     @cached_property
     def histories(self) -> List[History]:
@@ -241,7 +312,9 @@ class WardPlan:
 
     def shifts_of(self, nurse: str) -> int:
         """The shifts of a nurse in the period, with those as which days away count, but none of these days."""
-        return self.past.nurses[nurse].assignments + sum(place.nurse == nurse and place not in self.away for place in self.works)
+        return self.past.nurses[nurse].assignments + sum(
+            place.nurse == nurse and place not in self.away for place in self.works
+        )
 
     def with_cells(self, cells: Iterable[Cell]) -> "WardPlan":
         """The same with these shifts in the weeks that are not over."""
@@ -253,23 +326,54 @@ class WardPlan:
 
     def with_absences(self, absences: Sequence[DayWord]) -> "WardPlan":
         """The same with these days away that verbs have written, judged by the limits of a plan with them."""
-        return continued(self.ward.with_absences(absences), replace(self.state, absences=tuple(absences)))
+        return continued(
+            self.ward.with_absences(absences), replace(self.state, absences=tuple(absences))
+        )
 
     def view(self, shown: Optional[range] = None) -> RosterView:
         """Some weeks, or those that are not over, to be shown."""
         weeks = []
         for number in self.weeks if shown is None else shown:
-            week, reasons, held = self.week(number), self.reasons(number), in_week(self.ward.held, number)
+            week, reasons, held = (
+                self.week(number),
+                self.reasons(number),
+                in_week(self.ward.held, number),
+            )
             name = self.days.week_text(number)
-            weeks.append(WeekView(number, self.state.roster(number), week.data, week, held, reasons=reasons, named=name))
-        names = (list(self.scenario.nurses), list(self.scenario.shift_types), list(self.scenario.skills))
+            weeks.append(
+                WeekView(
+                    number,
+                    self.state.roster(number),
+                    week.data,
+                    week,
+                    held,
+                    reasons=reasons,
+                    named=name,
+                )
+            )
+        names = (
+            list(self.scenario.nurses),
+            list(self.scenario.shift_types),
+            list(self.scenario.skills),
+        )
         return RosterView(self.scenario.name, *names, weeks, credit=dict(self.ward.credit))
 
     def reasons(self, number: int) -> Dict[Tuple[str, int], str]:
         """Why nurses are away on the days of a week, also of one that is over, with the days of the week."""
-        days = [(absence.nurse, absence.day) for absence in absences_of(self.data[number]) if absence.shift is None]
-        off = {(nurse, day): self._off_word(NurseDay(nurse, WEEK_DAYS * number + day)) for nurse, day in days}
-        words = {(nurse, day % WEEK_DAYS): word for (nurse, day), word in self.ward.reasons.items() if day // WEEK_DAYS == number}
+        days = [
+            (absence.nurse, absence.day)
+            for absence in absences_of(self.data[number])
+            if absence.shift is None
+        ]
+        off = {
+            (nurse, day): self._off_word(NurseDay(nurse, WEEK_DAYS * number + day))
+            for nurse, day in days
+        }
+        words = {
+            (nurse, day % WEEK_DAYS): word
+            for (nurse, day), word in self.ward.reasons.items()
+            if day // WEEK_DAYS == number
+        }
         return {**off, **words}
 
 
@@ -291,7 +395,9 @@ def first_plan(ward: Ward, past: Optional[History] = None) -> WardPlan:
 def _start(ward: Ward, past: Optional[History]) -> History:
     """The history before the first week. Nurses whom an older one does not have begin as the sheet says."""
     known = past.nurses if past else {}
-    return replace(ward.past, nurses={nurse: known.get(nurse, row) for nurse, row in ward.past.nurses.items()})
+    return replace(
+        ward.past, nurses={nurse: known.get(nurse, row) for nurse, row in ward.past.nurses.items()}
+    )
 
 
 def continued(ward: Ward, state: State) -> WardPlan:
@@ -305,18 +411,32 @@ def continued(ward: Ward, state: State) -> WardPlan:
     unknown = tuple(cell for cell in state.cells if not ward.knows(cell))
     cells = tuple(cell for cell in state.cells if cell not in unknown)
     now = replace(state, days=ward.days, start=_start(ward, state.start), cells=cells)
-    now = now.keeping(lambda place: place.nurse in ward.scenario.nurses and state.first <= place.day < ward.days.total)
-    now = replace(now, set_days=tuple(promise for promise in now.set_days if promise.cell is None or ward.knows(promise.cell)))
+    now = now.keeping(
+        lambda place: place.nurse in ward.scenario.nurses
+        and state.first <= place.day < ward.days.total
+    )
+    now = replace(
+        now,
+        set_days=tuple(
+            promise for promise in now.set_days if promise.cell is None or ward.knows(promise.cell)
+        ),
+    )
     return plan_of(ward, now, unknown)
 
 
 def _with_lost_shifts(ward: Ward, state: State) -> Tuple[DayWord, ...]:
     """The words of verbs, and for an illness that only the spreadsheet has the shifts that it takes from a plan on the wall, if it takes
     some."""
-    known, words = {(absence.nurse, absence.day) for absence in state.absences}, list(state.absences)
+    known, words = {(absence.nurse, absence.day) for absence in state.absences}, list(
+        state.absences
+    )
     works = {(cell.nurse, cell.day) for cell in state.cells}
-    ill = sorted(place for place, word in ward.reasons.items() if word == ILL and place not in known)
-    rows = itertools.groupby(enumerate(ill), key=lambda pair: (pair[1].nurse, pair[1].day - pair[0]))
+    ill = sorted(
+        place for place, word in ward.reasons.items() if word == ILL and place not in known
+    )
+    rows = itertools.groupby(
+        enumerate(ill), key=lambda pair: (pair[1].nurse, pair[1].day - pair[0])
+    )
     for row in ([place for _, place in pairs] for _, pairs in rows if state.published):
         if any(place in works for place in row):
             words += [DayWord(*place, SHEET, int(place in works)) for place in row]
@@ -329,7 +449,9 @@ def _check_days(now: PlanDays, before: PlanDays) -> None:
         return
     begin = "" if before.monday is None else f" from {before.monday} on"
     if not before.weeks:
-        raise PeriodOver(f"a {PERIOD_IS_OVER}: write the days of the next one{begin} into the sheet plan, with its wishes and absences")
+        raise PeriodOver(
+            f"a {PERIOD_IS_OVER}: write the days of the next one{begin} into the sheet plan, with its wishes and absences"
+        )
     raise Misuse(
         f"the plan has {plural(before.weeks, 'week')}{begin}, and the sheet plan has other days: write these, or plan in another folder"
     )
@@ -341,7 +463,9 @@ def _check_names(ward: Ward, worked: Sequence[Cell]) -> None:
         week = cell.day // WEEK_DAYS
         if cell.nurse not in ward.scenario.nurses:
             cure = "write it again, with away in the plan from her last day on"
-            raise Misuse(f"{readable(cell.nurse)} worked in {ward.days.week_text(week)}, and has no row in the sheet nurses: {cure}")
+            raise Misuse(
+                f"{readable(cell.nurse)} worked in {ward.days.week_text(week)}, and has no row in the sheet nurses: {cure}"
+            )
         if not ward.knows(cell):
             row = cell._replace(day=cell.day % WEEK_DAYS).row()
             raise Misuse(

@@ -27,14 +27,20 @@ _PAUSE = 0.2
 
 def has_spreadsheet(top: Path) -> bool:
     """Whether the folder has a spreadsheet, or sheets as .csv files."""
-    return any(path.suffix.lower() in (*_SPREADSHEETS, *_CSV) for path in top.iterdir() if path.is_file())
+    return any(
+        path.suffix.lower() in (*_SPREADSHEETS, *_CSV) for path in top.iterdir() if path.is_file()
+    )
 
 
 def tables_of(spreadsheet: Path) -> List[Path]:
     """The files of a spreadsheet: itself, or the .csv files of a folder."""
     if not spreadsheet.is_dir():
         return [spreadsheet]
-    return [path for path in sorted(spreadsheet.iterdir()) if path.suffix.lower() in _CSV and path.is_file()]
+    return [
+        path
+        for path in sorted(spreadsheet.iterdir())
+        if path.suffix.lower() in _CSV and path.is_file()
+    ]
 
 
 class WardFolder:
@@ -47,16 +53,24 @@ class WardFolder:
 
     def spreadsheet(self) -> Path:
         """The only spreadsheet of the folder; the folder itself if its sheets are .csv files."""
-        files = [path for path in sorted(self.top.iterdir()) if path.is_file() and not path.name.startswith((".", "~"))]
+        files = [
+            path
+            for path in sorted(self.top.iterdir())
+            if path.is_file() and not path.name.startswith((".", "~"))
+        ]
         spreadsheets = [path for path in files if path.suffix.lower() in _SPREADSHEETS]
         if len(spreadsheets) > 1:
-            raise Misuse(f"{self.top} has several spreadsheets, {quoted(path.name for path in spreadsheets)}: leave one of them in it")
+            raise Misuse(
+                f"{self.top} has several spreadsheets, {quoted(path.name for path in spreadsheets)}: leave one of them in it"
+            )
         tables = spreadsheets or [path for path in files if path.suffix.lower() in _CSV]
         for path in tables:
             check_inside(path, self.top)
         if tables:
             return spreadsheets[0] if spreadsheets else self.top
-        raise Misuse(f"{self.top} has no spreadsheet: put the ward's .ods or .xlsx file into it, or give a new folder and `new`")
+        raise Misuse(
+            f"{self.top} has no spreadsheet: put the ward's .ods or .xlsx file into it, or give a new folder and `new`"
+        )
 
     def all_plans(self) -> List[Path]:
         """The folders of all plans, in the order in which they were made."""
@@ -74,7 +88,9 @@ class WardFolder:
 
     def add(self, verb: str, texts: Dict[str, str], now: datetime.datetime) -> Path:
         """Writes a plan with these files: its folder is there as a whole or not at all."""
-        number = 1 + max((_place(path)[0] for path in [*self.all_plans(), *self.undone()]), default=0)
+        number = 1 + max(
+            (_place(path)[0] for path in [*self.all_plans(), *self.undone()]), default=0
+        )
         target = self.plans / f"{number:04}-{now:%Y-%m-%d-%H%M}-{verb}"
         new = Path(tempfile.mkdtemp(prefix=".new-", dir=self.plans))
         try:
@@ -124,7 +140,11 @@ class WardFolder:
             self.spreadsheet()
         try:
             self.plans.mkdir(exist_ok=True)
-            return open(os.open(self.plans / LOCK, os.O_RDWR | os.O_CREAT | os.O_NOFOLLOW, 0o666), "r+", encoding="utf-8")
+            return open(
+                os.open(self.plans / LOCK, os.O_RDWR | os.O_CREAT | os.O_NOFOLLOW, 0o666),
+                "r+",
+                encoding="utf-8",
+            )
         except OSError as fault:
             fault.filename = str(self.top if isinstance(fault, PermissionError) else self.plans)
             raise
@@ -132,7 +152,9 @@ class WardFolder:
     def _take(self, file: TextIO, say: Callable[[str], None], end: str) -> None:
         if _is_taken(file):
             return
-        say(f"another run works in {self.top}: this one waits for its end, and its time begins then{end}")
+        say(
+            f"another run works in {self.top}: this one waits for its end, and its time begins then{end}"
+        )
         stopped = threading.Event()
         with interrupts() as signals, signals.calling(stopped.set):
             while not stopped.wait(_PAUSE):
@@ -146,7 +168,11 @@ def _own_folders(top: Path) -> List[Path]:
     """The folders of plans in a folder, which are no links, if it is none either."""
     if top.is_symlink() or not top.is_dir():
         return []
-    return [path for path in top.iterdir() if _NAME.fullmatch(path.name) and path.is_dir() and not path.is_symlink()]
+    return [
+        path
+        for path in top.iterdir()
+        if _NAME.fullmatch(path.name) and path.is_dir() and not path.is_symlink()
+    ]
 
 
 def _place(plan: Path) -> Tuple[int, str]:

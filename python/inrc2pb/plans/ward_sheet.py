@@ -43,7 +43,10 @@ def unchanged_rows(rows: Iterable[WeekRow], older: Mapping[int, Needs]) -> List[
     unchanged = []
     for row in rows:
         needs = older.get(row.week, {})
-        before = {place._replace(shift=place.shift.casefold(), skill=place.skill.casefold()): number for place, number in needs.items()}
+        before = {
+            place._replace(shift=place.shift.casefold(), skill=place.skill.casefold()): number
+            for place, number in needs.items()
+        }
         if row.needs and all(before.get(place) == number for place, number in row.needs.items()):
             unchanged.append(row)
     return unchanged

@@ -23,7 +23,9 @@ class Wording:
     """The words after a verb, which are taken one after another; a comma after a word counts for nothing. `usage` is an example of the
     whole line."""
 
-    def __init__(self, words: Sequence[str], nurses: Collection[str], days: PlanDays, first: int, usage: str) -> None:
+    def __init__(
+        self, words: Sequence[str], nurses: Collection[str], days: PlanDays, first: int, usage: str
+    ) -> None:
         self._left = [text for text in (tidy(word).rstrip(",;") for word in words) if text]
         self._nurses, self._days, self._first, self._usage = nurses, days, first, usage
 
@@ -37,7 +39,9 @@ class Wording:
         if self.is_over:
             self._misuse("a nurse is missing")
         text = self._left.pop(0)
-        while self._left and not is_day(self._left[0]) and not _named(text, self._nurses, whole=True):
+        while (
+            self._left and not is_day(self._left[0]) and not _named(text, self._nurses, whole=True)
+        ):
             text += f" {self._left.pop(0)}"
         return self._known("nurse", text, self._nurses)
 
@@ -48,7 +52,12 @@ class Wording:
         text = self._left.pop(0)
         if self._left and self._left[0].isdigit():
             text += f" {self._left.pop(0)}"
-        if text[-1:].isdigit() and self._left and self._left[0].title() in MONTHS and not _named(self._left[0], self._nurses):
+        if (
+            text[-1:].isdigit()
+            and self._left
+            and self._left[0].title() in MONTHS
+            and not _named(self._left[0], self._nurses)
+        ):
             text += f" {self._left.pop(0)}"
         return self._days.number(text, self._first if near is None else near)
 
@@ -71,7 +80,10 @@ class Wording:
         if self.is_over:
             self._misuse("a shift type is missing")
         shift, _, skill = self._left.pop(0).partition("/")
-        return self._known("shift type", shift, names), self._known("skill of hers", skill, skills) if skill else ""
+        return (
+            self._known("shift type", shift, names),
+            self._known("skill of hers", skill, skills) if skill else "",
+        )
 
     def rest(self) -> str:
         """All words that are left."""
@@ -90,7 +102,9 @@ class Wording:
         if begun:
             raise Misuse(f"'{text}' may be {quoted(map(readable, begun))}: write the whole name")
         otherwise = f"write one of {quoted(map(readable, names))}"
-        raise Misuse(f"'{text}' is no {kind}: {did_you_mean(text.replace(' ', '_'), names, otherwise, readable)}")
+        raise Misuse(
+            f"'{text}' is no {kind}: {did_you_mean(text.replace(' ', '_'), names, otherwise, readable)}"
+        )
 
     def _misuse(self, what: str) -> NoReturn:
         raise Misuse(f"{what}: write, for example, {self._usage}")

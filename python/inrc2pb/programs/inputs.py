@@ -60,7 +60,11 @@ class Inputs:
 
     def changes(self) -> List[str]:
         """A line for each file that has something else now than its copy."""
-        return [f"{path} was {what} during the search: this is about the old one" for path in self._copies if (what := self._change(path))]
+        return [
+            f"{path} was {what} during the search: this is about the old one"
+            for path in self._copies
+            if (what := self._change(path))
+        ]
 
     def _change(self, path: Path) -> str:
         """What happened to a file, if anything. What is no file any more is not opened: a pipe would keep the search waiting."""

@@ -48,7 +48,11 @@ def interrupts() -> Iterator[Interrupts]:
         return
     taken = Interrupts()
     _installed.append(taken)
-    before = {number: signal.signal(number, taken.take) for number in SIGNALS if signal.getsignal(number) != signal.SIG_IGN}
+    before = {
+        number: signal.signal(number, taken.take)
+        for number in SIGNALS
+        if signal.getsignal(number) != signal.SIG_IGN
+    }
     try:
         yield taken
     finally:

@@ -39,7 +39,11 @@ def _lock(target: Path, wait: bool, say: Callable[[str], None]) -> Iterator[None
         return
     is_beside = os.access(file.parent, os.W_OK)
     # A file in a folder that takes no new one is never replaced, so it can be its own lock.
-    lock = file.with_name(os.fsdecode(b"." + os.fsencode(file.name)[:NAME_BYTES] + b".lock")) if is_beside else file
+    lock = (
+        file.with_name(os.fsdecode(b"." + os.fsencode(file.name)[:NAME_BYTES] + b".lock"))
+        if is_beside
+        else file
+    )
     handle = _taken(lock, target, wait, say)
     _locked.add(file)
     try:
@@ -61,7 +65,10 @@ def _taken(lock: Path, target: Path, wait: bool, say: Callable[[str], None]) -> 
             if handle is not None:
                 return handle
             if not wait:
-                raise ProgramFault(IN_USE, f"another search writes {target}: wait until it has ended (--wait), or choose another file")
+                raise ProgramFault(
+                    IN_USE,
+                    f"another search writes {target}: wait until it has ended (--wait), or choose another file",
+                )
             if signals.caught:
                 raise Stopped(NO_ROSTER, f"stopped while another search writes {target}")
             if not has_said:

@@ -86,7 +86,14 @@ class Processes:
             return self._run(words, seconds, folder, ending, hear)
         return ended
 
-    def _run(self, words: Sequence[str], seconds: float, folder: Path, ending: int, hear: Optional[Callable[[bytes], None]]) -> Ended:
+    def _run(
+        self,
+        words: Sequence[str],
+        seconds: float,
+        folder: Path,
+        ending: int,
+        hear: Optional[Callable[[bytes], None]],
+    ) -> Ended:
         with self._lock:
             if self._stopped:
                 return Ended(-signal.SIGKILL, b"", True)
@@ -110,7 +117,13 @@ class Processes:
             _wait_without_reaping(process, EXIT_SECONDS)
             _signal_group(process, signal.SIGKILL)
             status = process.wait()
-        return Ended(status, printed.output, printed.timed_out, printed.errors.decode("utf-8", errors="replace"), printed.flooded)
+        return Ended(
+            status,
+            printed.output,
+            printed.timed_out,
+            printed.errors.decode("utf-8", errors="replace"),
+            printed.flooded,
+        )
 
     def open(self, words: Sequence[str], folder: Path) -> "subprocess.Popen[bytes]":
         """Starts a process that answers on its standard output until `close`. It is ended with the others. Its words see to it that it ends
@@ -183,7 +196,12 @@ def _ending_with_this() -> Tuple[str, ...]:
     words = ("setpriv", "--pdeathsig", "KILL")
     try:
         subprocess.run(
-            [*words, "true"], stdin=subprocess.DEVNULL, stdout=subprocess.DEVNULL, stderr=subprocess.DEVNULL, check=True, timeout=MAX_WAIT
+            [*words, "true"],
+            stdin=subprocess.DEVNULL,
+            stdout=subprocess.DEVNULL,
+            stderr=subprocess.DEVNULL,
+            check=True,
+            timeout=MAX_WAIT,
         )
     except (OSError, subprocess.SubprocessError):
         return ()
@@ -220,9 +238,15 @@ class _Output(NamedTuple):
     flooded: bool = False
 
 
-def _output_of(process: "subprocess.Popen[bytes]", seconds: float, ending: int, hear: Optional[Callable[[bytes], None]]) -> _Output:
+def _output_of(
+    process: "subprocess.Popen[bytes]",
+    seconds: float,
+    ending: int,
+    hear: Optional[Callable[[bytes], None]],
+) -> _Output:
     """The output until its end, with the last bytes of standard error; at the limit the process is asked to end, and after the
-    grace it is killed. A child that the process has left behind, and that keeps its output open, is not waited for."""
+    grace it is killed. A child that the process has left behind, and that keeps its output open, is not waited for.
+    """
     assert process.stdout is not None and process.stderr is not None
     parts: List[bytes] = []
     size, errors, timed_out = 0, b"", False
@@ -232,7 +256,10 @@ def _output_of(process: "subprocess.Popen[bytes]", seconds: float, ending: int, 
         streams.register(process.stderr, selectors.EVENT_READ)
         while True:
             is_over = _has_ended(process)
-            ready = [key.fileobj for key, _ in streams.select(min(PAUSE, max(0.0, limit - time.monotonic())))]
+            ready = [
+                key.fileobj
+                for key, _ in streams.select(min(PAUSE, max(0.0, limit - time.monotonic())))
+            ]
             if is_over and not ready:
                 return _Output(b"".join(parts), errors, timed_out)
             if process.stderr in ready:

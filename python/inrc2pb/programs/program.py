@@ -40,7 +40,11 @@ class WeekFiles:
     def options(self) -> List[str]:
         """The files as options of `inrc2pb`."""
         words = ["--sce", str(self.scenario), "--his", str(self.history), "--week", str(self.week)]
-        return words + (["--fix", str(self.fix)] if self.fix else []) + (["--early"] if self.early else [])
+        return (
+            words
+            + (["--fix", str(self.fix)] if self.fix else [])
+            + (["--early"] if self.early else [])
+        )
 
     def all(self) -> Tuple[Path, ...]:
         """All files that are read."""
@@ -49,7 +53,14 @@ class WeekFiles:
     def copied(self, copy: Callable[[Path], Path]) -> "WeekFiles":
         """The same week with copies of its files."""
         fix, given = (copy(path) if path else None for path in (self.fix, self.given))
-        return replace(self, scenario=copy(self.scenario), history=copy(self.history), week=copy(self.week), fix=fix, given=given)
+        return replace(
+            self,
+            scenario=copy(self.scenario),
+            history=copy(self.history),
+            week=copy(self.week),
+            fix=fix,
+            given=given,
+        )
 
 
 @dataclass(frozen=True)
@@ -80,17 +91,29 @@ def find_program() -> Path:
     if named:
         program = shutil.which(named)
         if not program:
-            raise ProgramFault(NO_PROGRAM, f"there is no program {named}: correct or unset the variable INRC2PB")
+            raise ProgramFault(
+                NO_PROGRAM, f"there is no program {named}: correct or unset the variable INRC2PB"
+            )
         if not _is_inrc2pb(program):
-            raise ProgramFault(NO_PROGRAM, f"INRC2PB names {named}, which is not inrc2pb: correct or unset the variable")
+            raise ProgramFault(
+                NO_PROGRAM,
+                f"INRC2PB names {named}, which is not inrc2pb: correct or unset the variable",
+            )
         return Path(program).absolute()
     command = Path(sys.argv[0] or ".")
     in_path = shutil.which("inrc2pb")
-    beside = [command.parent / "inrc2pb", command.resolve().parent / "inrc2pb", Path(__file__).resolve().parents[3] / "out" / "inrc2pb"]
+    beside = [
+        command.parent / "inrc2pb",
+        command.resolve().parent / "inrc2pb",
+        Path(__file__).resolve().parents[3] / "out" / "inrc2pb",
+    ]
     for place in [*beside, *([Path(in_path)] if in_path else [])]:
         if place.is_file() and os.access(place, os.X_OK):
             return place.absolute()
-    raise ProgramFault(NO_PROGRAM, "there is no inrc2pb: run `make` in its folder, install it, or name it in the variable INRC2PB")
+    raise ProgramFault(
+        NO_PROGRAM,
+        "there is no inrc2pb: run `make` in its folder, install it, or name it in the variable INRC2PB",
+    )
 
 
 @functools.lru_cache(maxsize=None)
@@ -98,7 +121,11 @@ def _is_inrc2pb(program: str) -> bool:
     """Whether the program prints the version of `inrc2pb`. One that does not run, or that a signal ends, is judged when it is used."""
     try:
         ran = subprocess.run(
-            [program, "--version"], stdin=subprocess.DEVNULL, stdout=subprocess.PIPE, stderr=subprocess.DEVNULL, timeout=LONGEST_RUN
+            [program, "--version"],
+            stdin=subprocess.DEVNULL,
+            stdout=subprocess.PIPE,
+            stderr=subprocess.DEVNULL,
+            timeout=LONGEST_RUN,
         )
     except (OSError, subprocess.TimeoutExpired):
         return True
@@ -130,7 +157,9 @@ def run_program(*words: str, given: str = "", program: Optional[Path] = None) ->
 
 def _does_not_end(words: Sequence[str]) -> ProgramFault:
     advice = "a pipe can be read only once, so give files"
-    return ProgramFault(READ_OR_WRITE, f"inrc2pb {words[0]} did not end in {LONGEST_RUN:.0f} s: {advice}")
+    return ProgramFault(
+        READ_OR_WRITE, f"inrc2pb {words[0]} did not end in {LONGEST_RUN:.0f} s: {advice}"
+    )
 
 
 def _does_not_run(program: str, fault: OSError) -> ProgramFault:
@@ -180,7 +209,9 @@ def encode(files: WeekFiles, model: Path) -> None:
     run_program(*_encode_words(files, model))
 
 
-def run_unless_stopped(program: Path, words: Sequence[str], seconds: float, processes: Processes) -> Optional[str]:
+def run_unless_stopped(
+    program: Path, words: Sequence[str], seconds: float, processes: Processes
+) -> Optional[str]:
     """Runs a program as one of the `processes`, and returns its standard output; None if they are stopped before its end."""
     try:
         ended = processes.run([str(program), *words], seconds, Path.cwd(), signal.SIGKILL)

@@ -38,13 +38,22 @@ class Progress:
 
     def is_due(self) -> bool:
         """Whether a higher bound alone is worth a line."""
-        return self._target is not None and time.monotonic() - self._printed > (BOUND_SECONDS if not self._updates else 1.0)
+        return self._target is not None and time.monotonic() - self._printed > (
+            BOUND_SECONDS if not self._updates else 1.0
+        )
 
     def _words(self) -> str:
         """The best penalty and the bound."""
         parts = ["no roster yet" if self._penalty is None else f"penalty {self._penalty}"]
         if self._bound is not None:
-            parts.append(f"bound {self._bound}" + ("" if self._penalty is None else f", gap {gap_share(self._penalty, self._bound)}"))
+            parts.append(
+                f"bound {self._bound}"
+                + (
+                    ""
+                    if self._penalty is None
+                    else f", gap {gap_share(self._penalty, self._bound)}"
+                )
+            )
         return "  ".join([*parts, *([f"({self._finder})"] if self._finder else [])])
 
     def _show(self) -> None:
@@ -79,7 +88,9 @@ class WardProgress(Progress):
 
     def _words(self) -> str:
         if self._penalty is None:
-            return "no plan yet" + ("" if self._bound is None else f"; at least {self._bound} points cannot be avoided")
+            return "no plan yet" + (
+                "" if self._bound is None else f"; at least {self._bound} points cannot be avoided"
+            )
         what = ", those for changed shifts among them" if self.counts_changes else ""
         least = "" if self._bound is None else f"; at least {self._bound} cannot be avoided"
         return f"{self._penalty} points{what}{least}"

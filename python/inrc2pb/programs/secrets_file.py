@@ -39,8 +39,12 @@ def _read(path: Path) -> str:
         if status.st_uid != os.geteuid():
             raise Misuse(f"--secret {path}: this file is another user's: name one of your own")
         if status.st_mode & 0o077:
-            raise Misuse(f"--secret {path}: others may read this file: type chmod 600, or delete it, and a new secret is written")
+            raise Misuse(
+                f"--secret {path}: others may read this file: type chmod 600, or delete it, and a new secret is written"
+            )
         text = file.read(_MOST_BYTES).decode("ascii", errors="replace").strip()
     if not _SECRET.fullmatch(text):
-        raise Misuse(f"--secret {path}: this file has no secret, which is one word of 16 letters or more: delete it, and one is written")
+        raise Misuse(
+            f"--secret {path}: this file has no secret, which is one word of 16 letters or more: delete it, and one is written"
+        )
     return text

@@ -27,7 +27,9 @@ class CaseLimits:
     has fewer nurses than its minimum, so it has no roster.
     """
 
-    def __init__(self, crews: Crews, case: Case, nurses: Dict[str, int], shifts: Dict[str, int]) -> None:
+    def __init__(
+        self, crews: Crews, case: Case, nurses: Dict[str, int], shifts: Dict[str, int]
+    ) -> None:
         self.minimum, self.optimal, self.given_up = list(crews.minimum), list(crews.optimal), 0
         self.is_empty = False
         self.forbidden: Dict[int, Set[Tuple[int, int]]] = {}
@@ -59,9 +61,14 @@ class CaseLimits:
             self.least = count
 
     def _choice(self, fact: Choice, holds: bool) -> None:
-        day, choice = WEEK_DAYS * (fact.week - 1) + fact.day, self._shifts[fact.shift] if fact.shift else 0
+        day, choice = (
+            WEEK_DAYS * (fact.week - 1) + fact.day,
+            self._shifts[fact.shift] if fact.shift else 0,
+        )
         others = [other for other in range(len(self._shifts) + 1) if (other == choice) != holds]
-        self.forbidden.setdefault(self._nurses[fact.nurse], set()).update((day, other) for other in others)
+        self.forbidden.setdefault(self._nurses[fact.nurse], set()).update(
+            (day, other) for other in others
+        )
 
     def _at_place(self, fact: AtPlace, holds: bool) -> None:
         place = self._places[fact.place._replace(day=WEEK_DAYS * (fact.week - 1) + fact.place.day)]

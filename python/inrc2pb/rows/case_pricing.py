@@ -63,7 +63,8 @@ class CasePricing:
         apart = {id(graph): _apart(graph.arrays) for graph in pricing.graphs}
         graphs = zip(pricing.graphs, pricing.starts)
         self._together = priced_together(
-            [Member(nurse, apart[id(graph)], start) for nurse, (graph, start) in enumerate(graphs)], range(plan.days)
+            [Member(nurse, apart[id(graph)], start) for nurse, (graph, start) in enumerate(graphs)],
+            range(plan.days),
         )
         self._wishes = pricing.wish_table()
         self._missing = plan.missing_cost * POINT
@@ -76,7 +77,10 @@ class CasePricing:
         """A row with its cost and its charges; None if a hard rule forbids it."""
         node, cost, number = self._starts[nurse], self._base[nurse], 0
         for day, (arcs, choice) in enumerate(zip(self._graphs[nurse].days, row)):
-            if arcs.costs[choice][node] >= NEVER // 2 or self._wishes[nurse, day, choice] >= NEVER // 2:
+            if (
+                arcs.costs[choice][node] >= NEVER // 2
+                or self._wishes[nurse, day, choice] >= NEVER // 2
+            ):
                 return None
             step, runs = _split(arcs.costs[choice][node])
             cost, number = cost + step + int(self._wishes[nurse, day, choice]), number + runs
@@ -85,14 +89,19 @@ class CasePricing:
 
     def price(self, limits: CaseLimits, prices: Prices, surcharge: int) -> Optional[Found]:
         """The cheapest rows of a case at these prices, and its bound; None if it has no roster. A surcharge below 0 is for charges of shift
-        runs that are due, one above 0 for those that are too many; without such a limit there is none."""
+        runs that are due, one above 0 for those that are too many; without such a limit there is none.
+        """
         if limits.is_empty:
             return None
         limit = limits.most if surcharge > 0 else limits.least
         surcharge = surcharge if limit else 0
         pay = self._pay(prices, limits.forbidden)
         weight = NEVER if limits.most and limits.most.number == 0 else SHIFT_RUN * POINT + surcharge
-        total = sum(self._base) + self._places_cost(limits, prices) - surcharge * (limit.number if limit else 0)
+        total = (
+            sum(self._base)
+            + self._places_cost(limits, prices)
+            - surcharge * (limit.number if limit else 0)
+        )
         found: List[PricedRow] = []
         costs, rows = self._together.cheapest(pay, range(len(self.plan.nurses)), weight)
         for nurse, (cost, row) in enumerate(zip(costs.tolist(), rows)):
@@ -105,7 +114,10 @@ class CasePricing:
 
     def _pay(self, prices: Prices, forbidden: Dict[int, Set[Tuple[int, int]]]) -> Any:
         """What each choice costs each nurse beside the costs of her row."""
-        pay = self._wishes - numpy.array(self.crews.gains(prices), dtype=numpy.int64)[self.crews.table]
+        pay = (
+            self._wishes
+            - numpy.array(self.crews.gains(prices), dtype=numpy.int64)[self.crews.table]
+        )
         for nurse, choices in forbidden.items():
             for day, choice in choices:
                 pay[nurse, day, choice] = NEVER
@@ -115,7 +127,8 @@ class CasePricing:
         """What all places cost at least, if they pay these prices to their nurses."""
         asked = zip(limits.minimum, limits.optimal, prices)
         return self._missing * limits.given_up + sum(
-            least * price + (best - least) * min(self._missing, price) for least, best, price in asked
+            least * price + (best - least) * min(self._missing, price)
+            for least, best, price in asked
         )
 
     def bound(self, case: Case, leaf: Leaf) -> Optional[Points]:
@@ -133,7 +146,10 @@ class CasePricing:
 def surcharge_of(limits: CaseLimits, leaf: Leaf) -> int:
     """The surcharge of a leaf for a charge of a shift run: below 0 if charges are due."""
     surcharges = leaf.surcharges
-    most, least = (surcharges[limit.fact] if limit and limit.fact < len(surcharges) else 0 for limit in (limits.most, limits.least))
+    most, least = (
+        surcharges[limit.fact] if limit and limit.fact < len(surcharges) else 0
+        for limit in (limits.most, limits.least)
+    )
     return most - least
 
 

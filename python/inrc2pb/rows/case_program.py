@@ -22,7 +22,8 @@ EXACT = 1e-6
 
 class CaseSolution(NamedTuple):
     """A solution: its value in points, prices of places and of nurses and the surcharge of shift runs in thousandths, the shares of rows,
-    and the nurses that are missing at places. `is_real` says whether its rows keep the minimums and the limits of the case."""
+    and the nurses that are missing at places. `is_real` says whether its rows keep the minimums and the limits of the case.
+    """
 
     value: float
     prices: Prices
@@ -49,7 +50,9 @@ class CaseProgram:
         shared = [crew for crew, members in enumerate(self._crews.members) if len(members) > 1]
         self._links = {crew: nurses + places + index for index, crew in enumerate(shared)}
         self._runs = nurses + places + len(shared)
-        program.add_rows([(1.0, 1.0)] * nurses + [(float(best), _ANY) for best in self._crews.optimal])
+        program.add_rows(
+            [(1.0, 1.0)] * nurses + [(float(best), _ANY) for best in self._crews.optimal]
+        )
         program.add_rows([(0.0, _ANY)] * len(shared) + [(-_ANY, _ANY)])
         self._missing, self._fixed = self._add_fixed()
 
@@ -57,15 +60,26 @@ class CaseProgram:
         """Adds the columns that are no rows of nurses. Returns those of nurses that are missing at places, and of what no roster has."""
         program, crews, cost = self._program, self._crews, float(self._pricing.plan.missing_cost)
         asked = zip(self._cover, crews.minimum, crews.optimal)
-        first = program.add_columns([Column(cost, 0.0, float(best - least), [(row, 1.0)]) for row, least, best in asked])
+        first = program.add_columns(
+            [Column(cost, 0.0, float(best - least), [(row, 1.0)]) for row, least, best in asked]
+        )
         flows = [(crew, place) for crew in self._links for place in crews.members[crew]]
-        program.add_columns([Column(0.0, 0.0, _ANY, [(self._links[crew], -1.0), (self._cover[place], 1.0)]) for crew, place in flows])
-        below = program.add_columns([Column(float(BELOW_MINIMUM), 0.0, _ANY, [(row, 1.0)]) for row in self._cover])
+        program.add_columns(
+            [
+                Column(0.0, 0.0, _ANY, [(self._links[crew], -1.0), (self._cover[place], 1.0)])
+                for crew, place in flows
+            ]
+        )
+        below = program.add_columns(
+            [Column(float(BELOW_MINIMUM), 0.0, _ANY, [(row, 1.0)]) for row in self._cover]
+        )
         last = program.add_columns(
             [Column(_ARTIFICIAL, 0.0, 1.0, [(nurse, 1.0)]) for nurse in range(self._cover.start)]
             + [Column(_ARTIFICIAL, 0.0, _ANY, [(self._runs, sign)]) for sign in (1.0, -1.0)]
         )
-        return {place: first + place for place in range(len(self._cover))}, list(range(below, last + self._cover.start + 2))
+        return {place: first + place for place in range(len(self._cover))}, list(
+            range(below, last + self._cover.start + 2)
+        )
 
     def add(self, found: Iterable[PricedRow]) -> int:
         """Adds the rows that are new. Returns their number."""
@@ -82,21 +96,37 @@ class CaseProgram:
         for crews, choice in zip(self._crews.of[priced.nurse], priced.row):
             places = self._crews.members[crews[choice]]
             if places:
-                entries[self._links[crews[choice]] if len(places) > 1 else self._cover[places[0]]] = 1.0
+                entries[
+                    self._links[crews[choice]] if len(places) > 1 else self._cover[places[0]]
+                ] = 1.0
         if priced.runs:
             entries[self._runs] = float(priced.runs)
         forbidden = self._limits.forbidden.get(priced.nurse, ())
-        return Column(float(priced.cost), 0.0, 0.0 if _is_forbidden(priced.row, forbidden) else _ANY, list(entries.items()))
+        return Column(
+            float(priced.cost),
+            0.0,
+            0.0 if _is_forbidden(priced.row, forbidden) else _ANY,
+            list(entries.items()),
+        )
 
     def take(self, limits: CaseLimits) -> None:
         """Goes on with the case of these limits."""
         old, self._limits = self._limits, limits
         rows, columns = {}, {}
         for place, row in enumerate(self._cover):
-            if (old.minimum[place], old.optimal[place]) != (limits.minimum[place], limits.optimal[place]):
+            if (old.minimum[place], old.optimal[place]) != (
+                limits.minimum[place],
+                limits.optimal[place],
+            ):
                 rows[row] = (float(limits.optimal[place]), _ANY)
-                columns[self._missing[place]] = (0.0, float(limits.optimal[place] - limits.minimum[place]))
-        least, most = limits.least.number if limits.least else -_ANY, limits.most.number if limits.most else _ANY
+                columns[self._missing[place]] = (
+                    0.0,
+                    float(limits.optimal[place] - limits.minimum[place]),
+                )
+        least, most = (
+            limits.least.number if limits.least else -_ANY,
+            limits.most.number if limits.most else _ANY,
+        )
         rows[self._runs] = (float(least), float(most))
         for nurse in {*old.forbidden, *limits.forbidden}:
             before, now = old.forbidden.get(nurse, set()), limits.forbidden.get(nurse, set())
@@ -126,10 +156,24 @@ class CaseProgram:
             raise SolverFault("a linear program that has solutions has none")
         prices = [min(MAX_PRICE, max(0, round(found.prices[row] * POINT))) for row in self._cover]
         nurses = [round(found.prices[nurse] * POINT) for nurse in range(self._cover.start)]
-        shares = {number: found.columns[number] for number in self.rows if found.columns[number] > EXACT}
-        missing = {place: found.columns[number] for place, number in self._missing.items() if found.columns[number] > EXACT}
+        shares = {
+            number: found.columns[number] for number in self.rows if found.columns[number] > EXACT
+        }
+        missing = {
+            place: found.columns[number]
+            for place, number in self._missing.items()
+            if found.columns[number] > EXACT
+        }
         is_real = all(found.columns[number] <= EXACT for number in self._fixed)
-        return CaseSolution(self._value(found.value), prices, nurses, -round(found.prices[self._runs] * POINT), shares, missing, is_real)
+        return CaseSolution(
+            self._value(found.value),
+            prices,
+            nurses,
+            -round(found.prices[self._runs] * POINT),
+            shares,
+            missing,
+            is_real,
+        )
 
     def _value(self, value: float) -> float:
         return value + self._pricing.plan.missing_cost * self._limits.given_up

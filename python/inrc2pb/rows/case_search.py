@@ -71,7 +71,9 @@ class CaseSearch:
             now, turn = self._program.solve(clock, is_new_case=turn == 0), turn + 1
             if now.is_real:
                 self._see(now, task.target, take)
-                if limits.in_steps(best.bound) >= limits.in_steps(Thousandths(round((now.value - EXACT) * POINT))):
+                if limits.in_steps(best.bound) >= limits.in_steps(
+                    Thousandths(round((now.value - EXACT) * POINT))
+                ):
                     break
             tried, surcharge = _between(best, now, share)
             found = self.pricing.price(limits, tried, surcharge)
@@ -89,21 +91,37 @@ class CaseSearch:
             return Examined(best)
         return Examined(best, now.value, self._split(now, task, limits, clock))
 
-    def _split(self, now: CaseSolution, task: CaseTask, limits: CaseLimits, clock: Clock) -> Optional[Rated]:
+    def _split(
+        self, now: CaseSolution, task: CaseTask, limits: CaseLimits, clock: Clock
+    ) -> Optional[Rated]:
         """The best split of a case by a new fact, if its solution suggests one. Without rows for a limit it may suggest an old one, too."""
         old = {claim.fact for claim in task.case}
-        facts = [fact for fact in suggested(self.pricing, self._program, now, limits) if fact not in old]
-        return best_split(self.pricing, self._program, now, task.case, facts, task.target, clock) if facts else None
+        facts = [
+            fact for fact in suggested(self.pricing, self._program, now, limits) if fact not in old
+        ]
+        return (
+            best_split(self.pricing, self._program, now, task.case, facts, task.target, clock)
+            if facts
+            else None
+        )
 
     def _better(self, now: CaseSolution, rows: Sequence[PricedRow]) -> List[PricedRow]:
         """The rows that make a solution better."""
-        earned = self.pricing.crews.earned(now.prices, [row.nurse for row in rows], [row.row for row in rows])
-        costs = (row.cost * POINT + now.surcharge * row.runs - now.nurses[row.nurse] for row in rows)
-        return [row for row, cost, less in zip(rows, costs, earned.tolist()) if cost - less < -WORTH]
+        earned = self.pricing.crews.earned(
+            now.prices, [row.nurse for row in rows], [row.row for row in rows]
+        )
+        costs = (
+            row.cost * POINT + now.surcharge * row.runs - now.nurses[row.nurse] for row in rows
+        )
+        return [
+            row for row, cost, less in zip(rows, costs, earned.tolist()) if cost - less < -WORTH
+        ]
 
     def _see(self, now: CaseSolution, target: Points, take: Take) -> None:
         """Offers the roster that a solution is, if it is one and costs less than the target."""
-        whole = (self._program.rows[number] for number, share in now.shares.items() if share > 1 - EXACT)
+        whole = (
+            self._program.rows[number] for number, share in now.shares.items() if share > 1 - EXACT
+        )
         rows = {priced.nurse: priced.row for priced in whole}
         if now.value < target - STEP / 2 and len(rows) == len(self.pricing.plan.nurses):
             take([rows[nurse] for nurse in range(len(rows))], "cases")

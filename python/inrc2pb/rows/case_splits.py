@@ -37,7 +37,9 @@ class Rated(NamedTuple):
         return 1 + lower + HIGHER * higher
 
 
-def suggested(pricing: CasePricing, program: CaseProgram, now: CaseSolution, limits: CaseLimits) -> Iterator[Fact]:
+def suggested(
+    pricing: CasePricing, program: CaseProgram, now: CaseSolution, limits: CaseLimits
+) -> Iterator[Fact]:
     """The facts by which a solution is partly in one case and partly in the other: of each kind those nearest to one half."""
     runs = 0.0
     off: Dict[NurseChoice, float] = {}
@@ -55,10 +57,18 @@ def suggested(pricing: CasePricing, program: CaseProgram, now: CaseSolution, lim
         shares = {key: share for key, share in partly.items() if _is_partly(share)}
         for nurse, day, choice in _halves(shares):
             yield Choice(day // WEEK_DAYS + 1, names[nurse], day % WEEK_DAYS, shifts[choice])
-    there = {number: limits.optimal[number] - share for number, share in now.missing.items() if _is_partly(share)}
+    there = {
+        number: limits.optimal[number] - share
+        for number, share in now.missing.items()
+        if _is_partly(share)
+    }
     for number in _halves(there):
         place = pricing.crews.places[number]
-        yield AtPlace(place.day // WEEK_DAYS + 1, place._replace(day=place.day % WEEK_DAYS), math.floor(there[number]))
+        yield AtPlace(
+            place.day // WEEK_DAYS + 1,
+            place._replace(day=place.day % WEEK_DAYS),
+            math.floor(there[number]),
+        )
 
 
 def _is_partly(number: float) -> bool:
@@ -71,7 +81,13 @@ def _halves(numbers: Dict[_Key, float]) -> List[_Key]:
 
 
 def best_split(
-    pricing: CasePricing, program: CaseProgram, now: CaseSolution, case: Case, facts: Sequence[Fact], target: Points, clock: Clock
+    pricing: CasePricing,
+    program: CaseProgram,
+    now: CaseSolution,
+    case: Case,
+    facts: Sequence[Fact],
+    target: Points,
+    clock: Clock,
 ) -> Optional[Rated]:
     """The split whose cases cost most by the known rows. What they cost above the target does not count. None if no case costs more."""
     program.keep_basis()
@@ -82,7 +98,9 @@ def best_split(
         if program.iterations - spent > MOST_STEPS:
             break
         cases = [pricing.limits((*case, Claim(fact, holds))) for holds in (True, False)]
-        holds, fails = (min(float(most), program.rise(limits, clock, STEPS)) - now.value for limits in cases)
+        holds, fails = (
+            min(float(most), program.rise(limits, clock, STEPS)) - now.value for limits in cases
+        )
         tried.append(Rated(fact, (holds, fails)))
         if min(holds, fails) >= most - now.value:
             # Both cases seem to be closed: no split is better.

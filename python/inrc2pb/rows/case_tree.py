@@ -79,7 +79,10 @@ class CaseTree:
         """Splits cases until the target is proved, or the time is over. The bound rises on the way."""
         self._begin()
         with concurrent.futures.ThreadPoolExecutor(len(searches)) as pool:
-            running = [pool.submit(self._work, close, clock, number) for number, close in enumerate(searches)]
+            running = [
+                pool.submit(self._work, close, clock, number)
+                for number, close in enumerate(searches)
+            ]
             faults = [found for found in (thread.exception() for thread in running) if found]
         for fault in faults:
             if not isinstance(fault, SolverFault) or len(faults) == len(searches):
@@ -95,7 +98,9 @@ class CaseTree:
         if self.root.fact is not None:
             return
         found = self._pricing.price(self.root.limits, self.root.proved.prices, 0)
-        self.root.proved = self.root.proved._replace(bound=found.bound if found else Thousandths(NEVER))
+        self.root.proved = self.root.proved._replace(
+            bound=found.bound if found else Thousandths(NEVER)
+        )
         if found:
             self._put(self.root, Even(), (0.0, 0.0))
 
@@ -150,7 +155,11 @@ class CaseTree:
         before = self.bound
         node.proved = found.proved
         if found.split:
-            self._put(node, found.split.fact, (found.value + found.split.rises[0], found.value + found.split.rises[1]))
+            self._put(
+                node,
+                found.split.fact,
+                (found.value + found.split.rises[0], found.value + found.split.rises[1]),
+            )
         else:
             self._unsplit = min(self._unsplit, node.points)
         if self.bound > before:
@@ -167,9 +176,15 @@ class CaseTree:
     def certificate(self) -> Certificate:
         """The cases with their prices, without those that the bound does not need."""
         plan, is_small = self._pricing.plan, self.leaves < MOST_PRUNED
-        return Certificate(len(plan.weeks), self._pricing.crews.places, self._needed(self.root, frozenset(), self.bound, is_small))
+        return Certificate(
+            len(plan.weeks),
+            self._pricing.crews.places,
+            self._needed(self.root, frozenset(), self.bound, is_small),
+        )
 
-    def _needed(self, node: CaseNode, dropped: FrozenSet[Fact], bound: Points, prunes: bool) -> Node:
+    def _needed(
+        self, node: CaseNode, dropped: FrozenSet[Fact], bound: Points, prunes: bool
+    ) -> Node:
         """The tree of a case without these facts. A split is not needed if one of its cases proves the bound without its fact, too."""
         if node.fact is None or self._proves(node, dropped, bound):
             return leaf_of(self._without(node, dropped), node.proved.prices, node.proved.surcharge)
@@ -177,11 +192,17 @@ class CaseTree:
             more = dropped | {node.fact}
             if all(self._proves(leaf, more, bound) for leaf in self._leaves(case)):
                 return self._needed(case, more, bound, prunes)
-        return Split(node.fact, *(self._needed(case, dropped, bound, prunes) for case in node.cases))
+        return Split(
+            node.fact, *(self._needed(case, dropped, bound, prunes) for case in node.cases)
+        )
 
     def _without(self, node: CaseNode, dropped: FrozenSet[Fact]) -> CaseLimits:
         """The limits of a case without these facts."""
-        return self._pricing.limits(tuple(claim for claim in node.case if claim.fact not in dropped)) if dropped else node.limits
+        return (
+            self._pricing.limits(tuple(claim for claim in node.case if claim.fact not in dropped))
+            if dropped
+            else node.limits
+        )
 
     def _proves(self, node: CaseNode, dropped: FrozenSet[Fact], bound: Points) -> bool:
         """Whether the prices of a case prove the bound without these facts."""

@@ -58,8 +58,15 @@ class Certificate:
 
     def _table(self, week: int, prices: Sequence[int]) -> List[str]:
         """The table of the prices of a week."""
-        of_week = [(place, price) for place, price in zip(self.places, prices) if place.day // WEEK_DAYS == week]
-        return table_lines([place._replace(day=place.day % WEEK_DAYS) for place, _ in of_week], [price for _, price in of_week])
+        of_week = [
+            (place, price)
+            for place, price in zip(self.places, prices)
+            if place.day // WEEK_DAYS == week
+        ]
+        return table_lines(
+            [place._replace(day=place.day % WEEK_DAYS) for place, _ in of_week],
+            [price for _, price in of_week],
+        )
 
 
 def table_lines(places: Sequence[Place], prices: Sequence[int]) -> List[str]:
@@ -68,7 +75,10 @@ def table_lines(places: Sequence[Place], prices: Sequence[int]) -> List[str]:
     for place, price in zip(places, prices):
         if price:
             rows.setdefault((place.shift, place.skill), [0] * WEEK_DAYS)[place.day] = price
-    return [f"ROWS = {len(rows)}", *(" ".join([shift, skill, *map(str, row)]) for (shift, skill), row in rows.items())]
+    return [
+        f"ROWS = {len(rows)}",
+        *(" ".join([shift, skill, *map(str, row)]) for (shift, skill), row in rows.items()),
+    ]
 
 
 def _leaves(node: Node, case: Case) -> Iterator[Tuple[Case, Leaf]]:
@@ -83,7 +93,16 @@ def _lines(node: Node, tables: Dict[Tuple[int, ...], int]) -> Iterator[str]:
     """The lines of a tree in preorder. Leaves with the same prices share a table."""
     if isinstance(node, Leaf):
         number = tables.setdefault(tuple(node.prices), len(tables))
-        yield " ".join(["LEAF", str(number), "SURCHARGES", "=", str(len(node.surcharges)), *map(str, node.surcharges)])
+        yield " ".join(
+            [
+                "LEAF",
+                str(number),
+                "SURCHARGES",
+                "=",
+                str(len(node.surcharges)),
+                *map(str, node.surcharges),
+            ]
+        )
     else:
         yield f"SPLIT {fact_text(node.fact)}"
         yield from _lines(node.holds, tables)

@@ -25,7 +25,11 @@ class _Nurse(ctypes.Structure):
 
 
 class _Task(ctypes.Structure):
-    _fields_ = [*((name, _LONG) for name in ("count", "days", "choices", "run_cost")), ("nurses", _POINTER), ("pays", _POINTER)]
+    _fields_ = [
+        *((name, _LONG) for name in ("count", "days", "choices", "run_cost")),
+        ("nurses", _POINTER),
+        ("pays", _POINTER),
+    ]
 
 
 def load(path: Path) -> Any:
@@ -43,7 +47,10 @@ def load(path: Path) -> Any:
 def _installed() -> Any:
     """The library in the clone's folder `out`, or as `make install` puts it."""
     above = Path(__file__).resolve().parents
-    places = [above[3] / "out" / NAME, *(folder / "lib" / "inrc2pb" / NAME for folder in above[4:5])]
+    places = [
+        above[3] / "out" / NAME,
+        *(folder / "lib" / "inrc2pb" / NAME for folder in above[4:5]),
+    ]
     return next(filter(None, map(load, places)), None)
 
 
@@ -62,13 +69,17 @@ class CompiledRows:
     def _nurse(self, member: Member) -> _Nurse:
         arcs = _arcs(member.arrays)
         rest = None if member.rest is None else member.rest.ctypes.data
-        return _Nurse(ctypes.addressof(arcs) + self._days.start * ctypes.sizeof(_Day), rest, int(member.start))
+        return _Nurse(
+            ctypes.addressof(arcs) + self._days.start * ctypes.sizeof(_Day), rest, int(member.start)
+        )
 
     def cheapest(self, pay: Any, nurses: Sequence[int], run_cost: int = 0) -> Tuple[Any, Any]:
         """As that of Blocks."""
         pays = numpy.ascontiguousarray(pay[:, self._days.start : self._days.stop])
         chosen = (_Nurse * len(nurses))(*(self._nurses[nurse] for nurse in nurses))
-        costs, rows = numpy.empty(len(nurses), dtype=numpy.int64), numpy.zeros(pays.shape[:2], dtype=numpy.uint8)
+        costs, rows = numpy.empty(len(nurses), dtype=numpy.int64), numpy.zeros(
+            pays.shape[:2], dtype=numpy.uint8
+        )
         task = _Task(*pays.shape, run_cost, ctypes.addressof(chosen), pays.ctypes.data)
         if self._library.cheapest_rows(ctypes.addressof(task), costs.ctypes.data, rows.ctypes.data):
             raise MemoryError
@@ -80,7 +91,9 @@ def _arcs(arrays: Arrays) -> Any:
     if arrays.compiled is None:
         days, kept = (_Day * (len(arrays.days) + 1))(), []
         for number, (costs, heads, _) in enumerate(arrays.days):
-            arcs = numpy.zeros(costs.T.shape, dtype=[("cost", "i8"), ("head", "i4"), ("runs", "i4")])
+            arcs = numpy.zeros(
+                costs.T.shape, dtype=[("cost", "i8"), ("head", "i4"), ("runs", "i4")]
+            )
             arcs["cost"], arcs["head"] = costs.T, heads.T
             if arrays.runs:
                 arcs["runs"] = arrays.runs[number].T

@@ -35,7 +35,9 @@ class Descent:
         for crew, places in enumerate(self._crews.members):
             for place in places:
                 self._crews_at[place].append(crew)
-        self._worth = numpy.array([self._of_crew(crew) for crew in range(len(self._crews.members))], dtype=numpy.int64)
+        self._worth = numpy.array(
+            [self._of_crew(crew) for crew in range(len(self._crews.members))], dtype=numpy.int64
+        )
 
     def _of_place(self, place: int) -> int:
         """What one more nurse at a place is worth."""
@@ -63,12 +65,18 @@ class Descent:
         check()
         table = self._crews.of[nurse]
         self._move(self._placed[nurse], -1)
-        old, found = self._pricing.cost(nurse, self.rows[nurse]), self._pricing.cheapest(nurse, self._worth)
-        earned = sum(int(self._worth[table[day][choice]]) for day, choice in enumerate(self.rows[nurse]))
+        old, found = self._pricing.cost(nurse, self.rows[nurse]), self._pricing.cheapest(
+            nurse, self._worth
+        )
+        earned = sum(
+            int(self._worth[table[day][choice]]) for day, choice in enumerate(self.rows[nurse])
+        )
         better = found is not None and (old is None or found.value < old * POINT - earned)
         if better and found is not None:
             self.rows[nurse] = found.row
-            members = (self._crews.members[table[day][choice]] for day, choice in enumerate(found.row))
+            members = (
+                self._crews.members[table[day][choice]] for day, choice in enumerate(found.row)
+            )
             self._placed[nurse] = [max(places, key=self._of_place) for places in members if places]
         self._move(self._placed[nurse], 1)
         return better

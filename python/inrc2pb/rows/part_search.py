@@ -45,13 +45,20 @@ class Part(NamedTuple):
     @property
     def most_work(self) -> float:
         """The limit of the work, in steps of the simplex method."""
-        most = MOST_WORK * max(1.0, len(self.days) / (2 * WEEK_DAYS)) * (WINDOW_WORK if self.is_window else 1)
+        most = (
+            MOST_WORK
+            * max(1.0, len(self.days) / (2 * WEEK_DAYS))
+            * (WINDOW_WORK if self.is_window else 1)
+        )
         return most if self.limited else math.inf
 
     def put(self, rows: Sequence[NurseWeek], found: Sequence[NurseWeek]) -> List[NurseWeek]:
         """The rows with those of the neighborhood replaced, on its days."""
         new, days = dict(zip(self.nurses, found)), self.days
-        return [row[: days.start] + new.get(nurse, row)[days.start : days.stop] + row[days.stop :] for nurse, row in enumerate(rows)]
+        return [
+            row[: days.start] + new.get(nurse, row)[days.start : days.stop] + row[days.stop :]
+            for nurse, row in enumerate(rows)
+        ]
 
 
 class Dive(NamedTuple):
@@ -93,7 +100,13 @@ class PartSearch:
             part = clock.part(clock.left() * FIXING_SHARE)
             search.generate(part)
             chance = None if task.seed is None else random.Random(task.seed)
-            found = search.dive(part, task.share, chance, task.in_order, 0 if len(self._known.plan.weeks) > FEW_WEEKS else CARE)
+            found = search.dive(
+                part,
+                task.share,
+                chance,
+                task.in_order,
+                0 if len(self._known.plan.weeks) > FEW_WEEKS else CARE,
+            )
             if found:
                 search.keep(found, "fixing rows")
                 search.descend(found, "fixing rows")
@@ -138,7 +151,9 @@ class PartSearch:
             search.generate(clock)
         except NoRow:
             return True
-        name = f"{len(own)} nurses" + (f", {len(part.days)} days" if len(part.days) < self._known.plan.days else "")
+        name = f"{len(own)} nurses" + (
+            f", {len(part.days)} days" if len(part.days) < self._known.plan.days else ""
+        )
         if search.is_proved:
             return True
         if search.penalty is None or search.gap() > DIVE_GAP:
@@ -165,7 +180,11 @@ class PartSearch:
         """The rows of a neighborhood, with the demand that the other nurses leave on its days."""
         plan = self._known.plan
         names = tuple(plan.nurses[nurse] for nurse in part.nurses)
-        left = {place: asked for place, asked in self._left(rows, set(names)).items() if place.day in part.days}
+        left = {
+            place: asked
+            for place, asked in self._left(rows, set(names)).items()
+            if place.day in part.days
+        }
         pricing = self._pricing.part(replace(plan, nurses=names, demand=left))
         return pricing.on_days(part.days, [rows[nurse] for nurse in part.nurses])
 

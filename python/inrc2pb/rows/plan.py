@@ -4,13 +4,36 @@ Days count from 0 through all weeks. A choice is 0 for a day off, and one more t
 """
 
 from dataclasses import dataclass, replace
-from typing import Dict, FrozenSet, Iterable, Iterator, List, Mapping, NamedTuple, NewType, Optional, Sequence, Tuple
+from typing import (
+    Dict,
+    FrozenSet,
+    Iterable,
+    Iterator,
+    List,
+    Mapping,
+    NamedTuple,
+    NewType,
+    Optional,
+    Sequence,
+    Tuple,
+)
 
 from ..judging.absences import MARK, absences_of
 from ..judging.days_away import DaysAway
 from ..judging.runs import NEVER, Beside
 from ..week.facts import SHIFTS, WEEKENDS, Charged, Choice, Claim
-from ..week.records import WEEK_DAYS, Absence, Cell, History, KeptLimit, Place, Request, Requirement, Scenario, WeekData
+from ..week.records import (
+    WEEK_DAYS,
+    Absence,
+    Cell,
+    History,
+    KeptLimit,
+    Place,
+    Request,
+    Requirement,
+    Scenario,
+    WeekData,
+)
 from ..week.soft_rules import MISSING_NURSE, REQUEST
 
 # The units of costs. Prices are whole numbers of thousandths of a point.
@@ -85,11 +108,28 @@ class Plan:
             for place, asked in data.requirements.items():
                 if asked.minimum or asked.optimal:
                     day = WEEK_DAYS * number + place.day
-                    demand[place._replace(day=day)] = Requirement(asked.minimum, max(asked.minimum, asked.optimal))
-        of_weeks = [(number, absence) for number, data in enumerate(weeks) for absence in absences_of(data)]
-        away = frozenset(absence._replace(day=WEEK_DAYS * number + absence.day) for number, absence in of_weeks)
+                    demand[place._replace(day=day)] = Requirement(
+                        asked.minimum, max(asked.minimum, asked.optimal)
+                    )
+        of_weeks = [
+            (number, absence) for number, data in enumerate(weeks) for absence in absences_of(data)
+        ]
+        away = frozenset(
+            absence._replace(day=WEEK_DAYS * number + absence.day) for number, absence in of_weeks
+        )
         limits = frozenset(limit for data in weeks for limit in data.limits)
-        return Plan(scenario, history, tuple(weeks), early, rows, tuple(scenario.nurses), demand, away=away, limits=limits, keeping=keeping)
+        return Plan(
+            scenario,
+            history,
+            tuple(weeks),
+            early,
+            rows,
+            tuple(scenario.nurses),
+            demand,
+            away=away,
+            limits=limits,
+            keeping=keeping,
+        )
 
     @property
     def days(self) -> int:
@@ -134,23 +174,39 @@ class Plan:
 
     def most_above(self, nurse: str, kind: str) -> Optional[int]:
         """How often the nurse may exceed her contract's maximum of this kind; None if no limit of hers is kept."""
-        return min((limit.most for limit in self.limits if limit[:2] == (nurse, kind)), default=None)
+        return min(
+            (limit.most for limit in self.limits if limit[:2] == (nurse, kind)), default=None
+        )
 
     def beside_of(self, nurse: str) -> Beside:
         """The nurse's days away that concern the days beside them, if these are kept, and her older row."""
-        training, free = (frozenset(day for who, day in days if who == nurse) for days in self.beside[:2])
+        training, free = (
+            frozenset(day for who, day in days if who == nurse) for days in self.beside[:2]
+        )
         older = self.calls.older.get(nurse, b"")
         found = Beside(older=older, call=self.calls.points) if self.charging and older else Beside()
         if not (self.charging and self.keeping.limit and (training or free)):
             return found
-        return found._replace(training=training, free=free, nights=self.beside.nights, cost=self.keeping.limit, fixed=self.beside.fixed)
+        return found._replace(
+            training=training,
+            free=free,
+            nights=self.beside.nights,
+            cost=self.keeping.limit,
+            fixed=self.beside.fixed,
+        )
 
     def facts(self) -> Tuple[Claim, ...]:
         """The absences and limits that its rows keep, as facts about its weeks."""
         found: List[Claim] = []
         if self.keeping.absence == NEVER:
-            for nurse, day, shift in sorted(self.away, key=lambda absence: (absence.day, absence.nurse, absence.shift or "")):
-                found.append(Claim(Choice(day // WEEK_DAYS + 1, nurse, day % WEEK_DAYS, shift), shift is None))
+            for nurse, day, shift in sorted(
+                self.away, key=lambda absence: (absence.day, absence.nurse, absence.shift or "")
+            ):
+                found.append(
+                    Claim(
+                        Choice(day // WEEK_DAYS + 1, nurse, day % WEEK_DAYS, shift), shift is None
+                    )
+                )
         for nurse, kind, most in sorted(self.limits) if self.keeping.limit == NEVER else ():
             # Nobody can take back the part of the past above a total.
             found.append(Claim(Charged(kind, nurse, max(most, self._above(nurse, kind)))))
@@ -159,25 +215,44 @@ class Plan:
     def _above(self, nurse: str, kind: str) -> int:
         """How much the history has above a total of the nurse's contract; 0 or less: nothing."""
         contract, past = self.scenario.contract_of(nurse), self.history.nurses[nurse]
-        above = {SHIFTS: past.assignments - contract.assignments.maximum, WEEKENDS: past.weekends - contract.max_weekends}
+        above = {
+            SHIFTS: past.assignments - contract.assignments.maximum,
+            WEEKENDS: past.weekends - contract.max_weekends,
+        }
         return above.get(kind, 0)
 
     def is_away(self, nurse: str, day: int, shift: str) -> bool:
         """Whether an absence forbids the nurse this shift type."""
-        return bool(self.away) and (Absence(nurse, day, None) in self.away or Absence(nurse, day, shift) in self.away)
+        return bool(self.away) and (
+            Absence(nurse, day, None) in self.away or Absence(nurse, day, shift) in self.away
+        )
 
     def hard_only(self) -> "Plan":
         """The same plan without the soft rules."""
-        demand = {place: Requirement(asked.minimum, asked.minimum) for place, asked in self.demand.items() if asked.minimum}
+        demand = {
+            place: Requirement(asked.minimum, asked.minimum)
+            for place, asked in self.demand.items()
+            if asked.minimum
+        }
         away = self.away if self.keeping.absence == NEVER else frozenset()
-        return replace(self, demand=demand, charging=False, away=away, limits=frozenset(), beside=DaysAway(), calls=Calls())
+        return replace(
+            self,
+            demand=demand,
+            charging=False,
+            away=away,
+            limits=frozenset(),
+            beside=DaysAway(),
+            calls=Calls(),
+        )
 
     def requests(self) -> Dict[str, List[Request]]:
         """The requests of each nurse, with the days of the plan."""
         found: Dict[str, List[Request]] = {}
         for number, data in enumerate(self.weeks):
             for request in data.requests:
-                found.setdefault(request.nurse, []).append(replace(request, day=WEEK_DAYS * number + request.day))
+                found.setdefault(request.nurse, []).append(
+                    replace(request, day=WEEK_DAYS * number + request.day)
+                )
         return found
 
     def wishes(self, nurse: str, requests: Iterable[Request]) -> Dict[int, List[int]]:
@@ -196,13 +271,17 @@ class Plan:
             for choice in away:
                 costs = found.setdefault(day, [0] * (len(shifts) + 1))
                 # An absence that is written as requests costs enough.
-                more = 0 if costs[choice] >= MARK * REQUEST * POINT else self.keeping.absence * POINT
+                more = (
+                    0 if costs[choice] >= MARK * REQUEST * POINT else self.keeping.absence * POINT
+                )
                 costs[choice] = NEVER if self.keeping.absence == NEVER else costs[choice] + more
             rows = self.held.get((nurse, day))
             if rows:
                 costs = found.setdefault(day, [0] * (len(shifts) + 1))
                 kept = shifts[rows[0].shift] if len(rows) == 1 and rows[0].skill in skills else -1
-                found[day] = [cost if choice == kept else NEVER for choice, cost in enumerate(costs)]
+                found[day] = [
+                    cost if choice == kept else NEVER for choice, cost in enumerate(costs)
+                ]
         return found
 
     def held_skill(self, nurse: str, day: int) -> Optional[str]:

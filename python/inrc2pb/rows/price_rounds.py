@@ -35,11 +35,17 @@ class Approached(NamedTuple):
     rounds: List[List[NurseWeek]]
 
 
-def approach(pricing: Pricing, steps: Steps, check: Check, begin: Optional[Prices] = None) -> Approached:
+def approach(
+    pricing: Pricing, steps: Steps, check: Check, begin: Optional[Prices] = None
+) -> Approached:
     """What the rounds come to, from these prices."""
     crews, missing_cost = pricing.crews, pricing.plan.missing_cost * POINT
     minimum, optimal = numpy.array(crews.minimum), numpy.array(crews.optimal)
-    prices = numpy.full(len(optimal), missing_cost / 2) if begin is None else numpy.array(begin, dtype=float)
+    prices = (
+        numpy.full(len(optimal), missing_cost / 2)
+        if begin is None
+        else numpy.array(begin, dtype=float)
+    )
     missing, best, rounds = numpy.zeros(len(optimal)), ([0] * len(optimal), -numpy.inf), []
     for number in range(steps.rounds):
         check()
@@ -49,7 +55,10 @@ def approach(pricing: Pricing, steps: Steps, check: Check, begin: Optional[Price
         rounds.append(list(map(bytes, rows)))
         wanted = numpy.where(prices < missing_cost, optimal, minimum)
         missing += steps.share * ((wanted - there) / numpy.maximum(1, optimal) - missing)
-        prices = numpy.maximum(0, prices + steps.first * (steps.last / steps.first) ** (number / steps.rounds) * missing)
+        prices = numpy.maximum(
+            0,
+            prices + steps.first * (steps.last / steps.first) ** (number / steps.rounds) * missing,
+        )
     return Approached(best[0], Thousandths(int(best[1])), rounds)
 
 
@@ -58,6 +67,11 @@ def priced(pricing: Pricing, prices: List[int]) -> Tuple[int, Any, Any]:
     crews, everyone = pricing.crews, range(len(pricing.plan.nurses))
     values, rows = pricing.least(everyone, crews.gains(prices))
     # A nurse who counts nowhere is at a place after the last one.
-    places = [crews.best_place(crew, prices) if members else len(prices) for crew, members in enumerate(crews.members)]
-    there = numpy.bincount(numpy.array(places)[crews.at(everyone, rows)].ravel(), minlength=len(prices) + 1)
+    places = [
+        crews.best_place(crew, prices) if members else len(prices)
+        for crew, members in enumerate(crews.members)
+    ]
+    there = numpy.bincount(
+        numpy.array(places)[crews.at(everyone, rows)].ravel(), minlength=len(prices) + 1
+    )
     return int(values.sum()) + pricing.places_cost(prices), there[:-1], rows

@@ -50,9 +50,14 @@ class Crews:
             if skills not in tables:
                 tables[skills] = [self._day(plan, day, skills) for day in range(plan.days)]
             days = tables[skills]
-            held = {day: plan.held_skill(nurse, day) for day in range(plan.days)} if plan.held else {}
+            held = (
+                {day: plan.held_skill(nurse, day) for day in range(plan.days)} if plan.held else {}
+            )
             if any(held.values()):
-                days = [self._day(plan, day, (skill,)) if skill else days[day] for day, skill in held.items()]
+                days = [
+                    self._day(plan, day, (skill,)) if skill else days[day]
+                    for day, skill in held.items()
+                ]
             self.of.append(days)
         self.members: List[Tuple[int, ...]] = list(self._index)
         self.table = numpy.array(self.of)
@@ -71,12 +76,18 @@ class Crews:
 
     def earned(self, prices: Prices, nurses: Sequence[int], rows: Sequence[NurseWeek]) -> Any:
         """What rows of these nurses earn, in thousandths, as an array."""
-        choices = numpy.frombuffer(b"".join(rows), dtype=numpy.uint8).reshape(-1, self.table.shape[1])
-        return numpy.array(self.gains(prices), dtype=numpy.int64)[self.at(nurses, choices)].sum(axis=1)
+        choices = numpy.frombuffer(b"".join(rows), dtype=numpy.uint8).reshape(
+            -1, self.table.shape[1]
+        )
+        return numpy.array(self.gains(prices), dtype=numpy.int64)[self.at(nurses, choices)].sum(
+            axis=1
+        )
 
     def at(self, nurses: Sequence[int], choices: Any) -> Any:
         """The crews of the choices of these nurses, by day."""
-        return self.table[numpy.array(nurses, dtype=int)[:, None], numpy.arange(self.table.shape[1]), choices]
+        return self.table[
+            numpy.array(nurses, dtype=int)[:, None], numpy.arange(self.table.shape[1]), choices
+        ]
 
     def best_place(self, crew: int, prices: Sequence[float]) -> Optional[int]:
         """The place of a crew that has the highest price."""
@@ -103,7 +114,9 @@ class Pricing:
             above = 0 if plan.most_above(nurse, WORK_DAYS) is None else plan.keeping.limit
             key = contract.name, above, plan.beside_of(nurse)
             if key not in runs:
-                runs[key] = Runs(types, contract, plan.days, plan.charging, shift_run, above, key[2])
+                runs[key] = Runs(
+                    types, contract, plan.days, plan.charging, shift_run, above, key[2]
+                )
             states.append(runs[key].before(pasts[nurse]))
             kinds.setdefault((key, Totals.of(plan, contract, pasts[nurse])), []).append(index)
         self.graphs: List[Graph] = [None] * len(plan.nurses)  # type: ignore[list-item]
@@ -112,7 +125,10 @@ class Pricing:
             for index in members:
                 self.graphs[index] = graph
         self.starts = [graph.starts[state] for graph, state in zip(self.graphs, states)]
-        self.base = [POINT * Totals.base(plan, scenario.contract_of(nurse), pasts[nurse]) for nurse in plan.nurses]
+        self.base = [
+            POINT * Totals.base(plan, scenario.contract_of(nurse), pasts[nurse])
+            for nurse in plan.nurses
+        ]
         requests = plan.requests()
         self.wishes = [plan.wishes(nurse, requests.get(nurse, ())) for nurse in plan.nurses]
         # The days on which rows may differ from these, if there are some.
@@ -127,18 +143,30 @@ class Pricing:
         index = {nurse: number for number, nurse in enumerate(self.plan.nurses)}
         numbers = [index[nurse] for nurse in plan.nurses]
         part.plan, part.crews = plan, Crews(plan)
-        part.graphs, part.starts = [self.graphs[number] for number in numbers], [self.starts[number] for number in numbers]
-        part.base, part.wishes = [self.base[number] for number in numbers], [self.wishes[number] for number in numbers]
+        part.graphs, part.starts = [self.graphs[number] for number in numbers], [
+            self.starts[number] for number in numbers
+        ]
+        part.base, part.wishes = [self.base[number] for number in numbers], [
+            self.wishes[number] for number in numbers
+        ]
         part._days, part._rows, part._members, part._batch = self._days, [b""] * 0, [], None
         return part
 
     def on_days(self, days: range, rows: Sequence[NurseWeek]) -> "Pricing":
         """The same for rows that are the given ones, except on these days."""
         part = copy.copy(self)
-        part.wishes, part._days, part._rows, part._members, part._batch = [], days, list(rows), [], None
+        part.wishes, part._days, part._rows, part._members, part._batch = (
+            [],
+            days,
+            list(rows),
+            [],
+            None,
+        )
         others = [day for day in range(self.plan.days) if day not in days]
         for nurse, row in enumerate(rows):
-            part.wishes.append({**self.wishes[nurse], **{day: self._only(nurse, day, row[day]) for day in others}})
+            part.wishes.append(
+                {**self.wishes[nurse], **{day: self._only(nurse, day, row[day]) for day in others}}
+            )
         return part
 
     def keeping(self, kept: Iterable[Tuple[int, range, Sequence[int]]]) -> "Pricing":
@@ -163,12 +191,16 @@ class Pricing:
         """The cheapest row of each of these nurses."""
         values, rows = self.least(nurses, gains)
         found = zip(values.tolist(), map(bytes, rows))
-        return [Priced(Thousandths(value), row) if value < NEVER // 2 else None for value, row in found]
+        return [
+            Priced(Thousandths(value), row) if value < NEVER // 2 else None for value, row in found
+        ]
 
     def least(self, nurses: Sequence[int], gains: Gains) -> Tuple[Any, Any]:
         """What the cheapest row of each of these nurses costs less what it earns, and its choices, as arrays."""
         if self._batch is None:
-            self._members += [] if self._members else map(self._member, range(len(self.plan.nurses)))
+            self._members += (
+                [] if self._members else map(self._member, range(len(self.plan.nurses)))
+            )
             self._batch = _Batch(self, self._days, self._rows, self._members)
         return self._batch.least(nurses, gains)
 
@@ -185,7 +217,11 @@ class Pricing:
         graph, start, rest, days = self.graphs[nurse], self.starts[nurse], None, self._days
         if self._rows:
             start, _ = graph.walked(start, self._rows[nurse][: days.start])
-            rest = graph.arrays.after(days.stop, self._rows[nurse]) if days.stop < len(graph.days) else None
+            rest = (
+                graph.arrays.after(days.stop, self._rows[nurse])
+                if days.stop < len(graph.days)
+                else None
+            )
         return Member(nurse, graph.arrays, start, rest)
 
     def cost(self, nurse: int, row: NurseWeek) -> Optional[Points]:
@@ -198,20 +234,33 @@ class Pricing:
         """What all places cost at least, if they pay these prices to their nurses."""
         asked = zip(self.crews.minimum, self.crews.optimal, prices)
         most = self.plan.missing_cost * POINT
-        return Thousandths(sum(minimum * price + (best - minimum) * min(most, price) for minimum, best, price in asked))
+        return Thousandths(
+            sum(
+                minimum * price + (best - minimum) * min(most, price)
+                for minimum, best, price in asked
+            )
+        )
 
 
 class _Batch:
     """The nurses of a pricing together, on the days on which their rows may differ from those that they keep, if they keep any."""
 
-    def __init__(self, pricing: Pricing, days: range, rows: Sequence[NurseWeek], members: Sequence[Member]) -> None:
+    def __init__(
+        self, pricing: Pricing, days: range, rows: Sequence[NurseWeek], members: Sequence[Member]
+    ) -> None:
         self._days, self._crews, self._wishes = days, pricing.crews.table, pricing.wish_table()
         nurses, every = len(members), range(self._crews.shape[1])
         kept = list(rows) or [bytes(len(every))] * nurses
         self._rows = numpy.frombuffer(b"".join(kept), dtype=numpy.uint8).reshape(nurses, -1)
-        choices = numpy.arange(nurses)[:, None], (others := [day for day in every if day not in days]), self._rows[:, others]
+        choices = (
+            numpy.arange(nurses)[:, None],
+            (others := [day for day in every if day not in days]),
+            self._rows[:, others],
+        )
         # The crews of each nurse on the other days, and what she pays there.
-        self._kept, self._paid = self._crews[choices], numpy.array(pricing.base) + self._wishes[choices].sum(axis=1)
+        self._kept, self._paid = self._crews[choices], numpy.array(pricing.base) + self._wishes[
+            choices
+        ].sum(axis=1)
         before = zip(pricing.graphs, pricing.starts, kept)
         self._paid += [graph.walked(start, row[: days.start])[1] for graph, start, row in before]
         self._together = priced_together(members, days)

@@ -11,7 +11,8 @@ _MULTIPLIER = 6364136223846793005
 
 class Arrays:
     """The days of a graph as arrays: by choice and node the costs and the nodes that are reached, and by node of the next day the choice
-    that reaches it. `runs` has the charges of shift runs by choice and node, if the costs are without them."""
+    that reaches it. `runs` has the charges of shift runs by choice and node, if the costs are without them.
+    """
 
     def __init__(self, days: Sequence[Tuple[Any, Any, Any]], runs: Sequence[Any] = ()) -> None:
         self.days, self.runs = list(days), list(runs)
@@ -25,7 +26,11 @@ class Arrays:
         costs = self.days[day][0]
         if not self.runs:
             return costs
-        return costs + self.runs[day] * run_cost if run_cost < NEVER else numpy.where(self.runs[day] > 0, NEVER, costs)
+        return (
+            costs + self.runs[day] * run_cost
+            if run_cost < NEVER
+            else numpy.where(self.runs[day] > 0, NEVER, costs)
+        )
 
     def after(self, last: int, row: Sequence[int]) -> Any:
         """What the choices of a row from a day on cost after each node of that day."""
@@ -58,7 +63,9 @@ class Blocks:
         beside its own costs, by place in `nurses`, day and choice, and `run_cost` is the cost of a charge of a shift run that is counted
         apart."""
         places = {nurse: place for place, nurse in enumerate(nurses)}
-        costs, rows = numpy.empty(len(places), dtype=numpy.int64), numpy.empty((len(places), len(self._days)), dtype=numpy.uint8)
+        costs, rows = numpy.empty(len(places), dtype=numpy.int64), numpy.empty(
+            (len(places), len(self._days)), dtype=numpy.uint8
+        )
         for members in self._of_graphs.values():
             wanted = [member for member in members if member.nurse in places]
             if wanted:

@@ -38,7 +38,9 @@ class NoRow(Exception):
 class RowGeneration:
     """The generation of rows for a plan, and of prices. `heard` is called if the bound rises, and when it is final."""
 
-    def __init__(self, pricing: Pricing, solver: Optional[LinearSolver], heard: Callable[[], None]) -> None:
+    def __init__(
+        self, pricing: Pricing, solver: Optional[LinearSolver], heard: Callable[[], None]
+    ) -> None:
         self.pricing, self.plan = pricing, pricing.plan
         self._solver, self._heard = solver, heard
         self.program = RowProgram(self.plan, pricing.crews, self.linear_program())
@@ -98,12 +100,16 @@ class RowGeneration:
 
     def approach(self, clock: Clock) -> None:
         """Begins with prices that are found without the linear program, and with the rows of the last rounds on the way to them."""
-        found = approach(self.pricing, MANY if len(self.plan.weeks) > FEW_WEEKS else FEW, clock.check)
+        found = approach(
+            self.pricing, MANY if len(self.plan.weeks) > FEW_WEEKS else FEW, clock.check
+        )
         self.prices = found.prices
         self._add_rounds(found.rounds[-BEGINNING:])
 
     def _add_rounds(self, rounds: Sequence[Sequence[NurseWeek]]) -> None:
-        for nurse, row in dict.fromkeys((nurse, row) for rows in rounds for nurse, row in enumerate(rows)):
+        for nurse, row in dict.fromkeys(
+            (nurse, row) for rows in rounds for nurse, row in enumerate(rows)
+        ):
             self.add_row(nurse, row)
 
     def generate(self, clock: Clock) -> None:
@@ -126,12 +132,22 @@ class RowGeneration:
             share = smoothing if new else 0.0
         self._heard()
 
-    def _round(self, now: Solved, best: Prices, share: float, clock: Clock) -> Tuple[Prices, Dict[int, Priced], int]:
+    def _round(
+        self, now: Solved, best: Prices, share: float, clock: Clock
+    ) -> Tuple[Prices, Dict[int, Priced], int]:
         """Adds the cheapest rows at prices between those of a solution and the best ones, which have this share. Returns these prices, the
         rows, and how many of them are new and make the solution better."""
-        tried = [round(share * one + (1 - share) * price) for one, price in zip(best, now.prices)] if share else now.prices
+        tried = (
+            [round(share * one + (1 - share) * price) for one, price in zip(best, now.prices)]
+            if share
+            else now.prices
+        )
         found = self._priced(tried, range(len(self.plan.nurses)), clock)
-        return tried, found, sum(self.add_row(nurse, found[nurse].row) for nurse in self._better(found, tried, now))
+        return (
+            tried,
+            found,
+            sum(self.add_row(nurse, found[nurse].row) for nurse in self._better(found, tried, now)),
+        )
 
     def _proved(self, prices: Prices, found: Dict[int, Priced]) -> int:
         """What no roster costs less than by these prices and each nurse's cheapest row, in thousandths."""
@@ -140,9 +156,15 @@ class RowGeneration:
     def _better(self, found: Dict[int, Priced], tried: Prices, now: Solved) -> List[int]:
         """The nurses whose cheapest rows at the prices that were tried make the solution better."""
         rows = [priced.row for priced in found.values()]
-        changed = self.pricing.crews.earned(tried, list(found), rows) - self.pricing.crews.earned(now.prices, list(found), rows)
+        changed = self.pricing.crews.earned(tried, list(found), rows) - self.pricing.crews.earned(
+            now.prices, list(found), rows
+        )
         values = zip(found.items(), changed.tolist())
-        return [nurse for (nurse, priced), more in values if priced.value + more - now.nurses[nurse] < -WORTH]
+        return [
+            nurse
+            for (nurse, priced), more in values
+            if priced.value + more - now.nurses[nurse] < -WORTH
+        ]
 
     def _meets(self, value: float) -> bool:
         """Whether the bound is as good as this value of the program."""

@@ -5,7 +5,18 @@ are open, and what more assignments and weekends would cost. Nodes with the same
 """
 
 import numpy
-from typing import Any, Callable, Dict, Iterable, Iterator, List, NamedTuple, Optional, Sequence, Tuple
+from typing import (
+    Any,
+    Callable,
+    Dict,
+    Iterable,
+    Iterator,
+    List,
+    NamedTuple,
+    Optional,
+    Sequence,
+    Tuple,
+)
 
 from ..judging.runs import NEVER, RunState, Runs
 from ..week.facts import SHIFTS, WEEKENDS
@@ -31,8 +42,15 @@ class Totals(NamedTuple):
         (minimum, maximum), most = contract.assignments, contract.max_weekends
         counts = plan.charging and (plan.ends or plan.early)
         totals = range(past.assignments, past.assignments + plan.days)
-        works = [ASSIGNMENT_TOTAL * (counts * (total >= maximum) - (plan.charging and plan.ends and total < minimum)) for total in totals]
-        weekends = [WEEKEND_TOTAL * (counts and past.weekends + number >= most) for number in range(len(plan.weeks))]
+        works = [
+            ASSIGNMENT_TOTAL
+            * (counts * (total >= maximum) - (plan.charging and plan.ends and total < minimum))
+            for total in totals
+        ]
+        weekends = [
+            WEEKEND_TOTAL * (counts and past.weekends + number >= most)
+            for number in range(len(plan.weeks))
+        ]
         return Totals(
             _kept(plan, works, plan.most_above(past.nurse, SHIFTS), maximum - past.assignments),
             _kept(plan, weekends, plan.most_above(past.nurse, WEEKENDS), most - past.weekends),
@@ -44,7 +62,9 @@ class Totals(NamedTuple):
         if not (plan.charging and plan.ends):
             return 0
         (minimum, maximum), most = contract.assignments, contract.max_weekends
-        excess = ASSIGNMENT_TOTAL * max(0, past.assignments - maximum) + WEEKEND_TOTAL * max(0, past.weekends - most)
+        excess = ASSIGNMENT_TOTAL * max(0, past.assignments - maximum) + WEEKEND_TOTAL * max(
+            0, past.weekends - most
+        )
         return ASSIGNMENT_TOTAL * max(0, minimum - past.assignments) + (0 if plan.early else excess)
 
 
@@ -52,7 +72,10 @@ def _kept(plan: Plan, costs: Sequence[int], most: Optional[int], left: int) -> T
     """What each further one costs, if after those that are left, and `most` more, none is allowed, or each costs more."""
     if most is None:
         return tuple(costs)
-    return tuple(cost if number < left + most else min(NEVER, cost + plan.keeping.limit) for number, cost in enumerate(costs))
+    return tuple(
+        cost if number < left + most else min(NEVER, cost + plan.keeping.limit)
+        for number, cost in enumerate(costs)
+    )
 
 
 def _first_with(futures: Sequence[Tuple[int, ...]]) -> List[int]:
@@ -71,7 +94,9 @@ class _Day(NamedTuple):
 class Graph:
     """The graph of the nurses with one contract and the same totals. `starts` has the node of each state before the first day."""
 
-    def __init__(self, runs: Runs, totals: Totals, states: Iterable[RunState], check: Check) -> None:
+    def __init__(
+        self, runs: Runs, totals: Totals, states: Iterable[RunState], check: Check
+    ) -> None:
         self._runs, self._totals, self._check = runs, totals, check
         firsts = list(dict.fromkeys(states))
         days = list(self._reached(firsts))
@@ -86,25 +111,39 @@ class Graph:
         left = self._runs.days - day - 1
         weeks = -(-left // WEEK_DAYS)
         same_works = _first_with([works[total : total + left] for total in range(day + 2)])
-        return same_works, _first_with([weekends[total : total + weeks] for total in range(day // WEEK_DAYS + 2)])
+        return same_works, _first_with(
+            [weekends[total : total + weeks] for total in range(day // WEEK_DAYS + 2)]
+        )
 
     def _reached(self, states: List[RunState]) -> Iterator[Tuple[Any, Any, Any]]:
         """All nodes that are reached, day by day: the costs, the nodes that are reached, and the choice that reaches them."""
         runs, works_on = self._runs, (numpy.arange(len(self._runs.shifts)) > 0)[:, None]
         works, weekends = (numpy.array(costs, dtype=numpy.int64) for costs in self._totals)
-        state, work, rest = numpy.arange(len(states)), numpy.zeros(len(states), dtype=int), numpy.zeros(len(states), dtype=int)
+        state, work, rest = (
+            numpy.arange(len(states)),
+            numpy.zeros(len(states), dtype=int),
+            numpy.zeros(len(states), dtype=int),
+        )
         before = numpy.array([now.choice for now in states])
         for day in range(runs.days):
             self._check()
             number: Dict[RunState, int] = {}
-            steps = [[(cost, number.setdefault(to, len(number))) for cost, to in runs.steps(day, now)] for now in states]
-            costs, reached = (numpy.array([[step[part] for step in row] for row in steps])[state].T for part in range(2))
+            steps = [
+                [(cost, number.setdefault(to, len(number))) for cost, to in runs.steps(day, now)]
+                for now in states
+            ]
+            costs, reached = (
+                numpy.array([[step[part] for step in row] for row in steps])[state].T
+                for part in range(2)
+            )
             weekend = (day % WEEK_DAYS == WEEK_DAYS - 1) & (works_on | (before > 0))
             costs = costs + works_on * works[work] + weekend * weekends[rest]
             never = costs >= FORBIDDEN
             same_works, same_weekends = map(numpy.array, self._same(day))
             shape = len(number), len(same_works), len(same_weekends)
-            keys = numpy.ravel_multi_index((reached, same_works[work + works_on], same_weekends[rest + weekend]), shape)
+            keys = numpy.ravel_multi_index(
+                (reached, same_works[work + works_on], same_weekends[rest + weekend]), shape
+            )
             there = numpy.zeros(shape, dtype=bool).ravel()
             there[keys[~never]] = True
             heads = numpy.where(never, 0, (numpy.cumsum(there) - 1)[keys])

@@ -39,18 +39,25 @@ class RowParts:
     """Improves the best roster of a search part by part, with each of the solvers at once, `apart` in a process of its own. Each solver has
     files of its own."""
 
-    def __init__(self, search: RowSearch, solvers: Sequence[LinearSolver], seed: int = 1, apart: bool = False) -> None:
+    def __init__(
+        self, search: RowSearch, solvers: Sequence[LinearSolver], seed: int = 1, apart: bool = False
+    ) -> None:
         self._search, self._solvers = search, solvers
         self._chance = random.Random(seed)
         self._minimums = search.minimum_values()
         known = search.known()._replace(program=search.program)
         self._workers = workers(known, solvers) if apart else []
         own = [PartSearch(search.pricing, known, solver) for solver in solvers]
-        self._searches: Dict[LinearSolver, Union[PartSearch, Worker]] = dict(zip(solvers, self._workers or own))
+        self._searches: Dict[LinearSolver, Union[PartSearch, Worker]] = dict(
+            zip(solvers, self._workers or own)
+        )
         shares = PERIOD_SHARES if len(search.plan.weeks) > 1 else WEEK_SHARES
         lengths = dict.fromkeys(math.ceil(share * search.plan.days) for share in shares)
         # For each number of days the number of nurses of the next neighborhood, and the work of those that were in vain.
-        self._sizes = {length: min(len(search.plan.nurses), FIRST_SIZE * (WEEK_DAYS / length) ** 0.5) for length in lengths}
+        self._sizes = {
+            length: min(len(search.plan.nurses), FIRST_SIZE * (WEEK_DAYS / length) ** 0.5)
+            for length in lengths
+        }
         self._spent = dict.fromkeys(lengths, 0)
         self._is_long = len(search.plan.weeks) > FEW_WEEKS
         self._windows = self._new_windows()
@@ -67,7 +74,10 @@ class RowParts:
 
     def _run(self, shared: Clock) -> None:
         with concurrent.futures.ThreadPoolExecutor(len(self._solvers)) as pool:
-            threads = [pool.submit(self._work, solver, shared, number) for number, solver in enumerate(self._solvers)]
+            threads = [
+                pool.submit(self._work, solver, shared, number)
+                for number, solver in enumerate(self._solvers)
+            ]
             left = len(threads)
             try:
                 for thread in concurrent.futures.as_completed(threads):
@@ -77,7 +87,9 @@ class RowParts:
                         left -= 1
                         if not left:
                             raise
-                        self._solvers[0].warn(f"{fault}: the search goes on with {left} of {len(threads)} threads")
+                        self._solvers[0].warn(
+                            f"{fault}: the search goes on with {left} of {len(threads)} threads"
+                        )
             except (SolverFault, TimeIsOver):
                 # A thread that finds the proof stops the clock of all, and their solvers.
                 if not self._search.is_proved:
@@ -91,18 +103,35 @@ class RowParts:
         the first thread goes back to the best roster, and another thread dives again.
         """
         search = self._search
-        if number == 0 and not self._dives and search.bound and search.gap() < SMALL_GAP * search.bound:
-            everything = Part(tuple(range(len(search.plan.nurses))), range(search.plan.days), limited=False)
+        if (
+            number == 0
+            and not self._dives
+            and search.bound
+            and search.gap() < SMALL_GAP * search.bound
+        ):
+            everything = Part(
+                tuple(range(len(search.plan.nurses))), range(search.plan.days), limited=False
+            )
             self.improve(everything, solver, clock.part(clock.left() * WHOLE_SHARE), search)
         roster, windows, vain, dived, spent = search, self._windows, 0, 0.0, 0
         while not search.is_proved:
             clock.check()
             if self._is_due(number, dived, spent):
-                dived += self._dive(solver, clock, self._dive_of(number, not (number or dived), search.penalty))[1]
+                dived += self._dive(
+                    solver, clock, self._dive_of(number, not (number or dived), search.penalty)
+                )[1]
                 continue
-            if vain > (LONG_STUCK_WORK if self._is_long else STUCK_WORK) and windows.are_over and self._dives:
+            if (
+                vain > (LONG_STUCK_WORK if self._is_long else STUCK_WORK)
+                and windows.are_over
+                and self._dives
+            ):
                 goes_back = number == 0 and roster is not search
-                found = [] if goes_back else self._dive(solver, clock, self._dive_of(number, False, None))[0]
+                found = (
+                    []
+                    if goes_back
+                    else self._dive(solver, clock, self._dive_of(number, False, None))[0]
+                )
                 roster, vain = search.restart(found[-1]) if found else search, 0
                 windows = self._windows if roster is search else self._new_windows()
             penalty, best = roster.penalty, search.penalty
@@ -121,11 +150,14 @@ class RowParts:
     @property
     def _dives(self) -> bool:
         """Whether more dives are worth their time: in a period, or if the gap is wide."""
-        return len(self._search.plan.weeks) > 1 or (self._search.bound is not None and self._search.gap() > WIDE_GAP)
+        return len(self._search.plan.weeks) > 1 or (
+            self._search.bound is not None and self._search.gap() > WIDE_GAP
+        )
 
     def _is_due(self, number: int, dived: float, spent: int) -> bool:
         """Whether the thread of this number dives next, after so much work of its dives and of its neighborhoods. In a long period half of
-        the threads begin with a dive, and windows take the place of later dives. Otherwise dives get two thirds of the work."""
+        the threads begin with a dive, and windows take the place of later dives. Otherwise dives get two thirds of the work.
+        """
         if self._is_long:
             return not dived and number < max(1, len(self._solvers) // 2)
         return self._dives and dived <= 2 * spent
@@ -133,15 +165,24 @@ class RowParts:
     def _dive_of(self, number: int, is_first: bool, penalty: Optional[Points]) -> Dive:
         """A dive of the thread of this number, whose roster is to cost less than this penalty. The first one is without chance. Without a
         penalty it looks for another roster to go on with, and prefers the choices of the best one, so that it ends lower than by chance
-        alone. In a long period each thread fixes one week after another, else every second one, since neither way ends lower everywhere."""
+        alone. In a long period each thread fixes one week after another, else every second one, since neither way ends lower everywhere.
+        """
         with self._lock:
             in_order = self._is_long or number % 2 == 1
             if is_first:
                 return Dive(FIXED_SHARES[0], in_order, None, penalty)
             preferred = self._search.rows if penalty is None else None
-            return Dive(self._chance.choice(FIXED_SHARES), in_order, self._chance.randrange(MOST_SEED), penalty, preferred)
+            return Dive(
+                self._chance.choice(FIXED_SHARES),
+                in_order,
+                self._chance.randrange(MOST_SEED),
+                penalty,
+                preferred,
+            )
 
-    def _dive(self, solver: LinearSolver, clock: Clock, dive: Dive) -> Tuple[List[List[NurseWeek]], float]:
+    def _dive(
+        self, solver: LinearSolver, clock: Clock, dive: Dive
+    ) -> Tuple[List[List[NurseWeek]], float]:
         """A dive over all nurses and days. Returns the rows that it found, the best last, and its work. If its time ended the dive, its
         work is infinite, so that no other one follows."""
         found: List[List[NurseWeek]] = []
@@ -164,7 +205,9 @@ class RowParts:
             # Meanwhile another thread may have found better rows of other nurses, or on other days.
             with self._lock:
                 assert roster.rows is not None
-                return roster.keep(part.put(roster.rows, found), finder) or roster.keep(part.put(rows, found), finder)
+                return roster.keep(part.put(roster.rows, found), finder) or roster.keep(
+                    part.put(rows, found), finder
+                )
 
         return self._searches[solver].improve(clock, take, part, rows)
 
@@ -176,15 +219,27 @@ class RowParts:
                 windows.open()
                 if is_better:
                     self._windows.open()
-            if done.ended and not (is_better or done.is_better) and len(part.nurses) == len(self._search.plan.nurses):
+            if (
+                done.ended
+                and not (is_better or done.is_better)
+                and len(part.nurses) == len(self._search.plan.nurses)
+            ):
                 windows.closed.add(part.days)
             if part.is_window:
                 return
             length = len(part.days)
             self._spent[length] += 0 if done.is_better else done.work
             growth = MUCH_GROWTH if done.work < LITTLE_SHARE * part.most_work else GROWTH
-            factor = SHRINKAGE if not done.ended else growth if done.work < QUICK_SHARE * part.most_work else 1.0
-            self._sizes[length] = min(len(self._search.plan.nurses), max(LEAST_SIZE, self._sizes[length] * factor))
+            factor = (
+                SHRINKAGE
+                if not done.ended
+                else growth
+                if done.work < QUICK_SHARE * part.most_work
+                else 1.0
+            )
+            self._sizes[length] = min(
+                len(self._search.plan.nurses), max(LEAST_SIZE, self._sizes[length] * factor)
+            )
 
     def _next(self, roster: RowSearch, windows: Windows) -> Part:
         """The next neighborhood of a roster: a window, if one is left. Days that are closed for all nurses come last."""
@@ -196,7 +251,11 @@ class RowParts:
             for length in sorted(self._spent, key=self._spent.__getitem__):
                 size = int(self._sizes[length])
                 stretches = [range(first, first + length) for first in range(days - length + 1)]
-                left = [stretch for stretch in stretches if size < nurses or stretch not in windows.closed]
+                left = [
+                    stretch
+                    for stretch in stretches
+                    if size < nurses or stretch not in windows.closed
+                ]
                 if left:
                     break
             return Part(self._nurses(size, roster.rows), self._chance.choice(left or stretches))
@@ -211,10 +270,15 @@ class RowParts:
         self._chance.shuffle(rest)
         if costly and self._chance.random() < 0.5:
             first = [self._chance.choice(costly)]
-            rest = sorted((nurse for nurse in range(len(rows)) if nurse != first[0]), key=self._alike(first[0]))
+            rest = sorted(
+                (nurse for nurse in range(len(rows)) if nurse != first[0]),
+                key=self._alike(first[0]),
+            )
         return tuple(sorted(first + rest[: size - len(first)]))
 
     def _alike(self, nurse: int) -> Callable[[int], float]:
         """How few skills another nurse shares with this one, with chance among equals."""
-        skills = [set(self._search.plan.scenario.nurses[name].skills) for name in self._search.plan.nurses]
+        skills = [
+            set(self._search.plan.scenario.nurses[name].skills) for name in self._search.plan.nurses
+        ]
         return lambda other: self._chance.random() - len(skills[other] & skills[nurse])

@@ -39,7 +39,8 @@ class Solved(NamedTuple):
 
 class RowProgram:
     """The known rows of all nurses, numbered as columns of a linear program. A row of that program is a nurse, a place, or a crew of
-    several places; its first columns are the nurses who are missing at each place, above and below its minimum."""
+    several places; its first columns are the nurses who are missing at each place, above and below its minimum.
+    """
 
     def __init__(self, plan: Plan, crews: Crews, program: LinearProgram) -> None:
         self.columns: List[RowColumn] = []
@@ -53,11 +54,22 @@ class RowProgram:
         # The steps of the simplex method until now, and at most.
         self.iterations = 0
         self.most_iterations = math.inf
-        program.add_rows([(1.0, 1.0)] * self._nurses + [(float(optimal), math.inf) for optimal in crews.optimal])
+        program.add_rows(
+            [(1.0, 1.0)] * self._nurses + [(float(optimal), math.inf) for optimal in crews.optimal]
+        )
         asked = list(enumerate(zip(crews.minimum, crews.optimal)))
         self._below = range(len(asked), 2 * len(asked))
-        missing = [Column(plan.missing_cost, 0.0, best - least, [(self._nurses + place, 1.0)]) for place, (least, best) in asked]
-        program.add_columns(missing + [Column(self.below, 0.0, least, [(self._nurses + place, 1.0)]) for place, (least, _) in asked])
+        missing = [
+            Column(plan.missing_cost, 0.0, best - least, [(self._nurses + place, 1.0)])
+            for place, (least, best) in asked
+        ]
+        program.add_columns(
+            missing
+            + [
+                Column(self.below, 0.0, least, [(self._nurses + place, 1.0)])
+                for place, (least, _) in asked
+            ]
+        )
 
     # ---- columns
 
@@ -66,9 +78,14 @@ class RowProgram:
         if (nurse, row) in self._known:
             return False
         crews = [of_day[choice] for of_day, choice in zip(self._crews.of[nurse], row)]
-        entries = [(nurse, 1.0), *((number, 1.0) for number in map(self._row_of, crews) if number is not None)]
+        entries = [
+            (nurse, 1.0),
+            *((number, 1.0) for number in map(self._row_of, crews) if number is not None),
+        ]
         self._known.add((nurse, row))
-        self.columns.append(RowColumn(nurse, row, cost, self._program.add_columns([Column(cost, *_FREE, entries)])))
+        self.columns.append(
+            RowColumn(nurse, row, cost, self._program.add_columns([Column(cost, *_FREE, entries)]))
+        )
         return True
 
     def _row_of(self, crew: int) -> Optional[int]:
@@ -79,7 +96,12 @@ class RowProgram:
         if crew not in self._links:
             self._links[crew] = self._program.rows
             self._program.add_rows([_FREE])
-            self._program.add_columns([Column(0.0, *_FREE, [(self._links[crew], -1.0), (self._nurses + place, 1.0)]) for place in places])
+            self._program.add_columns(
+                [
+                    Column(0.0, *_FREE, [(self._links[crew], -1.0), (self._nurses + place, 1.0)])
+                    for place in places
+                ]
+            )
         return self._links[crew]
 
     def shut(self, columns: Iterable[int]) -> List[int]:
@@ -109,8 +131,16 @@ class RowProgram:
         out = {self.columns[column].number for column in self._shut}
         left = [number for number in range(self._program.columns) if number not in out]
         numbers, part = {number: place for place, number in enumerate(left)}, copy.copy(self)
-        part._program, part._shut, part._links = self._program.part(left, program), set(), dict(self._links)
-        part.columns = [column._replace(number=numbers[column.number]) for column in self.columns if column.number in numbers]
+        part._program, part._shut, part._links = (
+            self._program.part(left, program),
+            set(),
+            dict(self._links),
+        )
+        part.columns = [
+            column._replace(number=numbers[column.number])
+            for column in self.columns
+            if column.number in numbers
+        ]
         part._known = {(column.nurse, column.row) for column in part.columns}
         return part
 
@@ -149,7 +179,11 @@ class RowProgram:
         prices = [min(MAX_PRICE, max(0, round(price * POINT))) for price in of_places]
         nurses = [round(price * POINT) for price in found.prices[: self._nurses]]
         values = found.columns
-        shares = {index: values[column.number] for index, column in enumerate(self.columns) if values[column.number] > _TINY}
+        shares = {
+            index: values[column.number]
+            for index, column in enumerate(self.columns)
+            if values[column.number] > _TINY
+        }
         missing = sum(values[number] for number in self._below)
         return Solved(found.value, prices, nurses, shares, missing)
 
@@ -164,8 +198,15 @@ class RowProgram:
 
     def chosen(self, names: Iterable[str]) -> Optional[List[int]]:
         """The column of each nurse, by the names that an integer program took; None if a nurse has none or several."""
-        columns = {self.columns[column].nurse: column for column in map(self._column, (name for name in names if name[0] == "v"))}
-        return [columns[nurse] for nurse in range(self._nurses)] if len(columns) == self._nurses else None
+        columns = {
+            self.columns[column].nurse: column
+            for column in map(self._column, (name for name in names if name[0] == "v"))
+        }
+        return (
+            [columns[nurse] for nurse in range(self._nurses)]
+            if len(columns) == self._nurses
+            else None
+        )
 
     def _column(self, name: str) -> int:
         number = name[1:]

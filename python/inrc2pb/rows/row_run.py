@@ -42,7 +42,14 @@ Found = TypeVar("Found")
 class WholeSearch(WeekDives):
     """The search over all rows of a plan, whose best roster several threads may improve. It refutes a bound above its penalty."""
 
-    def __init__(self, pricing: Pricing, solver: Optional[LinearSolver], clock: Clock, offer: Offer, heard: Callable[[], None]) -> None:
+    def __init__(
+        self,
+        pricing: Pricing,
+        solver: Optional[LinearSolver],
+        clock: Clock,
+        offer: Offer,
+        heard: Callable[[], None],
+    ) -> None:
         super().__init__(pricing, solver, clock, offer, heard)
         self._lock = threading.RLock()
 
@@ -58,7 +65,11 @@ class WholeSearch(WeekDives):
         self._check_bound()
 
     def _check_bound(self) -> None:
-        if self.penalty is not None and self.lower_bound is not None and self.penalty < self.lower_bound:
+        if (
+            self.penalty is not None
+            and self.lower_bound is not None
+            and self.penalty < self.lower_bound
+        ):
             raise WrongBound(self.lower_bound, self.penalty)
 
 
@@ -80,7 +91,13 @@ class RowRun:
         is_quick: bool = False,
     ) -> None:
         self.plan = plan
-        self._solver, self._clock, self._offer, self._heard, self._start = solver, clock, offer, heard, start
+        self._solver, self._clock, self._offer, self._heard, self._start = (
+            solver,
+            clock,
+            offer,
+            heard,
+            start,
+        )
         self._seed, self._splits, self._is_quick = seed, splits, is_quick
         self.crews = Crews(plan)
         self.search: Optional[WholeSearch] = None
@@ -95,7 +112,11 @@ class RowRun:
         """No roster of the plan costs less, by plain Python; None without prices."""
         if self.search is None or self.search.lower_bound is None:
             return None
-        return max(self.search.lower_bound, self._tree.bound) if self._tree else self.search.lower_bound
+        return (
+            max(self.search.lower_bound, self._tree.bound)
+            if self._tree
+            else self.search.lower_bound
+        )
 
     def certificate(self) -> Optional[Certificate]:
         """What proves the lower bound: the best prices alone, or cases."""
@@ -122,7 +143,9 @@ class RowRun:
         if self._start and not staffed(self.plan, self.crews, first).below:
             penalty = self._offer(first, GIVEN)
         pricing = Pricing(self.plan, self.crews, self._clock.check)
-        search = self.search = WholeSearch(pricing, self._solver, self._clock, self._offer, self._heard)
+        search = self.search = WholeSearch(
+            pricing, self._solver, self._clock, self._offer, self._heard
+        )
         search.begin(first, penalty)
         if self._solver is None:
             return
@@ -160,10 +183,14 @@ class RowRun:
         if self.plan.keeps_more and self.plan.keeping.limit == NEVER:
             return True
         plan = self.plan.hard_only()
-        generation = RowGeneration(Pricing(plan, Crews(plan), self._clock.check), self._solver, lambda: None)
+        generation = RowGeneration(
+            Pricing(plan, Crews(plan), self._clock.check), self._solver, lambda: None
+        )
         generation.generate(self._clock)
         if generation.bound is not None and generation.bound > 0:
-            self.minimums = Certificate(len(plan.weeks), generation.pricing.crews.places, Leaf(generation.prices))
+            self.minimums = Certificate(
+                len(plan.weeks), generation.pricing.crews.places, Leaf(generation.prices)
+            )
         return self.minimums is not None
 
     def _close_gap(self, search: WholeSearch, solver: LinearSolver) -> None:
@@ -209,14 +236,18 @@ class RowRun:
     def _choose_known(self, search: WholeSearch, clock: Clock) -> None:
         """Lets an integer program choose among the known rows."""
         if not search.is_proved:
-            search.choose(search.known_within(), clock.part(clock.left() * KNOWN_SHARE), "known rows")
+            search.choose(
+                search.known_within(), clock.part(clock.left() * KNOWN_SHARE), "known rows"
+            )
 
     def _is_narrow(self, search: RowSearch) -> bool:
         """Whether the gap is small enough for a tree of cases."""
         part = LONG_TREE_PART if len(self.plan.weeks) > FEW_WEEKS else TREE_PART
         return search.bound is not None and search.gap() <= max(TREE_GAP, part * search.bound)
 
-    def _close_cases(self, search: RowSearch, known: Known, solver: LinearSolver, clock: Clock) -> None:
+    def _close_cases(
+        self, search: RowSearch, known: Known, solver: LinearSolver, clock: Clock
+    ) -> None:
         """Looks for cases that show that no roster costs less than the best one, and for better rosters, as soon as the gap is small. If
         that ends the search, it ends all solvers."""
         if not self._splits:
@@ -232,7 +263,9 @@ class RowRun:
             clock.stop()
             solver.end_all()
 
-    def _run_tree(self, search: RowSearch, known: Known, solver: LinearSolver, clock: Clock) -> None:
+    def _run_tree(
+        self, search: RowSearch, known: Known, solver: LinearSolver, clock: Clock
+    ) -> None:
         """The tree that goes on from a search. With several processors other processes search cases, too."""
         count = processors()
         own = CaseSearch.begin(known, search.pricing.crews, solver.beside(count), clock.check)
@@ -251,7 +284,11 @@ class RowRun:
 
     def _is_proved(self, search: RowSearch) -> bool:
         """Whether the best roster costs no more than the bound."""
-        return search.penalty is not None and self.lower_bound is not None and search.penalty <= self.lower_bound
+        return (
+            search.penalty is not None
+            and self.lower_bound is not None
+            and search.penalty <= self.lower_bound
+        )
 
 
 def _side_by_side(solver: LinearSolver) -> List[LinearSolver]:

@@ -41,13 +41,22 @@ class WrongBound(Misuse):
     """A bound above the penalty of a roster, so numbers of this computer are wrong."""
 
     def __init__(self, bound: int, penalty: int) -> None:
-        super().__init__(f"the lower bound {bound} is above the penalty {penalty} of a roster: Python or NumPy computes wrong numbers here")
+        super().__init__(
+            f"the lower bound {bound} is above the penalty {penalty} of a roster: Python or NumPy computes wrong numbers here"
+        )
 
 
 class RowSearch(RowGeneration):
     """A search over the rows of a plan. `offer` gets each roster; `heard` is called if the bound rises, and when it is final."""
 
-    def __init__(self, pricing: Pricing, solver: Optional[LinearSolver], clock: Clock, offer: Offer, heard: Callable[[], None]) -> None:
+    def __init__(
+        self,
+        pricing: Pricing,
+        solver: Optional[LinearSolver],
+        clock: Clock,
+        offer: Offer,
+        heard: Callable[[], None],
+    ) -> None:
         super().__init__(pricing, solver, heard)
         self.clock, self._offer = clock, offer
         # The rows and the penalty of the best roster.
@@ -57,7 +66,11 @@ class RowSearch(RowGeneration):
     @property
     def is_proved(self) -> bool:
         """Whether the best roster costs no more than the bound."""
-        return self.penalty is not None and self.lower_bound is not None and self.penalty <= self.lower_bound
+        return (
+            self.penalty is not None
+            and self.lower_bound is not None
+            and self.penalty <= self.lower_bound
+        )
 
     def _meets(self, value: float) -> bool:
         return self.is_proved or super()._meets(value)
@@ -92,7 +105,9 @@ class RowSearch(RowGeneration):
         costs = [self.pricing.cost(nurse, row) for nurse, row in enumerate(rows)]
         if found.below or None in costs:
             return None
-        return Points(sum(cost for cost in costs if cost is not None) + self.plan.missing_cost * found.missing)
+        return Points(
+            sum(cost for cost in costs if cost is not None) + self.plan.missing_cost * found.missing
+        )
 
     # ---- a first roster
 
@@ -130,13 +145,22 @@ class RowSearch(RowGeneration):
 
     def costly(self, rows: Sequence[NurseWeek], minimum: Sequence[Thousandths]) -> List[int]:
         """The nurses whose rows cost more at the best prices than these minimums."""
-        columns = [RowColumn(nurse, row, self.pricing.cost(nurse, row) or Points(0), 0) for nurse, row in enumerate(rows)]
-        return [nurse for nurse, reduced in enumerate(self._reduced(columns)) if reduced > minimum[nurse]]
+        columns = [
+            RowColumn(nurse, row, self.pricing.cost(nurse, row) or Points(0), 0)
+            for nurse, row in enumerate(rows)
+        ]
+        return [
+            nurse
+            for nurse, reduced in enumerate(self._reduced(columns))
+            if reduced > minimum[nurse]
+        ]
 
     def _reduced(self, columns: Sequence[RowColumn]) -> List[int]:
         """What rows cost less what they earn at the best prices, in thousandths."""
         known = list(columns)
-        earned = self.pricing.crews.earned(self.prices, [column.nurse for column in known], [column.row for column in known])
+        earned = self.pricing.crews.earned(
+            self.prices, [column.nurse for column in known], [column.row for column in known]
+        )
         return [column.cost * POINT - less for column, less in zip(known, earned.tolist())]
 
     def known_within(self) -> List[int]:
@@ -145,14 +169,22 @@ class RowSearch(RowGeneration):
             return list(range(len(self.program.columns)))
         found, gap = self._priced(self.prices, range(len(self.plan.nurses)), self.clock), self.gap()
         columns = zip(self.program.columns, self._reduced(self.program.columns))
-        return [number for number, (column, reduced) in enumerate(columns) if reduced <= found[column.nurse].value + gap]
+        return [
+            number
+            for number, (column, reduced) in enumerate(columns)
+            if reduced <= found[column.nurse].value + gap
+        ]
 
     def known(self) -> Known:
         """What is known now."""
         found: List[Dict[NurseWeek, int]] = [{} for _ in self.plan.nurses]
         for column, reduced in zip(self.program.columns, self._reduced(self.program.columns)):
             found[column.nurse][column.row] = reduced
-        return Known(self.plan, self.prices, [sorted(rows, key=lambda row: (rows[row], row)) for rows in found])
+        return Known(
+            self.plan,
+            self.prices,
+            [sorted(rows, key=lambda row: (rows[row], row)) for rows in found],
+        )
 
     def choose(self, use: Sequence[int], clock: Clock, finder: str, nodes: int = 0) -> bool:
         """Lets the integer program choose among these columns, in at most so many nodes, if that is not 0. Returns whether the solver

@@ -68,7 +68,9 @@ def staffed(plan: Plan, crews: Crews, rows: Sequence[NurseWeek]) -> Staffed:
     for nurse, row in enumerate(rows):
         for day, choice in enumerate(row):
             if choice:
-                shifts.setdefault((day, choice), {}).setdefault(crews.of[nurse][day][choice], []).append(nurse)
+                shifts.setdefault((day, choice), {}).setdefault(
+                    crews.of[nurse][day][choice], []
+                ).append(nurse)
     numbers = {shift: number for number, shift in enumerate(plan.scenario.shift_types, 1)}
     asked: Dict[Tuple[int, int], List[int]] = {}
     for index, place in enumerate(crews.places):
@@ -79,20 +81,32 @@ def staffed(plan: Plan, crews: Crews, rows: Sequence[NurseWeek]) -> Staffed:
         members = shifts.get(key, {})
         shift, places = _Shift(crews, members), asked.get(key, [])
         below += sum(shift.missing(place, crews.minimum[place]) for place in places)
-        missing += sum(shift.missing(place, crews.optimal[place] - crews.minimum[place]) for place in places)
+        missing += sum(
+            shift.missing(place, crews.optimal[place] - crews.minimum[place]) for place in places
+        )
         cells += _cells(plan, crews, key, members, shift)
     return Staffed(cells, below, missing)
 
 
-def _cells(plan: Plan, crews: Crews, key: Tuple[int, int], members: Dict[int, List[int]], shift: _Shift) -> Iterable[Cell]:
+def _cells(
+    plan: Plan, crews: Crews, key: Tuple[int, int], members: Dict[int, List[int]], shift: _Shift
+) -> Iterable[Cell]:
     """The assignments of a shift. A nurse who counts for no place has a skill of hers."""
     day, choice = key
     name = list(plan.scenario.shift_types)[choice - 1]
     for crew, nurses in members.items():
-        skills = [crews.places[place].skill for place in crews.members[crew] for _ in range(shift.given.get((crew, place), 0))]
+        skills = [
+            crews.places[place].skill
+            for place in crews.members[crew]
+            for _ in range(shift.given.get((crew, place), 0))
+        ]
         for index, nurse in enumerate(nurses):
             own = plan.nurses[nurse]
-            skill = skills[index] if index < len(skills) else plan.held_skill(own, day) or plan.scenario.nurses[own].skills[0]
+            skill = (
+                skills[index]
+                if index < len(skills)
+                else plan.held_skill(own, day) or plan.scenario.nurses[own].skills[0]
+            )
             yield Cell(own, day, name, skill)
 
 

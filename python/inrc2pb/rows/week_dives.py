@@ -52,7 +52,8 @@ class _Week(NamedTuple):
 
 class _Fixing(NamedTuple):
     """Weeks of nurses that are fixed at once. Those that have no other choices in the solution come first, and then `others` further ones,
-    in the order of their shares. The pricing is the one before the fixing, and `shut` has the columns that it shut."""
+    in the order of their shares. The pricing is the one before the fixing, and `shut` has the columns that it shut.
+    """
 
     weeks: Dict[_Week, NurseWeek]
     others: int
@@ -64,7 +65,12 @@ class WeekDives(RowSearch):
     """A search that also dives."""
 
     def dive(
-        self, clock: Clock, share: float = 0.0, chance: Optional[random.Random] = None, in_order: bool = False, care: int = 0
+        self,
+        clock: Clock,
+        share: float = 0.0,
+        chance: Optional[random.Random] = None,
+        in_order: bool = False,
+        care: int = 0,
     ) -> Optional[List[NurseWeek]]:
         """Fixes at most this share of the open weeks of nurses at once, without one as many as the solutions allow, and by chance not only
         those of the greatest shares; `in_order` only some of the first open weeks, as many as there are nurses. The first fixings, until so
@@ -81,7 +87,10 @@ class WeekDives(RowSearch):
             self.pricing = pricing
             self.clock.check()
             if len(self._last) == len(self.plan.nurses):
-                self.descend([self._last[nurse] for nurse in range(len(self._last))], "fixing rows in a short time")
+                self.descend(
+                    [self._last[nurse] for nurse in range(len(self._last))],
+                    "fixing rows in a short time",
+                )
             return None
         finally:
             self._leave(program)
@@ -91,10 +100,19 @@ class WeekDives(RowSearch):
     def _greatest(self, solved: Optional[Solved]) -> Dict[int, NurseWeek]:
         """The row of each nurse that has the greatest share in a solution."""
         shares, columns = solved.shares if solved else {}, self.program.columns
-        return {columns[number].nurse: columns[number].row for number in sorted(shares, key=shares.__getitem__)}
+        return {
+            columns[number].nurse: columns[number].row
+            for number in sorted(shares, key=shares.__getitem__)
+        }
 
-    def _dive(self, clock: Clock, most: float, chance: Optional[random.Random], in_order: bool, care: int) -> Optional[List[NurseWeek]]:
-        whole, nurses, weeks = self.program, range(len(self.plan.nurses)), range(len(self.plan.weeks))
+    def _dive(
+        self, clock: Clock, most: float, chance: Optional[random.Random], in_order: bool, care: int
+    ) -> Optional[List[NurseWeek]]:
+        whole, nurses, weeks = (
+            self.program,
+            range(len(self.plan.nurses)),
+            range(len(self.plan.weeks)),
+        )
         left = [_Week(nurse, number) for number in weeks for nurse in nurses]
         fixed: Dict[_Week, NurseWeek] = {}
         fixing, near, last = _Fixing({}, 0, self.pricing, []), None, -math.inf
@@ -113,7 +131,9 @@ class WeekDives(RowSearch):
             fixed.update(fixing.weeks)
             left = [week for week in left if week not in fixing.weeks]
             if not left:
-                return [b"".join(fixed[_Week(nurse, number)] for number in weeks) for nurse in nurses]
+                return [
+                    b"".join(fixed[_Week(nurse, number)] for number in weeks) for nurse in nurses
+                ]
             new, others = self._chosen(now, left, share, chance, in_order)
             if not new:
                 return None
@@ -123,11 +143,17 @@ class WeekDives(RowSearch):
     def _fix(self, weeks: Dict[_Week, NurseWeek], others: int) -> _Fixing:
         """Lets nurses have rows with these weeks only. The last `others` of them have other choices in the solution."""
         before, of_nurse = self.pricing, collections.defaultdict(list)
-        self.pricing = before.keeping([(week.nurse, week.days, choices) for week, choices in weeks.items()])
+        self.pricing = before.keeping(
+            [(week.nurse, week.days, choices) for week, choices in weeks.items()]
+        )
         for week in weeks:
             of_nurse[week.nurse].append(week)
         columns = enumerate(self.program.columns)
-        out = [number for number, (nurse, row, *_) in columns if any(week.of(row) != weeks[week] for week in of_nurse.get(nurse, ()))]
+        out = [
+            number
+            for number, (nurse, row, *_) in columns
+            if any(week.of(row) != weeks[week] for week in of_nurse.get(nurse, ()))
+        ]
         return _Fixing(weeks, others, before, self.program.shut(out))
 
     def _halved(self, fixing: _Fixing) -> _Fixing:
@@ -155,7 +181,9 @@ class WeekDives(RowSearch):
             self.program.close()
         self.program = whole
 
-    def _relaxed_with(self, near: Optional[Prices], last: float, limit: float, clock: Clock) -> Optional[Tuple[Solved, Prices]]:
+    def _relaxed_with(
+        self, near: Optional[Prices], last: float, limit: float, clock: Clock
+    ) -> Optional[Tuple[Solved, Prices]]:
         """The linear program with the fixed weeks, and the prices that prove the most. These are not far from those that did so before the
         last fixing; without any no week is fixed yet. It gets new rows while its value is above the last one, and above what prices prove,
         and, in a large plan, falls. None if the last fixing should be undone."""
@@ -174,7 +202,9 @@ class WeekDives(RowSearch):
         now, share = self.program.solve(clock, DUAL), smoothing
         values = [now.value]
         for _ in range(MOST_ROUNDS):
-            if now.value <= last + EXACT or (len(values) > tail and values[-tail - 1] - now.value < LITTLE_FALL):
+            if now.value <= last + EXACT or (
+                len(values) > tail and values[-tail - 1] - now.value < LITTLE_FALL
+            ):
                 break
             tried, priced, new = self._round(now, best, share, clock)
             proved = self._proved(tried, priced) / POINT
@@ -190,31 +220,52 @@ class WeekDives(RowSearch):
         return (now, best) if now.value <= limit else None
 
     def _chosen(
-        self, now: Solved, left: Sequence[_Week], share: float, chance: Optional[random.Random], in_order: bool
+        self,
+        now: Solved,
+        left: Sequence[_Week],
+        share: float,
+        chance: Optional[random.Random],
+        in_order: bool,
     ) -> Tuple[Dict[_Week, NurseWeek], int]:
         """The weeks to fix, and the number of those that have other choices in the solution. Of such weeks this share is fixed, of
         different nurses and the greatest shares first; at least one. `in_order` these are among the first ones, as many as there are
-        nurses. Weeks without other choices are fixed, too, `in_order` only if they come before these."""
+        nurses. Weeks without other choices are fixed, too, `in_order` only if they come before these.
+        """
         shares = self._shares(now, left)
-        whole = {week for week, of_week in shares.items() if max(of_week.values(), default=0.0) > WHOLE}
+        whole = {
+            week for week, of_week in shares.items() if max(of_week.values(), default=0.0) > WHOLE
+        }
         if chance and len(self.plan.weeks) > 1:
             shares = {week: self._guided(week, of_week) for week, of_week in shares.items()}
-        best = {week: max(of_week, key=of_week.__getitem__) for week, of_week in shares.items() if of_week}
+        best = {
+            week: max(of_week, key=of_week.__getitem__)
+            for week, of_week in shares.items()
+            if of_week
+        }
         others = [week for week in left if week in best and week not in whole]
         first = others[: len(self.plan.nurses)] if in_order else others
         most = max(1, int(share * len(first)))
-        weights = {week: shares[week][best[week]] * (chance.uniform(*BY_CHANCE) if chance else 1) for week in first}
+        weights = {
+            week: shares[week][best[week]] * (chance.uniform(*BY_CHANCE) if chance else 1)
+            for week in first
+        }
         taken: Dict[int, _Week] = {}
         for week in sorted(weights, key=weights.__getitem__, reverse=True):
             if len(taken) < most:
                 taken.setdefault(week.nurse, week)
         last = left.index(first[-1]) if in_order and first else len(left)
-        return {week: best[week] for week in (*(week for week in left[:last] if week in whole), *taken.values())}, len(taken)
+        return {
+            week: best[week]
+            for week in (*(week for week in left[:last] if week in whole), *taken.values())
+        }, len(taken)
 
     def _guided(self, week: _Week, shares: Dict[NurseWeek, float]) -> Dict[NurseWeek, float]:
         """The shares of a week. The choices that the best roster has count more."""
         kept = week.of(self.rows[week.nurse]) if self.rows else None
-        return {choices: share * (GUIDED if choices == kept else 1.0) for choices, share in shares.items()}
+        return {
+            choices: share * (GUIDED if choices == kept else 1.0)
+            for choices, share in shares.items()
+        }
 
     def _shares(self, now: Solved, weeks: Sequence[_Week]) -> Dict[_Week, Dict[NurseWeek, float]]:
         """The share of each choice of these weeks in a solution."""

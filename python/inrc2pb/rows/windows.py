@@ -22,7 +22,10 @@ FIRST_WINDOW, ROUNDS, MOST_SEED = 3, (4, 4, 5), 1 << 30
 
 def windows(weeks: int, length: int) -> List[range]:
     """The days of all windows of so many weeks."""
-    return [range(WEEK_DAYS * first, WEEK_DAYS * (first + length)) for first in range(weeks - length + 1)]
+    return [
+        range(WEEK_DAYS * first, WEEK_DAYS * (first + length))
+        for first in range(weeks - length + 1)
+    ]
 
 
 class Windows:
@@ -39,8 +42,15 @@ class Windows:
     def open(self) -> None:
         """Begins again with the first round, because the roster is another one."""
         rounds = [windows(self._weeks, length) if length < self._weeks else [] for length in ROUNDS]
-        shuffled = [(number, days) for number, some in enumerate(rounds) for days in self._chance.sample(some, len(some))]
-        self._left = [(days, self._chance.randrange(MOST_SEED) if number else None) for number, days in shuffled]
+        shuffled = [
+            (number, days)
+            for number, some in enumerate(rounds)
+            for days in self._chance.sample(some, len(some))
+        ]
+        self._left = [
+            (days, self._chance.randrange(MOST_SEED) if number else None)
+            for number, days in shuffled
+        ]
         self.closed.clear()
 
     @property
@@ -73,7 +83,11 @@ class Sweeps:
         for days in itertools.cycle(every):
             if vain == len(every) or self._clock.left() <= 0:
                 return
-            before, rows, part = search.penalty, list(search.rows or ()), Part(nurses, days, is_window=True)
+            before, rows, part = (
+                search.penalty,
+                list(search.rows or ()),
+                Part(nurses, days, is_window=True),
+            )
             self._worker.improve(self._clock, functools.partial(self._take, part), part, rows)
             vain = vain + 1 if search.penalty == before else 0
 

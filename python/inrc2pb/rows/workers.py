@@ -49,7 +49,8 @@ class _Running(NamedTuple):
 
 class Worker:
     """A process with what is known of a plan, and with solvers of its own, which does what a PartSearch and a CaseSearch do. It starts with
-    the first task. After some faults in a row, or if all of its solvers fail, a task ends with a SolverFault."""
+    the first task. After some faults in a row, or if all of its solvers fail, a task ends with a SolverFault.
+    """
 
     def __init__(self, solver: LinearSolver, known: Path) -> None:
         self._solver, self._known = solver, known
@@ -71,7 +72,9 @@ class Worker:
             raise TimeIsOver
         return found
 
-    def _do(self, kind: Type[_Answer], task: Sequence[object], clock: Clock, take: Take) -> Optional[_Answer]:
+    def _do(
+        self, kind: Type[_Answer], task: Sequence[object], clock: Clock, take: Take
+    ) -> Optional[_Answer]:
         """Does a task; None if the time is over."""
         while clock.left() > 0:
             if self._faults == MAX_FAULTS:
@@ -102,11 +105,20 @@ class Worker:
         return None
 
     def _start(self) -> _Running:
-        words = [sys.executable, *(["-B"] if sys.dont_write_bytecode else []), "-I", "-S", "-c", _START]
+        words = [
+            sys.executable,
+            *(["-B"] if sys.dont_write_bytecode else []),
+            "-I",
+            "-S",
+            "-c",
+            _START,
+        ]
         process = self._solver.open([*words, str(self._known), *sys.path])
         assert process.stdin and process.stdout
         tasks, answers = os.dup(process.stdin.fileno()), os.dup(process.stdout.fileno())
-        return _Running(process, Connection(tasks, readable=False), Connection(answers, writable=False))
+        return _Running(
+            process, Connection(tasks, readable=False), Connection(answers, writable=False)
+        )
 
     def end(self) -> None:
         """Ends the process."""
@@ -134,7 +146,11 @@ class _Tasks:
 
     @functools.cached_property
     def _parts(self) -> PartSearch:
-        return PartSearch(Pricing(self._known.plan, Crews(self._known.plan), lambda: None), self._known, self._solver)
+        return PartSearch(
+            Pricing(self._known.plan, Crews(self._known.plan), lambda: None),
+            self._known,
+            self._solver,
+        )
 
     @functools.cached_property
     def _cases(self) -> CaseSearch:

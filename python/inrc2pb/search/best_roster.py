@@ -42,7 +42,12 @@ class BestRoster:
     """
 
     def __init__(
-        self, files: WeekFiles, week: Week, solution: Path, announce: Announce, warn: Callable[[str], None] = lambda line: None
+        self,
+        files: WeekFiles,
+        week: Week,
+        solution: Path,
+        announce: Announce,
+        warn: Callable[[str], None] = lambda line: None,
     ) -> None:
         self._files, self._week, self._announce, self._warn = files, week, announce, warn
         self._file = KeptFile(solution)
@@ -96,7 +101,12 @@ class BestRoster:
                     raise
                 return None
         above = excess(exceeded(self._week, self._week.data.limits, cells))
-        return Accepted(cells, text, answer, (len(working_while_away(self._absences, cells)), above, objective_of(answer)))
+        return Accepted(
+            cells,
+            text,
+            answer,
+            (len(working_while_away(self._absences, cells)), above, objective_of(answer)),
+        )
 
     def _take(self, found: Accepted, finder: str) -> None:
         self._best = found
@@ -106,10 +116,16 @@ class BestRoster:
         """The roster that the file has, if it is new to the search, of this week, and keeps the hard rules."""
         week, text = self._week, self._file.new_text()
         try:
-            found = read_solution(self._file.path, week.scenario, text) if text is not None else None
+            found = (
+                read_solution(self._file.path, week.scenario, text) if text is not None else None
+            )
         except FileFault:
             return None
-        if text is None or not found or (found.week, found.scenario) != (week.history.week, week.scenario.name):
+        if (
+            text is None
+            or not found
+            or (found.week, found.scenario) != (week.history.week, week.scenario.name)
+        ):
             return None
         return self._accepted(found.cells, text)
 
@@ -118,19 +134,31 @@ class BestRoster:
         others = self._others()
         if others is None or others.rank >= mine.rank:
             return False
-        self._warn(f"{self._file.path} has a better roster than this search, which is kept: its penalty is {others.penalty}")
+        self._warn(
+            f"{self._file.path} has a better roster than this search, which is kept: its penalty is {others.penalty}"
+        )
         self._take(others, "the file")
         return True
 
-    def start(self, path: Path, held: Sequence[Cell], finder: str = "the given roster") -> Sequence[Cell]:
+    def start(
+        self, path: Path, held: Sequence[Cell], finder: str = "the given roster"
+    ) -> Sequence[Cell]:
         """Begins with the roster of a file. Raises ProgramFault, which says why, if it breaks a hard rule."""
         week = self._week
         cells = read_roster(path, week.scenario, week.history).cells
         try:
             answer_with(self._files, path)
         except ProgramFault as fault:
-            found = other_week(path, week.scenario, week.history) if "roster breaks" in fault.message else ""
-            said = ProgramFault(fault.status, f"{path} breaks a hard rule; {found}") if found else explained(fault, path, week, held)
+            found = (
+                other_week(path, week.scenario, week.history)
+                if "roster breaks" in fault.message
+                else ""
+            )
+            said = (
+                ProgramFault(fault.status, f"{path} breaks a hard rule; {found}")
+                if found
+                else explained(fault, path, week, held)
+            )
             raise said from fault
         self.offer(cells, finder)
         return cells
@@ -149,11 +177,16 @@ class BestRoster:
         if best is None or self._file.has(best.text) or self._takes_others(best):
             return
         self._file.write(best.text)
-        self._warn(f"{self._file.path} was changed during the search: it has the roster of the search again")
+        self._warn(
+            f"{self._file.path} was changed during the search: it has the roster of the search again"
+        )
 
     def report(self) -> Optional[Report]:
         """The report of the roster in the file, if there is one; its status is OPTIMUM FOUND if it is proved."""
         if self._best is None:
             return None
         answer = self._best.answer
-        return decode(self._files, answer.replace("s SATISFIABLE", "s OPTIMUM FOUND", 1) if self.proved else answer)
+        return decode(
+            self._files,
+            answer.replace("s SATISFIABLE", "s OPTIMUM FOUND", 1) if self.proved else answer,
+        )

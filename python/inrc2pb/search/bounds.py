@@ -51,7 +51,14 @@ class Prover:
     def __init__(self, warn: Callable[[str], None]) -> None:
         self._warn, self._processes, self._program = warn, Processes(), find_prover()
 
-    def answer(self, options: Sequence[str], name: str, certificate: Certificate, given: Sequence[Claim], seconds: float) -> Optional[str]:
+    def answer(
+        self,
+        options: Sequence[str],
+        name: str,
+        certificate: Certificate,
+        given: Sequence[Claim],
+        seconds: float,
+    ) -> Optional[str]:
         """What the program prints about the weeks of these options, by a certificate, for the plans that keep the facts."""
         if self._program is None:
             return None
@@ -80,7 +87,9 @@ class Prover:
 class Bounds:
     """The bounds of some weeks with these options and this name. `target` is the file that gets the certificate, if any."""
 
-    def __init__(self, options: Sequence[str], name: str, target: Optional[Path], warn: Callable[[str], None]) -> None:
+    def __init__(
+        self, options: Sequence[str], name: str, target: Optional[Path], warn: Callable[[str], None]
+    ) -> None:
         self._options, self._name, self._target = options, name, target
         self._prover = Prover(warn)
 
@@ -95,7 +104,9 @@ class Bounds:
             return None
         self._write(certificate)
         # Bounds speak of absences and limits alone.
-        plan, only = replace(run.plan.kept(keeping), beside=DaysAway(), calls=Calls()), _only(run.plan, keeping)
+        plan, only = replace(run.plan.kept(keeping), beside=DaysAway(), calls=Calls()), _only(
+            run.plan, keeping
+        )
         answer = self._prover.answer(self._options, self._name, certificate, plan.facts(), seconds)
         found = re.match("lower bound ([0-9]{1,18})\n", answer or "")
         if answer is not None and not found:
@@ -110,7 +121,9 @@ class Bounds:
     def no_roster(self, plan: Plan, certificate: Certificate, seconds: float) -> Optional[str]:
         """What proved by a certificate that no roster keeps the minimums, if the plan's absences are kept; None if it does not prove it."""
         self._write(certificate)
-        answer = self._prover.answer([*self._options, "--minimums"], self._name, certificate, plan.facts(), seconds)
+        answer = self._prover.answer(
+            [*self._options, "--minimums"], self._name, certificate, plan.facts(), seconds
+        )
         if answer is None:
             return PLAIN
         return PROVER if answer.startswith(EXISTS_NONE) else None
@@ -123,7 +136,9 @@ class Bounds:
 def _only(plan: Plan, keeping: Keeping) -> str:
     """Of which rosters a bound speaks; none: of all."""
     away, limits = bool(plan.away) and keeping != FREE, bool(plan.limits) and keeping == STRICT
-    return " and ".join(word for word, is_kept in (("absences", away), ("limits", limits)) if is_kept)
+    return " and ".join(
+        word for word, is_kept in (("absences", away), ("limits", limits)) if is_kept
+    )
 
 
 def week_options(files: WeekFiles) -> List[str]:

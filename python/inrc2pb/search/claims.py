@@ -69,12 +69,19 @@ def judged(answer: Answered, known: Known) -> Verdict:
     if answer.fault:
         return Verdict(Kind.LIE, answer.fault)
     if answer.said is not None and answer.said != answer.objective:
-        return Verdict(Kind.LIE, f"it says that its answer costs {answer.said}, but it costs {answer.objective}")
+        return Verdict(
+            Kind.LIE,
+            f"it says that its answer costs {answer.said}, but it costs {answer.objective}",
+        )
     if answer.status == NONE:
         return _judged_none(known)
     if answer.objective is None or answer.penalty is None:
         return Verdict(Kind.SILENT, answer.status)
-    return _judged_best(answer.objective, answer.penalty, known) if answer.status == OPTIMUM else _judged_stopped(answer, known)
+    return (
+        _judged_best(answer.objective, answer.penalty, known)
+        if answer.status == OPTIMUM
+        else _judged_stopped(answer, known)
+    )
 
 
 def _judged_none(known: Known) -> Verdict:
@@ -96,7 +103,9 @@ def _judged_best(objective: int, penalty: int, known: Known) -> Verdict:
         return Verdict(Kind.OPEN, f"{claim}, and no lower bound is known")
     if known.bound >= objective:
         return Verdict(Kind.CONFIRMED, f"no roster costs less than {objective}")
-    return Verdict(Kind.OPEN, f"gap {objective - known.bound}: {claim}, and the lower bound is {known.bound}")
+    return Verdict(
+        Kind.OPEN, f"gap {objective - known.bound}: {claim}, and the lower bound is {known.bound}"
+    )
 
 
 def _judged_stopped(answer: Answered, known: Known) -> Verdict:
@@ -104,4 +113,7 @@ def _judged_stopped(answer: Answered, known: Known) -> Verdict:
     costs = f"its roster costs {answer.penalty}{slacks}"
     if known.bound is None or answer.penalty is None:
         return Verdict(Kind.OPEN, f"{costs}, and no lower bound is known")
-    return Verdict(Kind.OPEN, f"gap {answer.penalty - known.bound}: {costs}, and the lower bound is {known.bound}")
+    return Verdict(
+        Kind.OPEN,
+        f"gap {answer.penalty - known.bound}: {costs}, and the lower bound is {known.bound}",
+    )

@@ -69,11 +69,23 @@ class SearchResult:
             return ["no lower bound"]
         only = f" with all {self.bound_only}" if self.bound_only else ""
         line = f"lower bound {self.bound}{only} ({self.bound_by})"
-        less = f"no roster that keeps all {self.bound_only} costs less" if self.bound_only else "no roster costs less"
+        less = (
+            f"no roster that keeps all {self.bound_only} costs less"
+            if self.bound_only
+            else "no roster costs less"
+        )
         if self.bound >= self.report.penalty:
-            but = ", but this one breaks an absence" if self.breaks else ", but this one exceeds a limit" if self.exceeds else ""
+            but = (
+                ", but this one breaks an absence"
+                if self.breaks
+                else ", but this one exceeds a limit"
+                if self.exceeds
+                else ""
+            )
             return [line, less + (but or (", proved" if self.bound_by == PROVER else ""))]
-        return [f"{line}: the gap is {self.report.penalty - self.bound}, {gap_share(self.report.penalty, self.bound)}"]
+        return [
+            f"{line}: the gap is {self.report.penalty - self.bound}, {gap_share(self.report.penalty, self.bound)}"
+        ]
 
 
 def improve(
@@ -92,7 +104,16 @@ def improve(
     week in place of the search over rows, and `proof` the file for the certificate of the bound. The `seed` begins the random choices.
     Ctrl-C, TERM or a fault end the search: the roster is written, then KeyboardInterrupt or the fault is raised.
     """
-    outcome = search(files, solution, start, seconds=seconds, solver=solver, proof=proof, progress=Progress(None), seed=seed)
+    outcome = search(
+        files,
+        solution,
+        start,
+        seconds=seconds,
+        solver=solver,
+        proof=proof,
+        progress=Progress(None),
+        seed=seed,
+    )
     if outcome.fault:
         raise outcome.fault
     if outcome.stopped:
@@ -125,7 +146,11 @@ def search(
             with inputs.naming():
                 copies, clock = files.copied(inputs.copy), Clock(seconds)
                 week = read_week_given(copies)
-                held = held_rows(copies.fix, week, lambda line: progress.warn(inputs.named(line))) if copies.fix else ()
+                held = (
+                    held_rows(copies.fix, week, lambda line: progress.warn(inputs.named(line)))
+                    if copies.fix
+                    else ()
+                )
                 best = BestRoster(copies, week, solution, progress.improved, progress.warn)
                 parts = (copies, week, held, best, clock, progress, seed)
                 running: Running = SolverRun(own, *parts, given) if own else WeekSearch(*parts)
@@ -134,7 +159,14 @@ def search(
                 fault = fault or _fault_of(best.look_again)
                 if fault:
                     inputs.name(fault)
-                outcome = _result(best, running, bool(signals.caught), fault=fault, seconds=seconds, changes=inputs.changes())
+                outcome = _result(
+                    best,
+                    running,
+                    bool(signals.caught),
+                    fault=fault,
+                    seconds=seconds,
+                    changes=inputs.changes(),
+                )
         except Exception:
             for line in inputs.changes():
                 progress.warn(line)
@@ -161,12 +193,22 @@ def _check_targets(files: WeekFiles, solution: Path, proof: Optional[Path]) -> N
             check_target(target)
             check_inputs_stay(files.all(), target, what)
     if proof and os.path.realpath(solution) == os.path.realpath(proof) != os.devnull:
-        raise Misuse(f"{proof} gets the roster, so the certificate cannot be written to it: choose another file")
+        raise Misuse(
+            f"{proof} gets the roster, so the certificate cannot be written to it: choose another file"
+        )
 
 
-def _run(running: Running, best: BestRoster, start: Optional[Path], held: Sequence[Cell], proof: Optional[Path]) -> Optional[Exception]:
+def _run(
+    running: Running,
+    best: BestRoster,
+    start: Optional[Path],
+    held: Sequence[Cell],
+    proof: Optional[Path],
+) -> Optional[Exception]:
     """Runs a search. Returns the fault that ended it."""
-    with interrupts() as signals, tempfile.TemporaryDirectory(prefix="inrc2pb-solve-", ignore_cleanup_errors=True) as folder:
+    with interrupts() as signals, tempfile.TemporaryDirectory(
+        prefix="inrc2pb-solve-", ignore_cleanup_errors=True
+    ) as folder:
         try:
             rows = best.start(start, held) if start else best.resume()
             with signals.calling(running.interrupt):

@@ -36,6 +36,8 @@ class KeptFile:
 
     def _text(self) -> Optional[str]:
         try:
-            return text_of(self.path) if self._is_looked_at and file_at(self.path).is_file() else None
+            return (
+                text_of(self.path) if self._is_looked_at and file_at(self.path).is_file() else None
+            )
         except (FileFault, OSError):
             return None

@@ -52,7 +52,13 @@ class PeriodSearch:
         seed: int = 1,
         others: Others = lambda: None,
     ) -> None:
-        self._weeks, self._keep, self._whole, self._progress, self._others = weeks, keep, clock, progress, others
+        self._weeks, self._keep, self._whole, self._progress, self._others = (
+            weeks,
+            keep,
+            clock,
+            progress,
+            others,
+        )
         self._clock = clock.part(clock.left() - min(MOST_KEPT, PROOF_SHARE * clock.left()))
         self._processes = Processes()
         self._bounds = Bounds(weeks.options(), weeks.scenario.name, proof, progress.warn)
@@ -113,16 +119,28 @@ class PeriodSearch:
         if self._rank is None or not runs or self._weeks.later():
             return
         keeping = FREE if self._rank[0] else ONLY_ABSENCES if self._rank[1] else STRICT
-        if keeping == STRICT and (self._weeks.beside.training or self._weeks.beside.free) and not self._weeks.calls.points:
+        if (
+            keeping == STRICT
+            and (self._weeks.beside.training or self._weeks.beside.free)
+            and not self._weeks.calls.points
+        ):
             self.bound_beside = runs[0].lower_bound
         self._proves = True
-        seconds = STOPPED_SECONDS if self._whole.stopped else min(PROOF_SECONDS, self._whole.left() + BEYOND)
+        seconds = (
+            STOPPED_SECONDS
+            if self._whole.stopped
+            else min(PROOF_SECONDS, self._whole.left() + BEYOND)
+        )
         self.bound = self._bounds.of(runs[0] if keeping == STRICT else runs[-1], keeping, seconds)
         if self.bound and not self.bound.is_believed(self.penalty):
-            self._progress.warn(f"the lower bound {self.bound.points} ({self.bound.by}) is above the penalty of a plan: it is wrong")
+            self._progress.warn(
+                f"the lower bound {self.bound.points} ({self.bound.by}) is above the penalty of a plan: it is wrong"
+            )
             self.bound = None
 
-    def _over_rows(self, plan: Plan, solver: Optional[LinearSolver], trial: Path, runs: List[RowRun]) -> None:
+    def _over_rows(
+        self, plan: Plan, solver: Optional[LinearSolver], trial: Path, runs: List[RowRun]
+    ) -> None:
         """One search over the rows of the plan, which becomes the last of the runs."""
 
         def offer(rows: List[NurseWeek], finder: str) -> Optional[Points]:
@@ -130,7 +148,9 @@ class PeriodSearch:
             penalty = self._checked(cells, trial)
             if penalty is None:
                 return None
-            value = run.search.value_of(rows) if counts_more and run.search and not plan.adds else None
+            value = (
+                run.search.value_of(rows) if counts_more and run.search and not plan.adds else None
+            )
             rank = (*self._weeks.not_kept(cells), penalty if value is None else value)
             if self._rank is None or rank < self._rank or value is not None:
                 if self._takes_others(rank, trial):
@@ -139,17 +159,35 @@ class PeriodSearch:
                 self._cells, self._rank, self.penalty = cells, rank, rank[2]
                 given = "week after week" if self._start is None else "the earlier plan"
                 # The bound has the calls, too.
-                self._progress.improved(rank[2] if plan.calls.points else penalty, given if finder == GIVEN else finder)
+                self._progress.improved(
+                    rank[2] if plan.calls.points else penalty, given if finder == GIVEN else finder
+                )
             # Before the search, the cost of calls, and of the weeks that are not known, is not known either.
             return Points(rank[2]) if run.search or not counts_more else None
 
         def heard() -> None:
             keeps_all = self._rank is not None and not any(self._rank[:2])
-            if run.lower_bound is not None and plan.keeping == STRICT and keeps_all and not self._weeks.later():
+            if (
+                run.lower_bound is not None
+                and plan.keeping == STRICT
+                and keeps_all
+                and not self._weeks.later()
+            ):
                 self._progress.bound_rose(run.lower_bound)
 
-        splits, counts_more = not self._weeks.later(), bool(self._weeks.later() or plan.calls.points)
-        run = RowRun(plan, solver, self._clock, offer=offer, heard=heard, start=self._first(plan, solver), seed=self._seed, splits=splits)
+        splits, counts_more = not self._weeks.later(), bool(
+            self._weeks.later() or plan.calls.points
+        )
+        run = RowRun(
+            plan,
+            solver,
+            self._clock,
+            offer=offer,
+            heard=heard,
+            start=self._first(plan, solver),
+            seed=self._seed,
+            splits=splits,
+        )
         runs.append(run)
         run.run()
 
@@ -157,9 +195,14 @@ class PeriodSearch:
         """The rows to begin with: those of the given plan, as far as they keep the absences, or of one week after another."""
         if self._start is None:
             return self._week_after_week(plan, solver)
-        return rows_of(plan, (cell for cell in self._start if not plan.is_away(cell.nurse, cell.day, cell.shift)))
+        return rows_of(
+            plan,
+            (cell for cell in self._start if not plan.is_away(cell.nurse, cell.day, cell.shift)),
+        )
 
-    def _week_after_week(self, plan: Plan, solver: Optional[LinearSolver]) -> Optional[List[NurseWeek]]:
+    def _week_after_week(
+        self, plan: Plan, solver: Optional[LinearSolver]
+    ) -> Optional[List[NurseWeek]]:
         """Rows of all weeks, each planned before the next one and as the last one of a part of the period; None if a week has no roster."""
         history, rows = plan.history, [b""] * len(plan.nurses)
         seconds = self._clock.left() * FIRST_SHARE / len(plan.weeks)
@@ -172,13 +215,19 @@ class PeriodSearch:
                 return run.search.value_of(better) if run.search else None
 
             keeping = ABSENCES_KEPT if plan.keeping == STRICT else plan.keeping
-            week = Plan.of(_part(plan.scenario, history.week + 1), history, [data], held=held, keeping=keeping)
-            run = RowRun(week, solver, self._clock.part(seconds), offer, lambda: None, is_quick=True)
+            week = Plan.of(
+                _part(plan.scenario, history.week + 1), history, [data], held=held, keeping=keeping
+            )
+            run = RowRun(
+                week, solver, self._clock.part(seconds), offer, lambda: None, is_quick=True
+            )
             run.run()
             if not found:
                 return None
             if number + 1 < len(plan.weeks):
-                history = next_history(plan.scenario, history, staffed(week, run.crews, found[-1]).cells)
+                history = next_history(
+                    plan.scenario, history, staffed(week, run.crews, found[-1]).cells
+                )
             rows = [row + more for row, more in zip(rows, found[-1])]
         return rows
 
@@ -189,14 +238,22 @@ class PeriodSearch:
         if not cells or penalty is None or (*self._weeks.not_kept(cells), penalty) >= rank:
             return False
         self._keep(cells)
-        self._cells, self._rank, self.penalty = cells, (*self._weeks.not_kept(cells), penalty), penalty
-        self._progress.warn(f"there is a better plan than that of this search in its folder, which is kept: its penalty is {penalty}")
+        self._cells, self._rank, self.penalty = (
+            cells,
+            (*self._weeks.not_kept(cells), penalty),
+            penalty,
+        )
+        self._progress.warn(
+            f"there is a better plan than that of this search in its folder, which is kept: its penalty is {penalty}"
+        )
         return True
 
     def _checked(self, cells: Sequence[Cell], folder: Path) -> Optional[int]:
         """The penalty of the rosters of the known weeks, by `inrc2pb extend`; None if one breaks a hard rule."""
         try:
-            return sum(penalty_of(week.files, week.roster) for week in self._weeks.write(cells, folder))
+            return sum(
+                penalty_of(week.files, week.roster) for week in self._weeks.write(cells, folder)
+            )
         except ProgramFault as fault:
             if fault.status != BROKEN_RULE:
                 raise
@@ -227,7 +284,11 @@ def _part(scenario: Scenario, weeks: int) -> Scenario:
         return round(total * weeks / scenario.weeks)
 
     contracts = {
-        name: replace(contract, assignments=Limits(*map(share, contract.assignments)), max_weekends=share(contract.max_weekends))
+        name: replace(
+            contract,
+            assignments=Limits(*map(share, contract.assignments)),
+            max_weekends=share(contract.max_weekends),
+        )
         for name, contract in scenario.contracts.items()
     }
     return replace(scenario, weeks=weeks, contracts=contracts)

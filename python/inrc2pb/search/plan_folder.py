@@ -61,5 +61,7 @@ class PlanFolder:
             self._file(name).write(self._texts[name])
         if changed:
             paths = ", ".join(str(self._folder / name) for name in changed)
-            self._warn(f"{paths} changed during the search: the folder has the plan of the search again")
+            self._warn(
+                f"{paths} changed during the search: the folder has the plan of the search again"
+            )
         return self._weeks.written(self._folder)

@@ -8,12 +8,38 @@ from ..judging import days_away
 from ..judging.absences import absences_of, in_words, way_out, working_while_away
 from ..judging.breaches import read_held
 from ..judging.days_away import DaysAway
-from ..judging.limits import exceeded, excess, limits_in_words, limits_way_out, read_given, with_given
+from ..judging.limits import (
+    exceeded,
+    excess,
+    limits_in_words,
+    limits_way_out,
+    read_given,
+    with_given,
+)
 from ..judging.next_history import next_history
 from ..programs.program import WeekFiles
 from ..rows.plan import Calls, Plan
-from ..week.files import check_week_number, check_weeks_left, history_text, read_history, read_scenario, read_week, solution_text
-from ..week.records import WEEK_DAYS, Cell, History, NurseDay, Scenario, Solution, Week, WeekData, in_week, week_name
+from ..week.files import (
+    check_week_number,
+    check_weeks_left,
+    history_text,
+    read_history,
+    read_scenario,
+    read_week,
+    solution_text,
+)
+from ..week.records import (
+    WEEK_DAYS,
+    Cell,
+    History,
+    NurseDay,
+    Scenario,
+    Solution,
+    Week,
+    WeekData,
+    in_week,
+    week_name,
+)
 from ..week.writing import write_text
 
 
@@ -34,13 +60,30 @@ class PeriodFiles:
 
     def all(self) -> Tuple[Path, ...]:
         """All files that are read."""
-        return (self.scenario, self.history, *self.weeks, *self.fixes.values(), *([self.given] if self.given else []))
+        return (
+            self.scenario,
+            self.history,
+            *self.weeks,
+            *self.fixes.values(),
+            *([self.given] if self.given else []),
+        )
 
     def copied(self, copy: Callable[[Path], Path]) -> "PeriodFiles":
         """The same period with copies of its files."""
-        scenario, history, given = copy(self.scenario), copy(self.history), copy(self.given) if self.given else None
+        scenario, history, given = (
+            copy(self.scenario),
+            copy(self.history),
+            copy(self.given) if self.given else None,
+        )
         fixes = {index: copy(path) for index, path in self.fixes.items()}
-        return replace(self, scenario=scenario, history=history, weeks=[copy(path) for path in self.weeks], fixes=fixes, given=given)
+        return replace(
+            self,
+            scenario=scenario,
+            history=history,
+            weeks=[copy(path) for path in self.weeks],
+            fixes=fixes,
+            given=given,
+        )
 
 
 class WrittenWeek(NamedTuple):
@@ -54,7 +97,9 @@ class PlannedWeeks:
     """The weeks that are planned, as values. `hints` names the fix files that seem to be of another week, and `beside` has the days away
     that concern the days beside them; `calls` has an older roster."""
 
-    def __init__(self, files: PeriodFiles, beside: DaysAway = DaysAway(), calls: Calls = Calls()) -> None:
+    def __init__(
+        self, files: PeriodFiles, beside: DaysAway = DaysAway(), calls: Calls = Calls()
+    ) -> None:
         self.files, self.beside, self.calls = files, beside, calls
         self.hints: List[str] = []
         self.scenario: Scenario = read_scenario(files.scenario)
@@ -67,38 +112,63 @@ class PlannedWeeks:
             self._hold(index, path)
         claims = read_given(files.given, self.scenario) if files.given else ()
         self.data: List[WeekData] = [
-            with_given(self.scenario, read_week(path, self.scenario), claims, number) for number, path in zip(self.numbers, files.weeks)
+            with_given(self.scenario, read_week(path, self.scenario), claims, number)
+            for number, path in zip(self.numbers, files.weeks)
         ]
 
     def _hold(self, index: int, path: Path) -> None:
         """Keeps the rows of a fix file. The days of the plan count from its first week."""
-        known = self.history if index == 0 else History(self.numbers[index], self.history.scenario, {})
-        rows = read_held(path, self.scenario, known, lambda hint: self.hints.append(f"{path}: {hint}")).cells
+        known = (
+            self.history if index == 0 else History(self.numbers[index], self.history.scenario, {})
+        )
+        rows = read_held(
+            path, self.scenario, known, lambda hint: self.hints.append(f"{path}: {hint}")
+        ).cells
         self.held += [row._replace(day=row.day + WEEK_DAYS * index) for row in rows]
 
     def later(self) -> List[WeekData]:
         """A forecast of the weeks that are not known: the numbers of the known ones in turn, without requests and absences."""
         missing = self.scenario.weeks - self.numbers.stop if self.files.ahead else 0
-        return [replace(self.data[number % len(self.data)], requests=(), absences=frozenset()) for number in range(missing)]
+        return [
+            replace(self.data[number % len(self.data)], requests=(), absences=frozenset())
+            for number in range(missing)
+        ]
 
     def plan(self) -> Plan:
         """All weeks as one plan, those of the forecast included."""
-        plan = Plan.of(self.scenario, self.history, [*self.data, *self.later()], self.files.early, self.held)
+        plan = Plan.of(
+            self.scenario, self.history, [*self.data, *self.later()], self.files.early, self.held
+        )
         return replace(plan, beside=self.beside, calls=self.calls)
 
     def week_files(self, number: int, history: Optional[Path] = None) -> WeekFiles:
         """The files of a week. Its history is the given one of the first week, or another."""
         files, index = self.files, number - self.numbers[0]
         return WeekFiles(
-            files.scenario, history or files.history, files.weeks[index], fix=files.fixes.get(index), early=files.early, given=files.given
+            files.scenario,
+            history or files.history,
+            files.weeks[index],
+            fix=files.fixes.get(index),
+            early=files.early,
+            given=files.given,
         )
 
     def options(self) -> List[str]:
         """The files of all weeks as options of `inrc2pb-bound`, which counts them from 1."""
         files = self.files
         weeks = [word for path in files.weeks for word in ("--week", str(path))]
-        fixes = [word for index, path in files.fixes.items() for word in ("--fix", f"{index + 1}={path}")]
-        return ["--sce", str(files.scenario), "--his", str(files.history), *weeks, *fixes, *(["--early"] if files.early else [])]
+        fixes = [
+            word for index, path in files.fixes.items() for word in ("--fix", f"{index + 1}={path}")
+        ]
+        return [
+            "--sce",
+            str(files.scenario),
+            "--his",
+            str(files.history),
+            *weeks,
+            *fixes,
+            *(["--early"] if files.early else []),
+        ]
 
     def each(self, cells: Sequence[Cell]) -> Iterator[Tuple[Week, Tuple[Cell, ...]]]:
         """Each week with its history after the weeks before, and its assignments."""
@@ -111,8 +181,14 @@ class PlannedWeeks:
 
     def not_kept(self, cells: Sequence[Cell]) -> Tuple[int, int]:
         """How many absences these assignments break, and how much they have above limits, with the days beside days away."""
-        weeks = list(self.each(cells)) if any(data.limits or absences_of(data) for data in self.data) else []
-        broken = sum(len(working_while_away(absences_of(week.data), of_week)) for week, of_week in weeks)
+        weeks = (
+            list(self.each(cells))
+            if any(data.limits or absences_of(data) for data in self.data)
+            else []
+        )
+        broken = sum(
+            len(working_while_away(absences_of(week.data), of_week)) for week, of_week in weeks
+        )
         above = sum(excess(exceeded(week, week.data.limits, of_week)) for week, of_week in weeks)
         shifts = {NurseDay(cell.nurse, cell.day): cell.shift for cell in cells}
         return broken, above + days_away.excess(self.scenario, self.history, self.beside, shifts)
@@ -120,7 +196,9 @@ class PlannedWeeks:
     def warnings(self, cells: Sequence[Cell]) -> Iterator[str]:
         """The weeks in which these assignments break an absence or exceed a limit, who works then, and what to do."""
         for index, (week, of_week) in enumerate(self.each(cells)):
-            broken, over = working_while_away(absences_of(week.data), of_week), exceeded(week, week.data.limits, of_week)
+            broken, over = working_while_away(absences_of(week.data), of_week), exceeded(
+                week, week.data.limits, of_week
+            )
             if broken:
                 yield f"{week_name(week.history.week)}: no roster was found that keeps every absence: {in_words(broken)}"
                 yield f"{week_name(week.history.week)}: {way_out(self.scenario, in_week(self.held, index), broken)}"
@@ -142,9 +220,13 @@ class PlannedWeeks:
     def written(self, folder: Path) -> List[WrittenWeek]:
         """The weeks with their rosters and histories in this folder."""
         first = self.numbers[0]
-        histories = [self.files.history, *(folder / history_name(number) for number in self.numbers if number != first)]
+        histories = [
+            self.files.history,
+            *(folder / history_name(number) for number in self.numbers if number != first),
+        ]
         return [
-            WrittenWeek(self.week_files(number, history), folder / roster_name(number)) for number, history in zip(self.numbers, histories)
+            WrittenWeek(self.week_files(number, history), folder / roster_name(number))
+            for number, history in zip(self.numbers, histories)
         ]
 
     def write(self, cells: Sequence[Cell], folder: Path) -> List[WrittenWeek]:

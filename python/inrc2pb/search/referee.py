@@ -24,9 +24,13 @@ class Referee:
     """What is known of all rosters of a week: the best one of those that it was told and that its search finds, in the file `target`, and
     a bound. Facts that are given are no part of a model, so they do not count here."""
 
-    def __init__(self, files: WeekFiles, week: Week, held: Sequence[Cell], target: Path, progress: Progress) -> None:
+    def __init__(
+        self, files: WeekFiles, week: Week, held: Sequence[Cell], target: Path, progress: Progress
+    ) -> None:
         self._files, self._held, self._progress = replace(files, given=None), held, progress
-        self._week = replace(week, data=replace(week.data, absences=frozenset(), limits=frozenset()))
+        self._week = replace(
+            week, data=replace(week.data, absences=frozenset(), limits=frozenset())
+        )
         self._search: Optional[WeekSearch] = None
         self._finder, self._none_exists = "", False
         self.best = BestRoster(self._files, self._week, target, self._found, progress.warn)
@@ -42,7 +46,15 @@ class Referee:
 
     def search(self, clock: Clock, seed: int = 1, proof: Optional[Path] = None) -> None:
         """Looks for the best roster and for a bound until the clock ends. `proof` is the file for the certificate."""
-        self._search = WeekSearch(self._files, self._week, self._held, best=self.best, clock=clock, progress=self._progress, seed=seed)
+        self._search = WeekSearch(
+            self._files,
+            self._week,
+            self._held,
+            best=self.best,
+            clock=clock,
+            progress=self._progress,
+            seed=seed,
+        )
         try:
             with tempfile.TemporaryDirectory(prefix="inrc2pb-referee-") as folder:
                 self._search.run(Path(folder), self.best.cells or None, proof)
@@ -58,10 +70,15 @@ class Referee:
         """Takes the bound of a certificate."""
         prover = find_prover()
         if prover is None:
-            raise ProgramFault(NO_ROSTER, f"there is no {PROVER} beside inrc2pb: a certificate proves nothing without it")
+            raise ProgramFault(
+                NO_ROSTER,
+                f"there is no {PROVER} beside inrc2pb: a certificate proves nothing without it",
+            )
         words = [*week_options(self._files), PROOF, str(proof)]
         self.bound = Bound(int(run_program(*words, program=prover).split()[2]), PROVER)
-        self._none_exists = run_program(*words, "--minimums", program=prover).startswith(EXISTS_NONE)
+        self._none_exists = run_program(*words, "--minimums", program=prover).startswith(
+            EXISTS_NONE
+        )
 
     def interrupt(self) -> None:
         """Ends the search."""

@@ -33,7 +33,13 @@ class SolverRun:
         seed: int,
         target: Path,
     ) -> None:
-        self._solver, self._files, self._week, self._held, self._best = solver, files, week, held, best
+        self._solver, self._files, self._week, self._held, self._best = (
+            solver,
+            files,
+            week,
+            held,
+            best,
+        )
         self._clock, self._progress, self._seed, self._target = clock, progress, seed, target
         self._processes = Processes()
         self._referee: Optional[Referee] = None
@@ -64,7 +70,9 @@ class SolverRun:
         if not outcome.answer:
             if self._clock.stopped:
                 return
-            raise Misuse(f"the solver {solver.name} has no answer: {outcome.fault}; try its command by hand")
+            raise Misuse(
+                f"the solver {solver.name} has no answer: {outcome.fault}; try its command by hand"
+            )
         roster = folder / "answer.txt"
         answer = read_answer(self._files, outcome.answer, roster)
         if answer.fault:
@@ -82,16 +90,24 @@ class SolverRun:
         if verdict.kind in (Kind.LIE, Kind.REFUTED):
             self.verdict = f"the solver {name} is wrong: {verdict.why}"
         elif answer.status == NONE:
-            by = f" ({PROVER})" if verdict.kind is Kind.CONFIRMED else f", says {name}, which is not proved"
+            by = (
+                f" ({PROVER})"
+                if verdict.kind is Kind.CONFIRMED
+                else f", says {name}, which is not proved"
+            )
             advice = f"{page('ward_reference.md')} shows how to find out why"
             raise NoneExists(NO_ROSTER, f"no roster keeps the hard rules{by}: {advice}")
-        elif answer.status == OPTIMUM and verdict.kind is Kind.OPEN and answer.objective is not None:
+        elif (
+            answer.status == OPTIMUM and verdict.kind is Kind.OPEN and answer.objective is not None
+        ):
             gap = "" if known.bound is None else f" (gap {answer.objective - known.bound})"
             self.verdict = f"{name} claims {answer.objective}; not proved{gap}"
 
     def _searched(self, answer: Answered, name: str, roster: Path, proof: Optional[Path]) -> Known:
         """What the search of a referee finds."""
-        referee = self._referee = Referee(self._files, self._week, self._held, roster.with_name("best.txt"), self._progress)
+        referee = self._referee = Referee(
+            self._files, self._week, self._held, roster.with_name("best.txt"), self._progress
+        )
         if answer.penalty is not None:
             referee.tell(roster, name)
         referee.search(self._clock.part(SECONDS), self._seed, proof)

@@ -23,7 +23,14 @@ class WeekSearch:
     """A search over one week within the time of its clock; the `seed` begins its random choices."""
 
     def __init__(
-        self, files: WeekFiles, week: Week, held: Sequence[Cell], best: BestRoster, clock: Clock, progress: Progress, seed: int = 1
+        self,
+        files: WeekFiles,
+        week: Week,
+        held: Sequence[Cell],
+        best: BestRoster,
+        clock: Clock,
+        progress: Progress,
+        seed: int = 1,
     ) -> None:
         self._files, self._week, self._held, self._best = files, week, held, best
         self._clock, self._progress, self._seed = clock, progress, seed
@@ -53,7 +60,13 @@ class WeekSearch:
 
         Rows keep all absences and limits, unless no roster can.
         """
-        plan = Plan.of(self._week.scenario, self._week.history, [self._week.data], self._files.early, self._held)
+        plan = Plan.of(
+            self._week.scenario,
+            self._week.history,
+            [self._week.data],
+            self._files.early,
+            self._held,
+        )
         bounds = Bounds(week_options(self._files), plan.scenario.name, proof, self._progress.warn)
         has_solver = is_installed()
         if not has_solver:
@@ -65,7 +78,11 @@ class WeekSearch:
                 solver.start()
             self._run_rows(plan, solver, runs, start)
             for less_strict in plan.less_strict():
-                keeps = not self._best.breaks() if less_strict.keeping.absence < NEVER else self._best.keeps_all
+                keeps = (
+                    not self._best.breaks()
+                    if less_strict.keeping.absence < NEVER
+                    else self._best.keeps_all
+                )
                 if self._best.penalty is None or not keeps:
                     self._run_rows(less_strict, solver, runs, start)
         finally:
@@ -74,7 +91,13 @@ class WeekSearch:
             self._take_bound(runs, bounds)
         self._judge(runs[-1], bounds)
 
-    def _run_rows(self, plan: Plan, solver: Optional[LinearSolver], runs: List[RowRun], start: Optional[Sequence[Cell]]) -> None:
+    def _run_rows(
+        self,
+        plan: Plan,
+        solver: Optional[LinearSolver],
+        runs: List[RowRun],
+        start: Optional[Sequence[Cell]],
+    ) -> None:
         """One search over the rows of the plan, which becomes the last of the runs."""
 
         def offer(rows: List[NurseWeek], finder: str) -> Optional[Points]:
@@ -82,10 +105,20 @@ class WeekSearch:
             return None if penalty is None else Points(penalty)
 
         def heard() -> None:
-            if run.lower_bound is not None and (not plan.asks or (plan.keeping == STRICT and self._best.keeps_all)):
+            if run.lower_bound is not None and (
+                not plan.asks or (plan.keeping == STRICT and self._best.keeps_all)
+            ):
                 self._progress.bound_rose(run.lower_bound)
 
-        run = RowRun(plan, solver, self._clock, offer=offer, heard=heard, start=rows_of(plan, start) if start else None, seed=self._seed)
+        run = RowRun(
+            plan,
+            solver,
+            self._clock,
+            offer=offer,
+            heard=heard,
+            start=rows_of(plan, start) if start else None,
+            seed=self._seed,
+        )
         runs.append(run)
         run.run()
 
@@ -97,7 +130,9 @@ class WeekSearch:
         seconds = STOPPED_SECONDS if self._clock.stopped else PROOF_SECONDS
         self._bound = bounds.of(runs[0] if keeping == STRICT else runs[-1], keeping, seconds)
         if self._bound and self.bound is None:
-            self._progress.warn(f"the lower bound {self._bound.points} ({self._bound.by}) is above the penalty of a roster: it is wrong")
+            self._progress.warn(
+                f"the lower bound {self._bound.points} ({self._bound.by}) is above the penalty of a roster: it is wrong"
+            )
 
     def _judge(self, run: RowRun, bounds: Bounds) -> None:
         """Raises NoneExists if it is proved that no roster exists."""
@@ -106,8 +141,15 @@ class WeekSearch:
         held = f" and has the rows of {self._files.fix}" if self._files.fix else ""
         why = f"{page('ward_reference.md')} shows how to find out why"
         if run.without_row:
-            raise NoneExists(NO_ROSTER, f"no roster keeps the hard rules{held}: those of {run.without_row} contradict one another")
-        by = bounds.no_roster(run.plan.hard_only(), run.minimums, PROOF_SECONDS) if run.minimums else None
+            raise NoneExists(
+                NO_ROSTER,
+                f"no roster keeps the hard rules{held}: those of {run.without_row} contradict one another",
+            )
+        by = (
+            bounds.no_roster(run.plan.hard_only(), run.minimums, PROOF_SECONDS)
+            if run.minimums
+            else None
+        )
         if by:
             self.none_by = by
             raise NoneExists(NO_ROSTER, f"no roster keeps the hard rules{held} ({by}): {why}")

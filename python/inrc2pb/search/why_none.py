@@ -61,12 +61,23 @@ class Shortage(NamedTuple):
 def only_minimums(week: Week) -> Week:
     """The week in which only a missing nurse and a broken absence cost something."""
     contracts = {
-        name: replace(contract, assignments=_ANY, working_days=_ANY, days_off=_ANY, max_weekends=9999, complete_weekends=False)
+        name: replace(
+            contract,
+            assignments=_ANY,
+            working_days=_ANY,
+            days_off=_ANY,
+            max_weekends=9999,
+            complete_weekends=False,
+        )
         for name, contract in week.scenario.contracts.items()
     }
-    types = {name: replace(shift, consecutive=_ANY) for name, shift in week.scenario.shift_types.items()}
+    types = {
+        name: replace(shift, consecutive=_ANY) for name, shift in week.scenario.shift_types.items()
+    }
     scenario: Scenario = replace(week.scenario, contracts=contracts, shift_types=types)
-    requirements = {place: Requirement(0, asked.minimum) for place, asked in week.data.requirements.items()}
+    requirements = {
+        place: Requirement(0, asked.minimum) for place, asked in week.data.requirements.items()
+    }
     wishes = set(wishes_of(week.data))
     requests = tuple(request for request in week.data.requests if request not in wishes)
     data: WeekData = replace(week.data, requirements=requirements, requests=requests)
@@ -78,13 +89,19 @@ def why_none(files: WeekFiles, week: Week) -> Shortage:
     with tempfile.TemporaryDirectory() as name:
         folder = Path(name)
         easy = only_minimums(week)
-        scenario, data, roster = (folder / part for part in ("scenario.txt", "week.txt", "roster.txt"))
+        scenario, data, roster = (
+            folder / part for part in ("scenario.txt", "week.txt", "roster.txt")
+        )
         write_text(scenario, scenario_text(easy.scenario))
         write_text(data, week_text(easy.data))
         found = _solve(replace(files, scenario=scenario, week=data, early=False), roster)
         cells = read_solution(roster).cells
     number, away = numbers(cells), absences_of(week.data)
-    places = [_short(week, cells, place) for place, asked in week.data.requirements.items() if number[place] < asked.minimum]
+    places = [
+        _short(week, cells, place)
+        for place, asked in week.data.requirements.items()
+        if number[place] < asked.minimum
+    ]
     working = tuple(working_while_away(away, cells))
     return Shortage(tuple(places), working, bool(away) and not working, found.proved)
 
@@ -102,7 +119,9 @@ def _short(week: Week, cells: Sequence[Cell], place: Place) -> ShortPlace:
     """A place that is not filled, and why nurses with its skill do not fill it in this roster."""
     away = absences_of(week.data)
     there = {cell.nurse for cell in cells if Place(cell.day, cell.shift, cell.skill) == place}
-    known = [nurse for nurse, of_ward in week.scenario.nurses.items() if place.skill in of_ward.skills]
+    known = [
+        nurse for nurse, of_ward in week.scenario.nurses.items() if place.skill in of_ward.skills
+    ]
     owners = tuple(
         Owner(
             nurse,
@@ -112,7 +131,9 @@ def _short(week: Week, cells: Sequence[Cell], place: Place) -> ShortPlace:
         for nurse in known
         if nurse not in there
     )
-    return ShortPlace(place, week.data.requirements[place].minimum, numbers(cells)[place], owners, bool(known))
+    return ShortPlace(
+        place, week.data.requirements[place].minimum, numbers(cells)[place], owners, bool(known)
+    )
 
 
 def shortage_lines(found: Shortage) -> Iterator[str]:

@@ -45,15 +45,21 @@ def read_days(book: Book) -> Days:
     monday = dates[0] if dates else None
     for index, (cell, date) in enumerate(zip(columns, dates)):
         if cell.column != columns[0].column + index:
-            cell.fault("the column before this one is no day: delete it, or move it after the last day")
+            cell.fault(
+                "the column before this one is no day: delete it, or move it after the last day"
+            )
         if date and monday and (date - monday).days != index:
             cell.fault(f"{date} does not follow the day before: write one column for each day")
         if bool(date) != bool(monday):
             has = "a date" if date else "no date"
-            cell.fault(f"'{date_shown(cell, date)}' has {has}, unlike the first day: write dates for all days or for none")
+            cell.fault(
+                f"'{date_shown(cell, date)}' has {has}, unlike the first day: write dates for all days or for none"
+            )
         wanted = DAYS[index % len(DAYS)]
         if (date.weekday() if date else day_of_head(cell)) != index % len(DAYS):
-            cell.fault(f"'{date_shown(cell, date)}' should be a {wanted}: the plan begins on a Monday, and has each day once")
+            cell.fault(
+                f"'{date_shown(cell, date)}' should be a {wanted}: the plan begins on a Monday, and has each day once"
+            )
     if not columns or len(columns) % len(DAYS):
         plan.fault(f"it has {plural(len(columns), 'day')}: plan whole weeks, from Monday to Sunday")
     return Days(plan, columns, monday)
@@ -78,7 +84,9 @@ def day_of_head(cell: SheetCell) -> int:
         if short == name.casefold():
             return day
     whole = ", or whole dates such as 2026-11-30" if re.search("[0-9]", cell.text) else ""
-    cell.fault(f"'{cell.text}' is no day of the week: write one of {','.join(DAYS)}{whole}, or begin the head with #")
+    cell.fault(
+        f"'{cell.text}' is no day of the week: write one of {','.join(DAYS)}{whole}, or begin the head with #"
+    )
 
 
 def week_of_head(cell: SheetCell) -> Optional[int]:
@@ -92,7 +100,9 @@ def date_of(cell: SheetCell) -> Optional[datetime.date]:
     written = next((date for date in written_dates(cell.text) if date.year is not None), None)
     serial, other = _SERIAL.search(cell.text), _OTHER_DATE.search(cell.text)
     if other and not written:
-        cell.fault(f"'{cell.text}' may have the day or the month first: write {_year_first(*map(int, other.groups()))}")
+        cell.fault(
+            f"'{cell.text}' may have the day or the month first: write {_year_first(*map(int, other.groups()))}"
+        )
     if not written:
         return cell.book.day_zero + int(serial.group()) * DAY if serial else None
     try:
@@ -100,7 +110,9 @@ def date_of(cell: SheetCell) -> Optional[datetime.date]:
     except ValueError:
         cell.fault(f"there is no day {written.text}: write a date such as 2026-11-30")
     if date.year < _FIRST_YEAR:
-        cell.fault(f"a spreadsheet makes {date} of the number of a day: write whole dates, such as 2026-11-30")
+        cell.fault(
+            f"a spreadsheet makes {date} of the number of a day: write whole dates, such as 2026-11-30"
+        )
     return date
 
 
@@ -127,7 +139,9 @@ def week_of_row(cell: SheetCell, days: Days) -> Optional[int]:
         return None
     plan, date = days.plan_days, date_of(cell)
     if date and days.monday is None:
-        cell.fault(f"'{date_shown(cell, date)}' is a date, and the sheet plan has none: write the week's number, from 1")
+        cell.fault(
+            f"'{date_shown(cell, date)}' is a date, and the sheet plan has none: write the week's number, from 1"
+        )
     if date and days.monday:
         week = (date - days.monday).days // len(DAYS)
         return week if 0 <= week < days.weeks else NO_WEEK
@@ -135,8 +149,14 @@ def week_of_row(cell: SheetCell, days: Days) -> Optional[int]:
     if number is None:
         if not _CALENDAR_WEEK.match(cell.text):
             cell.number()
-        others = "" if days.monday is None else f", a calendar week such as CW {plan.calendar_week(days.weeks - 1)}, or a date"
-        cell.fault(f"there is no week {cell.text}: weeks are counted from 1, so write {days.weeks} for the last one{others}")
+        others = (
+            ""
+            if days.monday is None
+            else f", a calendar week such as CW {plan.calendar_week(days.weeks - 1)}, or a date"
+        )
+        cell.fault(
+            f"there is no week {cell.text}: weeks are counted from 1, so write {days.weeks} for the last one{others}"
+        )
     return number
 
 

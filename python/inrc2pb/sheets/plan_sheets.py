@@ -68,10 +68,14 @@ def read_weeks(book: Book, ward: Ward, days: Days, faults: Gathering) -> List[We
     for nurse, row in _plan_rows(days, ward, faults).items():
         for index, head in enumerate(days.columns):
             with ward.unknown.shifts.step():
-                _read_day(row.at(head.column), nurse, index, ward.scenario, weeks, is_known=is_known)
+                _read_day(
+                    row.at(head.column), nurse, index, ward.scenario, weeks, is_known=is_known
+                )
     for nurse, (shifts, weekdays) in ward.never.items():
         for week in weeks:
-            week.absences += [Absence(nurse, day, shift) for shift in shifts for day in range(len(DAYS))]
+            week.absences += [
+                Absence(nurse, day, shift) for shift in shifts for day in range(len(DAYS))
+            ]
             week.absences += [Absence(nurse, day, None) for day in weekdays]
     return weeks
 
@@ -81,7 +85,9 @@ def _plan_rows(days: Days, ward: Ward, faults: Gathering) -> Dict[str, SheetRow]
     rows: Dict[str, SheetRow] = {}
     for row in days.plan.rows:
         cell = row.of("nurse")
-        nurse = ward.unknown.nurses.tried(lambda: cell.known("nurse of the sheet nurses", ward.scenario.nurses, (), _NO_ROW), "")
+        nurse = ward.unknown.nurses.tried(
+            lambda: cell.known("nurse of the sheet nurses", ward.scenario.nurses, (), _NO_ROW), ""
+        )
         with faults.step():
             if nurse in rows:
                 cell.fault(f"{readable(nurse)} has a row already: put everything into one row")
@@ -98,7 +104,9 @@ class _Asked(NamedTuple):
     skill: str
 
 
-def read_needs(table: Table, ward: Ward, days: Optional[Days], weeks: List[WeekSheet], faults: Gathering) -> None:
+def read_needs(
+    table: Table, ward: Ward, days: Optional[Days], weeks: List[WeekSheet], faults: Gathering
+) -> None:
     """Rows without a week are for all weeks, but for the days that a row of one week has. If the days are not known, only what the rows
     have beside their week is looked at."""
     given: Dict[_Asked, List[Tuple[SheetCell, Requirement]]] = {}
@@ -106,12 +114,21 @@ def read_needs(table: Table, ward: Ward, days: Optional[Days], weeks: List[WeekS
         cells = [row.of(name.casefold()) for name in DAYS]
         numbers = [(cell, faults.tried(lambda: needed(cell), Requirement(0, 0))) for cell in cells]
         week = _tried_week(row.of("week"), days, faults)
-        shift = ward.unknown.shifts.tried(lambda: row.of("shift").known("shift type", ward.scenario.shift_types, (), _NO_ROW), "")
-        skill = faults.tried(lambda: row.of("skill").known("skill of the sheet nurses", ward.scenario.skills, (), _NO_ROW), "")
+        shift = ward.unknown.shifts.tried(
+            lambda: row.of("shift").known("shift type", ward.scenario.shift_types, (), _NO_ROW), ""
+        )
+        skill = faults.tried(
+            lambda: row.of("skill").known(
+                "skill of the sheet nurses", ward.scenario.skills, (), _NO_ROW
+            ),
+            "",
+        )
         asked = _Asked(week, shift, skill)
         with faults.step():
             if asked in given and shift and skill and week != NO_WEEK:
-                row.of("shift").fault(f"{readable(shift)} {readable(skill)} has a row already: delete one, or write its week")
+                row.of("shift").fault(
+                    f"{readable(shift)} {readable(skill)} has a row already: delete one, or write its week"
+                )
         given.setdefault(asked, numbers)
     for shift, skill in dict.fromkeys((asked.shift, asked.skill) for asked in given):
         of_all = given.get(_Asked(None, shift, skill))
@@ -138,7 +155,9 @@ def needed(cell: SheetCell) -> Requirement:
     decimal, advice = _DECIMAL.fullmatch(cell.text), _pair_for(cell.text)
     if decimal and int(decimal[2]):
         low = int(decimal[1])
-        cell.fault(f"'{cell.text}' is no whole number, or it is two numbers: write {low} or {low + 1}, or {advice}")
+        cell.fault(
+            f"'{cell.text}' is no whole number, or it is two numbers: write {low} or {low + 1}, or {advice}"
+        )
     pair = None if decimal else _PAIR.fullmatch(cell.text)
     if not pair:
         number = cell.number(pair=advice)
@@ -146,7 +165,9 @@ def needed(cell: SheetCell) -> Requirement:
     minimum, sign, second = int(pair[1]), pair[2], int(pair[3])
     best = minimum + second if sign == "+" else second
     if minimum > best:
-        cell.fault(f"at least {minimum} are needed, and {best} are best: write the smaller number first")
+        cell.fault(
+            f"at least {minimum} are needed, and {best} are best: write the smaller number first"
+        )
     if best > MAX_NUMBER:
         cell.fault(f"{best} is more than {MAX_NUMBER}: correct the number")
     return Requirement(minimum, best)
@@ -162,7 +183,14 @@ def _pair_for(text: str) -> str:
     return f"{minimum}+{best - minimum} for {minimum} at least and better {best}"
 
 
-def _read_day(cell: SheetCell, nurse: str, index: int, scenario: Scenario, weeks: List[WeekSheet], is_known: bool) -> None:
+def _read_day(
+    cell: SheetCell,
+    nurse: str,
+    index: int,
+    scenario: Scenario,
+    weeks: List[WeekSheet],
+    is_known: bool,
+) -> None:
     """One cell of the plan: a wish, an absence, a promised day off, or a shift that is held, whose skill the needs tell, if they are
     known."""
     week, day = weeks[index // len(DAYS)], index % len(DAYS)
@@ -179,20 +207,26 @@ def _read_day(cell: SheetCell, nurse: str, index: int, scenario: Scenario, weeks
         week.promised.add((nurse, day))
     elif _no_shift(cell.text, scenario):
         parts = cell._replace(text=_no_shift(cell.text, scenario)).parts()
-        week.wishes += [Request(nurse, part.known("shift type", scenario.shift_types), day) for part in parts]
+        week.wishes += [
+            Request(nurse, part.known("shift type", scenario.shift_types), day) for part in parts
+        ]
     else:
         week.held.append(_held(cell, nurse, day, week, scenario, is_known=is_known))
 
 
 def _no_shift(text: str, scenario: Scenario) -> str:
     """The shift types after `no`, also without a blank between; nothing if the text is something else."""
-    words, names = _NO_SHIFT.fullmatch(text), {readable(shift).casefold() for shift in scenario.shift_types}
+    words, names = _NO_SHIFT.fullmatch(text), {
+        readable(shift).casefold() for shift in scenario.shift_types
+    }
     if not words or readable(text).casefold() in names:
         return ""
     return words[2] if text[len(words[1])] == " " or readable(words[2]).casefold() in names else ""
 
 
-def _held(cell: SheetCell, nurse: str, day: int, week: WeekSheet, scenario: Scenario, is_known: bool) -> Held:
+def _held(
+    cell: SheetCell, nurse: str, day: int, week: WeekSheet, scenario: Scenario, is_known: bool
+) -> Held:
     """A shift, or a shift and a skill."""
     named, _, with_skill = (part.strip() for part in cell.text.partition("/"))
     others = ("wish", PROMISED_OFF, *AWAY, f"no {readable(next(iter(scenario.shift_types)))}")
@@ -200,15 +234,31 @@ def _held(cell: SheetCell, nurse: str, day: int, week: WeekSheet, scenario: Scen
         cell.fault(f"'{cell.text}' is no word of the plan: write {_SAME[cell.text.casefold()]}")
     if cell.text.casefold().startswith("wish "):
         rest = cell.text[len("wish ") :]
-        cell.fault(f"'{cell.text}': a wish is a day off: write wish, or no {rest} if she would rather not have {rest}")
+        cell.fault(
+            f"'{cell.text}': a wish is a day off: write wish, or no {rest} if she would rather not have {rest}"
+        )
     shift = cell._replace(text=named).known("shift type", scenario.shift_types, others)
     skills = scenario.nurses[nurse].skills
     if with_skill:
-        return Held(Cell(nurse, day, shift, cell._replace(text=with_skill).known(f"skill of {readable(nurse)}", skills)), cell)
-    asked = [skill for skill in skills if week.requirements.get(Place(day, shift, skill), Requirement(0, 0)).optimal]
+        return Held(
+            Cell(
+                nurse,
+                day,
+                shift,
+                cell._replace(text=with_skill).known(f"skill of {readable(nurse)}", skills),
+            ),
+            cell,
+        )
+    asked = [
+        skill
+        for skill in skills
+        if week.requirements.get(Place(day, shift, skill), Requirement(0, 0)).optimal
+    ]
     if len(asked or skills) > 1 and is_known:
         example = f"{readable(shift)}/{readable((asked or skills)[0])}"
-        cell.fault(f"{readable(nurse)} has more than one skill for it: write {example}, for example")
+        cell.fault(
+            f"{readable(nurse)} has more than one skill for it: write {example}, for example"
+        )
     return Held(Cell(nurse, day, shift, (asked or skills or ("",))[0]), cell)
 
 
@@ -222,13 +272,21 @@ def check_held(ward: Ward, weeks: List[WeekSheet]) -> None:
                     _check_held(ward.scenario, week, held, 7 * number + held.row.day, last)
 
 
-def _check_held(scenario: Scenario, week: WeekSheet, held: Held, day: int, last: Dict[str, Tuple[Optional[str], int]]) -> None:
+def _check_held(
+    scenario: Scenario,
+    week: WeekSheet,
+    held: Held,
+    day: int,
+    last: Dict[str, Tuple[Optional[str], int]],
+) -> None:
     """The same for one shift. `last` has the last shift of each nurse, and its day."""
     nurse, shift = held.row.nurse, held.row.shift
     before, on = last[nurse]
     last[nurse] = (shift, day)
     if before is not None and on == day - 1 and scenario.forbids(before, shift):
-        held.cell.fault(f"{readable(nurse)} may not work {readable(shift)} on the day after {readable(before)}: change one of the two")
+        held.cell.fault(
+            f"{readable(nurse)} may not work {readable(shift)} on the day after {readable(before)}: change one of the two"
+        )
     if is_broken_by(week.absences, held.row):
         held.cell.fault(
             f"{readable(nurse)} never works this shift or is always off on this day, by the sheet nurses: change one of the two"
@@ -238,10 +296,17 @@ def _check_held(scenario: Scenario, week: WeekSheet, held: Held, day: int, last:
 def held_warnings(ward: Ward, weeks: List[WeekSheet], days: Days) -> Iterator[str]:
     """Warnings of shifts that are held on more days in a row than a contract never exceeds."""
     plan, held = days.plan_days, in_plan([shift.row for shift in week.held] for week in weeks)
-    for nurse, contract in ((name, ward.scenario.contract_of(name)) for name in ward.scenario.nurses):
+    for nurse, contract in (
+        (name, ward.scenario.contract_of(name)) for name in ward.scenario.nurses
+    ):
         most = contract.working_days.maximum
         held_days = sorted(cell.day for cell in held if cell.nurse == nurse)
-        rows = [[day for _, day in row] for _, row in itertools.groupby(enumerate(held_days), key=lambda pair: pair[1] - pair[0])]
+        rows = [
+            [day for _, day in row]
+            for _, row in itertools.groupby(
+                enumerate(held_days), key=lambda pair: pair[1] - pair[0]
+            )
+        ]
         if WORK_DAYS in ward.kept[ward.scenario.nurses[nurse].contract]:
             for row in (row for row in rows if len(row) > most):
                 what = f"{nurse} has {len(row)} fixed shifts in a row, {plan.span(row)}, and never works more than {most}"

@@ -23,7 +23,11 @@ _AWAY = "away"
 
 def absence_reasons(weeks: List[WeekSheet]) -> Reasons:
     """Why nurses are away."""
-    return {DayAway(number, nurse, day): word for number, week in enumerate(weeks, 1) for (nurse, day), word in week.reasons.items()}
+    return {
+        DayAway(number, nurse, day): word
+        for number, week in enumerate(weeks, 1)
+        for (nurse, day), word in week.reasons.items()
+    }
 
 
 def claims_of(ward: Ward, history: History, weeks: List[WeekSheet]) -> List[Claim]:
@@ -31,19 +35,36 @@ def claims_of(ward: Ward, history: History, weeks: List[WeekSheet]) -> List[Clai
     order = {nurse: number for number, nurse in enumerate(ward.scenario.nurses)}
     claims: List[Claim] = []
     for number, week in enumerate(weeks, 1):
-        for absence in sorted(set(week.absences), key=lambda away: (order[away.nurse], away.day, away.shift or "")):
-            claims.append(Claim(Choice(number, absence.nurse, absence.day, absence.shift), absence.shift is None))
+        for absence in sorted(
+            set(week.absences), key=lambda away: (order[away.nurse], away.day, away.shift or "")
+        ):
+            claims.append(
+                Claim(
+                    Choice(number, absence.nurse, absence.day, absence.shift), absence.shift is None
+                )
+            )
     for nurse, past in history.nurses.items():
         contract = ward.scenario.contract_of(nurse)
-        over = {SHIFTS: past.assignments - contract.assignments.maximum, WEEKENDS: past.weekends - contract.max_weekends}
-        claims += [Claim(Charged(kind, nurse, max(0, over.get(kind, 0)))) for kind in sorted(ward.kept[contract.name])]
+        over = {
+            SHIFTS: past.assignments - contract.assignments.maximum,
+            WEEKENDS: past.weekends - contract.max_weekends,
+        }
+        claims += [
+            Claim(Charged(kind, nurse, max(0, over.get(kind, 0))))
+            for kind in sorted(ward.kept[contract.name])
+        ]
     return claims
 
 
 def with_part_contracts(ward: Ward, weeks: Sequence[WeekSheet]) -> Ward:
     """The ward with a contract of its own for each nurse who is not employed on some days of the plan, or who is away for more days in a
-    row than her contract has days off in a row, or comes or leaves. A ward that has the most contracts already keeps these."""
-    contracts, nurses, kept = dict(ward.scenario.contracts), dict(ward.scenario.nurses), dict(ward.kept)
+    row than her contract has days off in a row, or comes or leaves. A ward that has the most contracts already keeps these.
+    """
+    contracts, nurses, kept = (
+        dict(ward.scenario.contracts),
+        dict(ward.scenario.nurses),
+        dict(ward.kept),
+    )
     for name, nurse in ward.scenario.nurses.items():
         contract = _own_contract(ward, name, weeks)
         while contracts.get(contract.name, contract) != contract:
@@ -51,21 +72,32 @@ def with_part_contracts(ward: Ward, weeks: Sequence[WeekSheet]) -> Ward:
         if contract.name in contracts or len(contracts) < MAX_CONTRACTS:
             contracts[contract.name], kept[contract.name] = contract, ward.kept[nurse.contract]
             nurses[name] = replace(nurse, contract=contract.name)
-    return ward._replace(scenario=replace(ward.scenario, contracts=contracts, nurses=nurses), kept=kept)
+    return ward._replace(
+        scenario=replace(ward.scenario, contracts=contracts, nurses=nurses), kept=kept
+    )
 
 
 def _own_contract(ward: Ward, nurse: str, weeks: Sequence[WeekSheet]) -> Contract:
     """The contract that counts for a nurse. One that differs has a name that says so."""
     contract = ward.scenario.contract_of(nurse)
     total = WEEK_DAYS * ward.scenario.weeks
-    gone = sum(word in NOT_EMPLOYED for week in weeks for (who, _), word in week.reasons.items() if who == nurse)
+    gone = sum(
+        word in NOT_EMPLOYED
+        for week in weeks
+        for (who, _), word in week.reasons.items()
+        if who == nurse
+    )
     part = PartContract(contract.name)
     if gone:
         minimum, maximum = contract.assignments
-        most = maximum if maximum >= min(total, MAX_NUMBER) else -(-maximum * (total - gone) // total)
+        most = (
+            maximum if maximum >= min(total, MAX_NUMBER) else -(-maximum * (total - gone) // total)
+        )
         contract = replace(contract, assignments=Limits(minimum * (total - gone) // total, most))
         part = part._replace(days=total - gone, total=total)
-    if _longest_absence(ward, nurse, weeks) > contract.days_off.maximum or _comes_or_leaves(nurse, weeks):
+    if _longest_absence(ward, nurse, weeks) > contract.days_off.maximum or _comes_or_leaves(
+        nurse, weeks
+    ):
         contract = replace(contract, days_off=Limits(contract.days_off.minimum, MAX_NUMBER))
         part = part._replace(any_days_off=True)
     return replace(contract, name=part.name)
@@ -73,13 +105,20 @@ def _own_contract(ward: Ward, nurse: str, weeks: Sequence[WeekSheet]) -> Contrac
 
 def _comes_or_leaves(nurse: str, weeks: Sequence[WeekSheet]) -> bool:
     """Whether the nurse is away on the first or on the last day of the plan: her days off beside these days are no row."""
-    return _AWAY in (weeks[0].reasons.get((nurse, 0)), weeks[-1].reasons.get((nurse, WEEK_DAYS - 1)))
+    return _AWAY in (
+        weeks[0].reasons.get((nurse, 0)),
+        weeks[-1].reasons.get((nurse, WEEK_DAYS - 1)),
+    )
 
 
 def _longest_absence(ward: Ward, nurse: str, weeks: Sequence[WeekSheet]) -> int:
     """The most days in a row on which a nurse is away, with the days off before the plan."""
     away = ((number, absence) for number, week in enumerate(weeks) for absence in week.absences)
-    days = {WEEK_DAYS * number + absence.day for number, absence in away if (absence.nurse, absence.shift) == (nurse, None)}
+    days = {
+        WEEK_DAYS * number + absence.day
+        for number, absence in away
+        if (absence.nurse, absence.shift) == (nurse, None)
+    }
     longest, run = 0, ward.history.nurses[nurse].days_off
     for day in range(WEEK_DAYS * len(weeks)):
         run = run + 1 if day in days else 0
@@ -99,14 +138,24 @@ def look_warnings(book: Book, days: Days) -> Iterator[str]:
         yield f"sheet plan, row {row + 1}, column {where}: a color without a word counts for nothing: write leave or wish, for example"
 
 
-def _colored_alone(days: Days, colored: Collection[Tuple[int, int]]) -> Iterator[Tuple[int, List[int]]]:
+def _colored_alone(
+    days: Days, colored: Collection[Tuple[int, int]]
+) -> Iterator[Tuple[int, List[int]]]:
     """The rows of nurses, and the columns of their empty cells that have a color, unlike most cells beside and above them."""
-    rows, columns = [row.number - 1 for row in days.plan.rows], [head.column for head in days.columns]
+    rows, columns = [row.number - 1 for row in days.plan.rows], [
+        head.column for head in days.columns
+    ]
     by_row = {row: sum((row, column) in colored for column in columns) for row in rows}
     by_column = {column: sum((row, column) in colored for row in rows) for column in columns}
     for nurse in days.plan.rows:
         row = nurse.number - 1
-        marked = [column for column in columns if (row, column) in colored and not nurse.at(column).text]
-        alone = [column for column in marked if 2 * by_row[row] <= len(columns) and 2 * by_column[column] <= len(rows)]
+        marked = [
+            column for column in columns if (row, column) in colored and not nurse.at(column).text
+        ]
+        alone = [
+            column
+            for column in marked
+            if 2 * by_row[row] <= len(columns) and 2 * by_column[column] <= len(rows)
+        ]
         if alone:
             yield row, alone

@@ -57,9 +57,15 @@ def read_book(path: Path) -> Book:
     with open(path, "rb") as file:
         begin = file.read(4)
     if begin == _OLD_EXCEL:
-        raise FileFault(path, 0, "this is an old Excel file, or one with a password: save it without one as .xlsx or .ods")
+        raise FileFault(
+            path,
+            0,
+            "this is an old Excel file, or one with a password: save it without one as .xlsx or .ods",
+        )
     if not begin.startswith(_ZIP):
-        raise FileFault(path, 0, "this is no spreadsheet: give an .ods or .xlsx file, or a folder of .csv files")
+        raise FileFault(
+            path, 0, "this is no spreadsheet: give an .ods or .xlsx file, or a folder of .csv files"
+        )
     try:
         with zipfile.ZipFile(path) as archive:
             return _read_archive(path, archive)
@@ -67,7 +73,9 @@ def read_book(path: Path) -> Book:
         if isinstance(fault, OSError) and fault.errno != errno.EINVAL:
             raise
         raise FileFault(
-            path, 0, "the spreadsheet is damaged or has a password: open it in its program, and save it again without one"
+            path,
+            0,
+            "the spreadsheet is damaged or has a password: open it in its program, and save it again without one",
         ) from fault
 
 
@@ -78,7 +86,9 @@ def _read_archive(path: Path, archive: zipfile.ZipFile) -> Book:
         return Book(path, *sheet_ods.sheets(parts))
     if "xl/workbook.xml" in names:
         return Book(path, *sheet_xlsx.sheets(parts))
-    raise FileFault(path, 0, "this file has no sheets: give an .ods or .xlsx file, or a folder of .csv files")
+    raise FileFault(
+        path, 0, "this file has no sheets: give an .ods or .xlsx file, or a folder of .csv files"
+    )
 
 
 def _csv_files(folder: Path) -> Dict[str, Path]:
@@ -88,10 +98,16 @@ def _csv_files(folder: Path) -> Dict[str, Path]:
         if file.suffix.lower() in (".csv", ".tsv") and file.is_file():
             sheet = file.stem.lower().rpartition("-")[2]
             if sheet in files:
-                raise FileFault(folder, 0, f"{files[sheet].name} and {file.name} are both the sheet {sheet}: leave one of them")
+                raise FileFault(
+                    folder,
+                    0,
+                    f"{files[sheet].name} and {file.name} are both the sheet {sheet}: leave one of them",
+                )
             files[sheet] = file
     if not files:
-        raise FileFault(folder, 0, "this folder has no .csv files: save each sheet as one, such as shifts.csv")
+        raise FileFault(
+            folder, 0, "this folder has no .csv files: save each sheet as one, such as shifts.csv"
+        )
     return files
 
 
@@ -99,20 +115,28 @@ def _read_csv(path: Path) -> Rows:
     with open(path, "rb") as file:
         data = file.read(MAX_BYTES + 1)
     if len(data) > MAX_BYTES:
-        raise FileFault(path, 0, f"the file has more than {MAX_BYTES} bytes: delete what is no part of the ward")
+        raise FileFault(
+            path, 0, f"the file has more than {MAX_BYTES} bytes: delete what is no part of the ward"
+        )
     text = _text_of(path, data)
     first, _, rest = text.partition("\n")
     if first.strip().lower().startswith("sep="):
         separator, text = (first.strip()[4:5] or ","), rest
     else:
-        separator = max(_SEPARATORS, key=lambda sign: next(filter(str.strip, text.split("\n")), "").count(sign))
+        separator = max(
+            _SEPARATORS, key=lambda sign: next(filter(str.strip, text.split("\n")), "").count(sign)
+        )
     try:
         rows = list(csv.reader(io.StringIO(text, newline=""), delimiter=separator))
     except (csv.Error, ValueError) as fault:
-        raise FileFault(path, 0, f"this is no CSV file ({fault}): save the sheet again as CSV") from fault
+        raise FileFault(
+            path, 0, f"this is no CSV file ({fault}): save the sheet again as CSV"
+        ) from fault
     if len(rows) > MAX_ROWS or any(len(row) > MAX_COLUMNS for row in rows):
         raise FileFault(
-            path, 0, f"the file has more than {MAX_ROWS} rows or {MAX_COLUMNS} columns: delete those that are no part of the ward"
+            path,
+            0,
+            f"the file has more than {MAX_ROWS} rows or {MAX_COLUMNS} columns: delete those that are no part of the ward",
         )
     return trimmed(rows)
 
@@ -120,11 +144,19 @@ def _read_csv(path: Path) -> Rows:
 def _text_of(path: Path, data: bytes) -> str:
     """The text: UTF-16 or UTF-8 with their marks, else UTF-8, else Windows-1252."""
     if data.startswith(_ZIP) or data.startswith(_OLD_EXCEL):
-        raise FileFault(path, 0, "this is a spreadsheet with the name of a CSV file: give it itself, with its right name")
+        raise FileFault(
+            path,
+            0,
+            "this is a spreadsheet with the name of a CSV file: give it itself, with its right name",
+        )
     codes = ["utf-16"] if data[:2] in (b"\xff\xfe", b"\xfe\xff") else ["utf-8-sig", "cp1252"]
     for code in codes:
         try:
             return data.decode(code)
         except UnicodeDecodeError:
             continue
-    raise FileFault(path, 0, "the file has another encoding than UTF-8, UTF-16 and Windows-1252: save it as CSV in UTF-8")
+    raise FileFault(
+        path,
+        0,
+        "the file has another encoding than UTF-8, UTF-16 and Windows-1252: save it as CSV in UTF-8",
+    )

@@ -31,7 +31,11 @@ def _rows(element: Element) -> Iterator[Element]:
     for part in element:
         if part.tag == _TABLE + "table-row":
             yield part
-        elif part.tag in (_TABLE + "table-row-group", _TABLE + "table-header-rows", _TABLE + "table-rows"):
+        elif part.tag in (
+            _TABLE + "table-row-group",
+            _TABLE + "table-header-rows",
+            _TABLE + "table-rows",
+        ):
             yield from _rows(part)
 
 
@@ -61,9 +65,14 @@ def _read(table: Element, grid: Grid, looks: Dict[str, Look]) -> None:
 
 def _merge(cell: Element, rows: range, columns: range, grid: Grid) -> None:
     """Merges the cells that this one covers."""
-    height, width = (int(cell.get(_TABLE + name, "1")) for name in ("number-rows-spanned", "number-columns-spanned"))
+    height, width = (
+        int(cell.get(_TABLE + name, "1"))
+        for name in ("number-rows-spanned", "number-columns-spanned")
+    )
     if height > 1 or width > 1:
-        grid.merge(range(rows.start, rows.start + height), range(columns.start, columns.start + width))
+        grid.merge(
+            range(rows.start, rows.start + height), range(columns.start, columns.start + width)
+        )
 
 
 def _value(cell: Element) -> str:
@@ -76,7 +85,11 @@ def _value(cell: Element) -> str:
     else:
         value = "\n".join("".join(_text(paragraph)) for paragraph in cell.findall(_TEXT + "p"))
     formula = cell.get(_TABLE + "formula")
-    return value if formula is None or (kind == "string" and not value) else formula_text(formula, value)
+    return (
+        value
+        if formula is None or (kind == "string" and not value)
+        else formula_text(formula, value)
+    )
 
 
 def _text(element: Element) -> Iterator[str]:

@@ -25,7 +25,10 @@ Rows = List[List[str]]
 # The most rows and columns of one cell that is repeated, whose look counts: more are filled outside the table.
 _MOST_REPEATED = 50, 400
 # The namespaces of the parts of an XLSX file, and the beginning of an ODS file's.
-MAIN_SPACES = ("{http://schemas.openxmlformats.org/spreadsheetml/2006/main}", "{http://purl.oclc.org/ooxml/spreadsheetml/main}")
+MAIN_SPACES = (
+    "{http://schemas.openxmlformats.org/spreadsheetml/2006/main}",
+    "{http://purl.oclc.org/ooxml/spreadsheetml/main}",
+)
 
 
 def ods_space(name: str) -> str:
@@ -61,7 +64,11 @@ class Parts:
         with self._archive.open(name) as part:
             data = part.read(MAX_BYTES + 1)
         if len(data) > MAX_BYTES:
-            raise FileFault(self._path, 0, f"the spreadsheet has more than {MAX_BYTES} bytes of XML: delete what is no part of the ward")
+            raise FileFault(
+                self._path,
+                0,
+                f"the spreadsheet has more than {MAX_BYTES} bytes of XML: delete what is no part of the ward",
+            )
         self._check(data)
         return ElementTree.fromstring(data)
 
@@ -84,7 +91,9 @@ class Parts:
 
     def _refuse(self, *_words: object) -> None:
         raise FileFault(
-            self._path, 0, "the spreadsheet has a document type, which no program writes: save it again with LibreOffice or Excel"
+            self._path,
+            0,
+            "the spreadsheet has a document type, which no program writes: save it again with LibreOffice or Excel",
         )
 
     def too_large(self, sheet: str) -> FileFault:
@@ -130,11 +139,16 @@ class Grid:
         """The rows, with merged cells filled as far as the sheet has others."""
         height = max(self._cells, default=-1) + 1
         width = max((max(cells) for cells in self._cells.values()), default=-1) + 1
-        texts = [[self._cells.get(row, {}).get(column, "") for column in range(width)] for row in range(height)]
+        texts = [
+            [self._cells.get(row, {}).get(column, "") for column in range(width)]
+            for row in range(height)
+        ]
         for rows, columns in self._merged:
             if rows.start < height and columns.start < width:
                 for row in rows[: height - rows.start]:
-                    texts[row][columns.start : columns.stop] = [texts[rows.start][columns.start]] * len(columns[: width - columns.start])
+                    texts[row][columns.start : columns.stop] = [
+                        texts[rows.start][columns.start]
+                    ] * len(columns[: width - columns.start])
         return trimmed(texts)
 
 

@@ -14,11 +14,16 @@ _SEVERAL = re.compile(r"[,;/]")
 # Signs without a width, which a text from a page or a message may have.
 _NO_WIDTH = re.compile("[\u200b-\u200d\u2060\ufeff]")
 # The texts that spreadsheets show for a formula with a fault.
-_BROKEN = re.compile(r"#(REF!|BEZUG!|DIV/0!|NAME\?|VALUE!|WERT!|NUM!|ZAHL!|NULL!|N/A|NV|SPILL!)|Err:[0-9]+", re.IGNORECASE)
+_BROKEN = re.compile(
+    r"#(REF!|BEZUG!|DIV/0!|NAME\?|VALUE!|WERT!|NUM!|ZAHL!|NULL!|N/A|NV|SPILL!)|Err:[0-9]+",
+    re.IGNORECASE,
+)
 _SAVE = "open the file in a spreadsheet program, and save it again"
 SUM = re.compile(r"=([0-9]{1,4})\+([0-9]{1,4})")
 # A number with words or a sign, as `ca. 2`, `~2` or `2 nurses`.
-_ABOUT = re.compile(r"(?:(?:[^\W\d]+(?:\. ?| ))+|[~<>?\u2264\u2265\u00b1] ?)([0-9]{1,4})|([0-9]{1,4}) ?(?:[^\W\d]+\.?|[?])")
+_ABOUT = re.compile(
+    r"(?:(?:[^\W\d]+(?:\. ?| ))+|[~<>?\u2264\u2265\u00b1] ?)([0-9]{1,4})|([0-9]{1,4}) ?(?:[^\W\d]+\.?|[?])"
+)
 # The sign after a maximum that is never exceeded.
 KEPT = "!"
 
@@ -54,29 +59,44 @@ class SheetCell(NamedTuple):
 
     def fault(self, message: str) -> NoReturn:
         """Raises a fault of this cell."""
-        raise FileFault(self.book.path, 0, f"sheet {self.sheet}, row {self.row}, column {letters_of(self.column)}: {message}")
+        raise FileFault(
+            self.book.path,
+            0,
+            f"sheet {self.sheet}, row {self.row}, column {letters_of(self.column)}: {message}",
+        )
 
     def parts(self) -> List["SheetCell"]:
         """The cell as several, if it has a list with commas, semicolons or slashes."""
-        return [self._replace(text=part.strip()) for part in _SEVERAL.split(self.text) if part.strip()]
+        return [
+            self._replace(text=part.strip()) for part in _SEVERAL.split(self.text) if part.strip()
+        ]
 
-    def number(self, default: Optional[int] = None, most: int = MAX_NUMBER, pair: str = "", typed: str = "") -> int:
+    def number(
+        self, default: Optional[int] = None, most: int = MAX_NUMBER, pair: str = "", typed: str = ""
+    ) -> int:
         """The whole number of the cell; an empty one has the default, if there is one. `pair` says how two numbers are written, if it may
-        have them: a fault names it, and quotes what was `typed`, if that has more than the number."""
+        have them: a fault names it, and quotes what was `typed`, if that has more than the number.
+        """
         if not self.text and default is not None:
             return default
         added = SUM.fullmatch(self.text)
         if added:
             total = int(added[1]) + int(added[2])
             if pair:
-                self.fault(f"'{self.text}' is a sum: write {self.text[1:]} without the sign =, or {total}")
+                self.fault(
+                    f"'{self.text}' is a sum: write {self.text[1:]} without the sign =, or {total}"
+                )
             return self._replace(text=str(total)).number(default, most)
         digits = re.sub(r"[.,](?!000$)0*$", "", self.text)
         if not re.fullmatch("[0-9]{1,9}", digits):
             otherwise = ", or leave the cell empty" if default is not None else ""
-            self.fault(f"'{typed or self.text}' is no whole number: {self._advice(pair, otherwise)}")
+            self.fault(
+                f"'{typed or self.text}' is no whole number: {self._advice(pair, otherwise)}"
+            )
         if int(digits) > MAX_NUMBER:
-            self.fault(f"{digits} is more than {most}: a spreadsheet makes such a number of 2-3 or 2/3, so write {pair or 'one number'}")
+            self.fault(
+                f"{digits} is more than {most}: a spreadsheet makes such a number of 2-3 or 2/3, so write {pair or 'one number'}"
+            )
         if int(digits) > most:
             self.fault(f"{digits} is more than {most}: write a smaller number")
         return int(digits)
@@ -95,7 +115,11 @@ class SheetCell(NamedTuple):
         if not pair and re.fullmatch(r"[0-9]+[.,][0-9]+", self.text):
             return "shifts are counted, not hours"
         number = f"write {about(self.text) or 'a number such as 2'}"
-        return f"{number}, or {pair}" if pair else f"{number}{'' if re.search('[0-9]', self.text) else empty}"
+        return (
+            f"{number}, or {pair}"
+            if pair
+            else f"{number}{'' if re.search('[0-9]', self.text) else empty}"
+        )
 
     def new_name(self, kind: str, taken: Collection[str]) -> str:
         """The cell as a new name of a file, with _ for a blank."""
@@ -103,20 +127,30 @@ class SheetCell(NamedTuple):
         if not name:
             self.fault(f"the cell is empty: write the name of the {kind}, or delete the row")
         if any(sign in SIGNS for sign in name):
-            self.fault(f"'{self.text}' has one of the signs {' '.join(SIGNS)}: write the name without it")
+            self.fault(
+                f"'{self.text}' has one of the signs {' '.join(SIGNS)}: write the name without it"
+            )
         if name.casefold() in (other.casefold() for other in taken):
             self.fault(f"the {kind} '{self.text}' is there already: use another name")
         return name
 
-    def known(self, kind: str, names: Collection[str], others: Sequence[str] = (), end: str = "") -> str:
+    def known(
+        self, kind: str, names: Collection[str], others: Sequence[str] = (), end: str = ""
+    ) -> str:
         """The name that the cell has, in whatever letters. A fault names the other words that may be in its place too, and what else may
         help."""
         wanted = self.text.replace(" ", "_").casefold()
         meant = next((name for name in names if name.casefold() == wanted), None)
         if meant is None:
             otherwise = f"write one of {quoted([*map(readable, names), *others])}{end}"
-            advice = did_you_mean(self.text.replace(" ", "_"), [*names, *others], otherwise, readable)
-            self.fault(f"'{self.text}' is no {kind}: {advice}" if self.text else f"the cell is empty: write a {kind}, or delete the row")
+            advice = did_you_mean(
+                self.text.replace(" ", "_"), [*names, *others], otherwise, readable
+            )
+            self.fault(
+                f"'{self.text}' is no {kind}: {advice}"
+                if self.text
+                else f"the cell is empty: write a {kind}, or delete the row"
+            )
         return meant
 
 
@@ -140,13 +174,24 @@ class SheetRow:
 
     def of(self, head: str) -> SheetCell:
         """The cell of the column with this head; if there is none, an empty one."""
-        return self.at(self._table.columns[head]) if head in self._table.columns else self.at(len(self._cells))
+        return (
+            self.at(self._table.columns[head])
+            if head in self._table.columns
+            else self.at(len(self._cells))
+        )
 
 
 class Table:
     """A sheet: its columns by their heads, and its rows. `book` and `name` are for faults."""
 
-    def __init__(self, book: Book, name: str, heads: Sequence[str], optional: Sequence[str] = (), open_end: bool = False) -> None:
+    def __init__(
+        self,
+        book: Book,
+        name: str,
+        heads: Sequence[str],
+        optional: Sequence[str] = (),
+        open_end: bool = False,
+    ) -> None:
         self.book, self.name = book, name
         self.heads, self.optional = heads, optional
         self.columns: Dict[str, int] = {}
@@ -160,11 +205,21 @@ class Table:
         with Gathering() as faults:
             for column, text in enumerate(head):
                 with faults.step():
-                    self._take_head(SheetCell(tidy(text), book, name, first + 1, column), head, open_end)
+                    self._take_head(
+                        SheetCell(tidy(text), book, name, first + 1, column), head, open_end
+                    )
         missing = [wanted for wanted in heads if wanted not in self.columns]
         if missing:
-            raise FileFault(book.path, 0, f"sheet {name}, row {first + 1}: there is no column '{missing[0]}': add it")
-        self.rows = [SheetRow(self, number + 1, rows[number]) for number in range(begin, len(rows)) if any(map(str.strip, rows[number]))]
+            raise FileFault(
+                book.path,
+                0,
+                f"sheet {name}, row {first + 1}: there is no column '{missing[0]}': add it",
+            )
+        self.rows = [
+            SheetRow(self, number + 1, rows[number])
+            for number in range(begin, len(rows))
+            if any(map(str.strip, rows[number]))
+        ]
         self._check_heads({column for column, text in enumerate(head) if tidy(text)}, first + 1)
         self._check_formulas({*self.columns.values(), *(cell.column for cell in self.others)})
 
@@ -175,7 +230,11 @@ class Table:
     def _sheet(self) -> Rows:
         if self.name not in self.book.sheets:
             cure = "add it; the verb new writes an example of all sheets into a new folder"
-            raise FileFault(self.book.path, 0, f"there is no sheet '{self.name}' beside {quoted(self.book.sheets)}: {cure}")
+            raise FileFault(
+                self.book.path,
+                0,
+                f"there is no sheet '{self.name}' beside {quoted(self.book.sheets)}: {cure}",
+            )
         return self.book.sheets[self.name]
 
     def _find_head(self, rows: Rows) -> int:
@@ -184,7 +243,9 @@ class Table:
             if any(tidy(cell).casefold() == self.heads[0] for cell in row):
                 return number
         raise FileFault(
-            self.book.path, 0, f"sheet {self.name}: no row has the head '{self.heads[0]}': write {quoted(self.heads)} into the first row"
+            self.book.path,
+            0,
+            f"sheet {self.name}: no row has the head '{self.heads[0]}': write {quoted(self.heads)} into the first row",
         )
 
     def _take_head(self, cell: SheetCell, heads: Sequence[str], open_end: bool) -> None:
@@ -216,7 +277,9 @@ class Table:
         with Gathering() as faults:
             for _, cell in sorted(first.items()):
                 with faults.step():
-                    cell.fault(f"'{cell.text}' has no head above it: write one into row {number}, or # to leave the column out")
+                    cell.fault(
+                        f"'{cell.text}' has no head above it: write one into row {number}, or # to leave the column out"
+                    )
 
     def _check_formulas(self, columns: Collection[int]) -> None:
         """No cell of these columns may be a formula with a fault, or one whose value is not in the file."""
@@ -226,14 +289,20 @@ class Table:
                     cell = row.at(column)
                     with faults.step():
                         if _BROKEN.fullmatch(cell.text):
-                            cell.fault(f"a formula has the fault {cell.text}: correct it, or write its value in its place")
+                            cell.fault(
+                                f"a formula has the fault {cell.text}: correct it, or write its value in its place"
+                            )
                         if cell.text.startswith("=") and not SUM.fullmatch(cell.text):
-                            cell.fault(f"the value of the formula {cell.text} is not in the file: {_SAVE}, or write the value")
+                            cell.fault(
+                                f"the value of the formula {cell.text} is not in the file: {_SAVE}, or write the value"
+                            )
 
     def _meant(self, head: str, taken: Collection[str]) -> Optional[str]:
         """The column that a wrong head most likely means: none that the sheet has already."""
         free = [name for name in (*self.heads, *self.optional) if name not in taken]
-        return closest(head, free) or next((name for name in free if {*head.split()} & {*name.split()}), None)
+        return closest(head, free) or next(
+            (name for name in free if {*head.split()} & {*name.split()}), None
+        )
 
 
 def _joined_head(rows: Rows, first: int, open_end: bool) -> Tuple[List[str], int]:
@@ -244,8 +313,12 @@ def _joined_head(rows: Rows, first: int, open_end: bool) -> Tuple[List[str], int
     head, below = (row + [""] * (width - len(row)) for row in (head, below))
     # A head over two rows.
     below = ["" if under == upper else under for upper, under in zip(head, below)]
-    has_days = all(re.match("mon|tue|wed|thu|fri|sat|sun", cell.casefold()) for cell in below if cell)
-    is_over = any(under and not upper for upper, under in zip(head, below)) and not any(re.search("[0-9]", cell) for cell in below)
+    has_days = all(
+        re.match("mon|tue|wed|thu|fri|sat|sun", cell.casefold()) for cell in below if cell
+    )
+    is_over = any(under and not upper for upper, under in zip(head, below)) and not any(
+        re.search("[0-9]", cell) for cell in below
+    )
     if not any(below) or below[0] or not (has_days if open_end else is_over):
         return head, first + 1
     joined, above = [], ""

@@ -31,9 +31,14 @@ def sheets(parts: Parts) -> Sheets:
     """The sheets by their names in small letters, the numbers of their hidden rows, the cells with a look that may mean something, and the
     day with the number 0."""
     book = parts.read("xl/workbook.xml")
-    items = _all(parts.read("xl/sharedStrings.xml"), "si") if parts.has("xl/sharedStrings.xml") else []
+    items = (
+        _all(parts.read("xl/sharedStrings.xml"), "si") if parts.has("xl/sharedStrings.xml") else []
+    )
     texts = _Texts(list(map(_text, items)), list(map(is_struck_in_xlsx, items)), xlsx_looks(parts))
-    targets = {link.get("Id", ""): _path(link.get("Target", "")) for link in parts.read("xl/_rels/workbook.xml.rels")}
+    targets = {
+        link.get("Id", ""): _path(link.get("Target", ""))
+        for link in parts.read("xl/_rels/workbook.xml.rels")
+    }
     rows: Dict[str, Rows] = {}
     hidden: Dict[str, List[int]] = {}
     marks: Dict[str, Marks] = {}
@@ -45,7 +50,9 @@ def sheets(parts: Parts) -> Sheets:
             if name in SHEETS:
                 _read(parts.read(target), grid, texts)
             rows[name], hidden[name], marks[name] = grid.rows(), grid.hidden, grid.marks
-    from_1904 = any(part.get("date1904") in ("1", "true", "on") for part in _all(book, "workbookPr"))
+    from_1904 = any(
+        part.get("date1904") in ("1", "true", "on") for part in _all(book, "workbookPr")
+    )
     return rows, hidden, marks, _DAY_ZERO_1904 if from_1904 else _DAY_ZERO
 
 
@@ -68,7 +75,9 @@ def _read(sheet: Element, grid: Grid, texts: _Texts) -> None:
         column = -1
         for cell in _all(row, "c"):
             column = _column(cell.get("r", "")) if cell.get("r") else column + 1
-            place, value = (range(number, number + 1), range(column, column + 1)), _value(cell, texts.shared)
+            place, value = (range(number, number + 1), range(column, column + 1)), _value(
+                cell, texts.shared
+            )
             grid.put(*place, value)
             look = _look(cell, texts)
             grid.mark(*place, look.struck and bool(value.strip()), look.colored)
@@ -81,9 +90,16 @@ def _read(sheet: Element, grid: Grid, texts: _Texts) -> None:
 
 def _look(cell: Element, texts: _Texts) -> Look:
     """The look of a cell: that of its format, and of its text."""
-    number, text = cell.get("s", ""), "".join(part.text or "" for part in _all(cell, "v")) if cell.get("t") == "s" else ""
-    look = texts.looks[int(number)] if number.isdigit() and int(number) < len(texts.looks) else Look()
-    in_text = bool(text) and texts.struck[int(text)] or any(map(is_struck_in_xlsx, _all(cell, "is")))
+    number, text = (
+        cell.get("s", ""),
+        "".join(part.text or "" for part in _all(cell, "v")) if cell.get("t") == "s" else "",
+    )
+    look = (
+        texts.looks[int(number)] if number.isdigit() and int(number) < len(texts.looks) else Look()
+    )
+    in_text = (
+        bool(text) and texts.struck[int(text)] or any(map(is_struck_in_xlsx, _all(cell, "is")))
+    )
     return look._replace(struck=look.struck or in_text)
 
 

@@ -19,11 +19,19 @@ _HEADS = {
     "shifts": (("shift",), ("min in a row", "max in a row", "not followed by", "times")),
     "contracts": (
         ("contract",),
-        tuple("shifts min,shifts max,work min,work max,off min,off max,weekends,complete weekends".split(",")),
+        tuple(
+            "shifts min,shifts max,work min,work max,off min,off max,weekends,complete weekends".split(
+                ","
+            )
+        ),
     ),
     "nurses": (
         ("nurse", "contract", "skills"),
-        tuple("never,always off,worked,worked weekends,last shift,days on it,days of work,days off".split(",")),
+        tuple(
+            "never,always off,worked,worked weekends,last shift,days on it,days of work,days off".split(
+                ","
+            )
+        ),
     ),
     "needs": (("shift", "skill", *(day.casefold() for day in DAYS)), ("week",)),
 }
@@ -37,7 +45,8 @@ _KEPT = {"shifts max": SHIFTS, "work max": WORK_DAYS, "weekends": WEEKENDS}
 
 class Ward(NamedTuple):
     """A ward, its first history, each nurse's shift types that she never works and days of the week on which she is always off, the
-    kinds of maxima that each contract never exceeds, the first cell with each skill, and where faults of unknown names go."""
+    kinds of maxima that each contract never exceeds, the first cell with each skill, and where faults of unknown names go.
+    """
 
     scenario: Scenario
     history: History
@@ -58,9 +67,13 @@ class Unknown(NamedTuple):
 def read_ward(book: Book, name: str, weeks: int, faults: Gathering) -> Ward:
     """The ward of these sheets, with this name and number of weeks. What has a fault gets a value that no later fault comes from. Raises
     the faults at once if a sheet has no rows that can be read, or not the names of others."""
-    shifts, contract_rows, nurse_rows, needs = [faults.tried(lambda: table_of(book, sheet), None) for sheet in _HEADS]
+    shifts, contract_rows, nurse_rows, needs = [
+        faults.tried(lambda: table_of(book, sheet), None) for sheet in _HEADS
+    ]
     shift_types, of_shifts = _shift_types(shifts, faults) if shifts else ({}, faults)
-    contracts, kept, of_contracts = _contracts(contract_rows, faults) if contract_rows else ({}, {}, faults)
+    contracts, kept, of_contracts = (
+        _contracts(contract_rows, faults) if contract_rows else ({}, {}, faults)
+    )
     for table, kind, number, most in (
         (shifts, "shift types", len(shift_types), MAX_SHIFTS),
         (contract_rows, "contracts", len(contracts), MAX_CONTRACTS),
@@ -80,20 +93,46 @@ def read_ward(book: Book, name: str, weeks: int, faults: Gathering) -> Ward:
         before = faults.number
         nurse = _new_name(row.of("nurse"), "nurse", nurses, faults)
         of_nurses = Gathering() if faults.number > before else of_nurses
-        contract = of_contracts.tried(lambda: row.of("contract").known("contract", contracts), next(iter(contracts)))
+        contract = of_contracts.tried(
+            lambda: row.of("contract").known("contract", contracts), next(iter(contracts))
+        )
         record = Nurse(nurse, contract, skills.of(row.of("skills"), faults))
-        shift_names = [of_shifts.tried(lambda: part.known("shift type", shift_types), "") for part in row.of("never").parts()]
+        shift_names = [
+            of_shifts.tried(lambda: part.known("shift type", shift_types), "")
+            for part in row.of("never").parts()
+        ]
         no_days: List[int] = []
         off = faults.tried(lambda: _days_off(row.of("always off")), no_days)
         of_past = _past(row, nurse, shift_types, faults, of_shifts)
         if nurse and nurse not in nurses:
-            nurses[nurse], past[nurse], never[nurse] = record, of_past, ([shift for shift in shift_names if shift], off)
-    for kind, number, most in (("nurses", len(nurses), MAX_NURSES), ("skills", len(skills.cells), MAX_SKILLS)):
+            nurses[nurse], past[nurse], never[nurse] = (
+                record,
+                of_past,
+                ([shift for shift in shift_names if shift], off),
+            )
+    for kind, number, most in (
+        ("nurses", len(nurses), MAX_NURSES),
+        ("skills", len(skills.cells), MAX_SKILLS),
+    ):
         with faults.step():
             _check_number(table_of(book, "nurses"), kind, number, most)
-    scenario = Scenario(name, weeks, tuple(skills.cells), shift_types=shift_types, contracts=contracts, nurses=nurses)
+    scenario = Scenario(
+        name,
+        weeks,
+        tuple(skills.cells),
+        shift_types=shift_types,
+        contracts=contracts,
+        nurses=nurses,
+    )
     history = History(0, name, past)
-    return Ward(scenario, history, never=never, kept=kept, skills=skills.cells, unknown=Unknown(of_shifts, of_nurses))
+    return Ward(
+        scenario,
+        history,
+        never=never,
+        kept=kept,
+        skills=skills.cells,
+        unknown=Unknown(of_shifts, of_nurses),
+    )
 
 
 def _rows(table: Optional[Table]) -> Sequence[SheetRow]:
@@ -118,11 +157,15 @@ def _check_number(table: Table, kind: str, number: int, most: int) -> None:
 
 def _days_off(cell: SheetCell) -> List[int]:
     """The days of the week that the cell names, with commas between."""
-    names = {name.casefold(): day for day, full in enumerate(_WEEKDAYS) for name in (full, DAYS[day])}
+    names = {
+        name.casefold(): day for day, full in enumerate(_WEEKDAYS) for name in (full, DAYS[day])
+    }
     days = []
     for part in cell.parts():
         if part.text.casefold() not in names:
-            part.fault(f"'{part.text}' is no day of the week: write days with commas between, such as Mon, Tue")
+            part.fault(
+                f"'{part.text}' is no day of the week: write days with commas between, such as Mon, Tue"
+            )
         days.append(names[part.text.casefold()])
     return days
 
@@ -136,14 +179,20 @@ def _shift_types(table: Table, faults: Gathering) -> Tuple[Dict[str, ShiftType],
         name = _new_name(cell, "shift type", names, faults)
         with faults.step():
             if name.casefold() in OWN_WORDS:
-                cell.fault(f"'{cell.text}' has a meaning of its own in the ward's files: use another name")
+                cell.fault(
+                    f"'{cell.text}' has a meaning of its own in the ward's files: use another name"
+                )
         if name:
             names.setdefault(name, row)
     unknown = faults if faults.number == before else Gathering()
-    return {name: _shift_type(row, name, names, faults, unknown) for name, row in names.items()}, unknown
+    return {
+        name: _shift_type(row, name, names, faults, unknown) for name, row in names.items()
+    }, unknown
 
 
-def _shift_type(row: SheetRow, name: str, names: Collection[str], faults: Gathering, unknown: Gathering) -> ShiftType:
+def _shift_type(
+    row: SheetRow, name: str, names: Collection[str], faults: Gathering, unknown: Gathering
+) -> ShiftType:
     parts = row.of("not followed by").parts()
     after = [unknown.tried(lambda: part.known("shift type", names), "") for part in parts]
     limits = _limits(row, "min in a row", "max in a row", faults)
@@ -152,7 +201,10 @@ def _shift_type(row: SheetRow, name: str, names: Collection[str], faults: Gather
 
 def shift_times(book: Book) -> Dict[str, Times]:
     """When the shifts of each type begin and end, if the sheet has it for one of them."""
-    cells = {row.of("shift").text.replace(" ", "_"): row.of("times") for row in table_of(book, "shifts").rows}
+    cells = {
+        row.of("shift").text.replace(" ", "_"): row.of("times")
+        for row in table_of(book, "shifts").rows
+    }
     if not any(cell.text for cell in cells.values()):
         return {}
     times: Dict[str, Times] = {}
@@ -166,7 +218,9 @@ def shift_times(book: Book) -> Dict[str, Times]:
     return times
 
 
-def _contracts(table: Table, faults: Gathering) -> Tuple[Dict[str, Contract], Dict[str, Set[str]], Gathering]:
+def _contracts(
+    table: Table, faults: Gathering
+) -> Tuple[Dict[str, Contract], Dict[str, Set[str]], Gathering]:
     """The contracts, the kinds of maxima that each of them never exceeds, and where faults of names that are none of them go."""
     contracts: Dict[str, Contract] = {}
     kept: Dict[str, Set[str]] = {}
@@ -183,7 +237,11 @@ def _contracts(table: Table, faults: Gathering) -> Tuple[Dict[str, Contract], Di
         texts = {head: row.of(head).text for head in _KEPT}
         if name and name not in contracts:
             contracts[name] = contract
-            kept[name] = {_KEPT[head] for head, text in texts.items() if text.endswith(KEPT) or (head in table.kept and text)}
+            kept[name] = {
+                _KEPT[head]
+                for head, text in texts.items()
+                if text.endswith(KEPT) or (head in table.kept and text)
+            }
     return contracts, kept, unknown
 
 
@@ -202,7 +260,9 @@ def _maximum(row: SheetRow, head: str) -> int:
     """The maximum in this column; an empty cell sets no limit."""
     cell = row.of(head)
     if head in _KEPT and re.fullmatch(f"{KEPT} ?[0-9]{{1,4}}", cell.text):
-        cell.fault(f"'{cell.text}' has the sign {KEPT} before the number: write {cell.text[1:].strip()}{KEPT}")
+        cell.fault(
+            f"'{cell.text}' has the sign {KEPT} before the number: write {cell.text[1:].strip()}{KEPT}"
+        )
     if head not in _KEPT or not cell.text.endswith(KEPT):
         return cell.number(MAX_NUMBER)
     number = cell._replace(text=cell.text.rstrip(f"{KEPT} "))
@@ -215,11 +275,16 @@ def _maximum(row: SheetRow, head: str) -> int:
 
 def _limits(row: SheetRow, least: str, most: str, faults: Gathering) -> Limits:
     """A minimum and a maximum; empty cells set no limit."""
-    limits = Limits(faults.tried(lambda: row.of(least).number(0), 0), faults.tried(lambda: _maximum(row, most), MAX_NUMBER))
+    limits = Limits(
+        faults.tried(lambda: row.of(least).number(0), 0),
+        faults.tried(lambda: _maximum(row, most), MAX_NUMBER),
+    )
     with faults.step():
         if limits.minimum > limits.maximum:
             empty = "; for no limit leave the cell empty" if limits.maximum == 0 else ""
-            row.of(least).fault(f"the minimum {limits.minimum} is above the maximum {limits.maximum}: correct one of the two{empty}")
+            row.of(least).fault(
+                f"the minimum {limits.minimum} is above the maximum {limits.maximum}: correct one of the two{empty}"
+            )
     return limits
 
 
@@ -233,7 +298,9 @@ class _Skills:
     """The skills that the needs ask for, as they are written, and the first cell with each skill of a nurse."""
 
     def __init__(self, asked: Collection[str]) -> None:
-        self._asked, self._names = {name.casefold() for name in asked}, [name.replace(" ", "_") for name in asked]
+        self._asked, self._names = {name.casefold() for name in asked}, [
+            name.replace(" ", "_") for name in asked
+        ]
         any_skill = "|".join(map(re.escape, sorted(self._asked, key=len, reverse=True)))
         self._several = re.compile(f"({any_skill})((?: and | ?[&+] ?| )({any_skill}))+")
         self.cells: Dict[str, SheetCell] = {}
@@ -256,8 +323,12 @@ class _Skills:
 
     def _one(self, part: SheetCell, before: Collection[str]) -> str:
         """One skill of a nurse, who has those before it."""
-        if part.text.casefold() not in self._asked and self._several.fullmatch(part.text.casefold()):
-            part.fault(f"'{part.text}' is no skill of the sheet needs, and has several in it: write commas between skills")
+        if part.text.casefold() not in self._asked and self._several.fullmatch(
+            part.text.casefold()
+        ):
+            part.fault(
+                f"'{part.text}' is no skill of the sheet needs, and has several in it: write commas between skills"
+            )
         skill = part.new_name("skill", before)
         return next((name for name in self.cells if name.casefold() == skill.casefold()), skill)
 
@@ -280,7 +351,11 @@ def book_warnings(book: Book) -> Iterator[str]:
     """Warnings of rows that count though nobody sees them, of names that are numbers, as if they were in a wrong column, and of days
     without a number in rows that have some."""
     for sheet in _HEADS:
-        rows = [row.number for row in table_of(book, sheet).rows if row.number in book.hidden.get(sheet, ())]
+        rows = [
+            row.number
+            for row in table_of(book, sheet).rows
+            if row.number in book.hidden.get(sheet, ())
+        ]
         if rows:
             yield f"sheet {sheet}: row {', '.join(map(str, rows))} hidden, and counted: show it, or delete it"
     for sheet, head in (("shifts", "shift"), ("contracts", "contract"), ("nurses", "nurse")):
@@ -306,11 +381,21 @@ def ward_warnings(ward: Ward) -> Iterator[str]:
         if NIGHT.search(name) and later and not shift.forbidden_next:
             turned = "is 'not followed by' the other way round?"
             yield f"sheet shifts: {name} may not follow {later[0]}, and each shift type may follow {name}: {turned}"
-        elif NIGHT.search(name) and not shift.forbidden_next and any(other.forbidden_next for other in types.values()):
+        elif (
+            NIGHT.search(name)
+            and not shift.forbidden_next
+            and any(other.forbidden_next for other in types.values())
+        ):
             yield f"sheet shifts: each shift type may follow {name} on the next day: write those that may not into 'not followed by'"
 
 
-def _past(row: SheetRow, nurse: str, shift_types: Dict[str, ShiftType], faults: Gathering, unknown: Gathering) -> NurseHistory:
+def _past(
+    row: SheetRow,
+    nurse: str,
+    shift_types: Dict[str, ShiftType],
+    faults: Gathering,
+    unknown: Gathering,
+) -> NurseHistory:
     """The nurse's history; empty cells are 0, and an empty last shift is a day off."""
     cell = row.of("last shift")
     is_off = cell.text.casefold() in ("", "none", "off", "-")

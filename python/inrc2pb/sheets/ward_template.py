@@ -32,7 +32,18 @@ EXAMPLE: Dict[str, Rows] = {
         ("Night", 2, 4, "Day, Late", "22:30-07:15"),
     ],
     "contracts": [
-        ("contract", "shifts min", "shifts max", "work min", "work max", "off min", "off max", "weekends", "complete weekends", "note"),
+        (
+            "contract",
+            "shifts min",
+            "shifts max",
+            "work min",
+            "work max",
+            "off min",
+            "off max",
+            "weekends",
+            "complete weekends",
+            "note",
+        ),
         ("Full", 17, 22, 3, 5, 2, 3, 2, "yes", KEPT_NOTE),
         ("Half", 8, 12, 2, 3, 2, 5, 2, "no"),
     ],
@@ -78,7 +89,10 @@ EXAMPLE: Dict[str, Rows] = {
 }
 _TYPE = "application/vnd.oasis.opendocument.spreadsheet"
 _NAMES = ("office", "table", "text", "manifest", "style", "datastyle")
-_SPACES = " ".join(f'xmlns:{name.replace("datastyle", "number")}="urn:oasis:names:tc:opendocument:xmlns:{name}:1.0"' for name in _NAMES)
+_SPACES = " ".join(
+    f'xmlns:{name.replace("datastyle", "number")}="urn:oasis:names:tc:opendocument:xmlns:{name}:1.0"'
+    for name in _NAMES
+)
 # How a cell shows a date: as 2026-11-30.
 _DATE_STYLE = (
     '<number:date-style style:name="days"><number:year number:style="long"/><number:text>-</number:text>'
@@ -98,7 +112,9 @@ def dated_example(monday: datetime.date) -> Dict[str, Rows]:
     heads, *rows = EXAMPLE["plan"]
     dates = [monday + day * DAY for day in range(len(heads) - 1)]
     friday = dates[2 * WEEK_DAYS + DAYS.index("Fri")]
-    notes = HOLIDAY_NOTE.format("Fri of week 3", "3"), HOLIDAY_NOTE.format(f"Fri {date_text(friday)}", friday)
+    notes = HOLIDAY_NOTE.format("Fri of week 3", "3"), HOLIDAY_NOTE.format(
+        f"Fri {date_text(friday)}", friday
+    )
     needs = [[notes[1] if cell == notes[0] else cell for cell in row] for row in EXAMPLE["needs"]]
     return {**EXAMPLE, "needs": needs, "plan": [(heads[0], *dates), *rows]}
 
@@ -107,23 +123,31 @@ def write_template(path: Path, monday: datetime.date) -> None:
     """Writes the example, whose plan begins on this Monday. Raises Misuse if there is a file of this name, since a ward may have changed
     it."""
     if path.suffix.lower() != ".ods":
-        raise Misuse(f"{path}: the example is an .ods file, which Excel opens too: end its name with .ods")
+        raise Misuse(
+            f"{path}: the example is an .ods file, which Excel opens too: end its name with .ods"
+        )
     if path.exists() or path.is_symlink():
         raise Misuse(f"{path}: there is such a file, perhaps with your ward: give another name")
     check_target(path)
     manifest = f'<manifest:file-entry manifest:full-path="/" manifest:media-type="{_TYPE}"/>'
-    manifest += '<manifest:file-entry manifest:full-path="content.xml" manifest:media-type="text/xml"/>'
+    manifest += (
+        '<manifest:file-entry manifest:full-path="content.xml" manifest:media-type="text/xml"/>'
+    )
     sheets = "".join(_sheet(name, rows) for name, rows in dated_example(monday).items())
     styles = f"<office:automatic-styles>{_DATE_STYLE}</office:automatic-styles>"
-    content = f"{styles}<office:body><office:spreadsheet>{sheets}</office:spreadsheet></office:body>"
+    content = (
+        f"{styles}<office:body><office:spreadsheet>{sheets}</office:spreadsheet></office:body>"
+    )
     try:
         with open(path, "xb") as file, zipfile.ZipFile(file, "w", zipfile.ZIP_DEFLATED) as archive:
             archive.writestr(zipfile.ZipInfo("mimetype"), _TYPE)
             archive.writestr(
-                "META-INF/manifest.xml", f'{_HEAD}<manifest:manifest {_SPACES} manifest:version="1.3">{manifest}</manifest:manifest>'
+                "META-INF/manifest.xml",
+                f'{_HEAD}<manifest:manifest {_SPACES} manifest:version="1.3">{manifest}</manifest:manifest>',
             )
             archive.writestr(
-                "content.xml", f'{_HEAD}<office:document-content {_SPACES} office:version="1.3">{content}</office:document-content>'
+                "content.xml",
+                f'{_HEAD}<office:document-content {_SPACES} office:version="1.3">{content}</office:document-content>',
             )
     except FileExistsError:
         raise
@@ -146,5 +170,9 @@ def _cell(value: object) -> str:
     if isinstance(value, datetime.date):
         date = f'table:style-name="day" office:value-type="date" office:date-value="{value}"'
         return f"<table:table-cell {date}><text:p>{value}</text:p></table:table-cell>"
-    kind = f'office:value-type="float" office:value="{value}"' if isinstance(value, int) else 'office:value-type="string"'
+    kind = (
+        f'office:value-type="float" office:value="{value}"'
+        if isinstance(value, int)
+        else 'office:value-type="string"'
+    )
     return f"<table:table-cell {kind}><text:p>{escape(str(value))}</text:p></table:table-cell>"

@@ -5,7 +5,18 @@ import re
 import time
 import uuid
 from pathlib import Path
-from typing import Collection, Dict, Iterable, Iterator, List, Mapping, NamedTuple, Optional, Sequence, Tuple
+from typing import (
+    Collection,
+    Dict,
+    Iterable,
+    Iterator,
+    List,
+    Mapping,
+    NamedTuple,
+    Optional,
+    Sequence,
+    Tuple,
+)
 
 from ..week.dates import DAY, Times
 from .markup import allowed
@@ -41,7 +52,12 @@ def shift_dates(view: RosterView, monday: datetime.date) -> Dict[str, List[datet
 
 def _text(value: str) -> str:
     """A value of type TEXT."""
-    return re.sub(r"([\\;,])", r"\\\1", allowed(value)).replace("\r", " ").replace("\n", "\\n").replace("\t", " ")
+    return (
+        re.sub(r"([\\;,])", r"\\\1", allowed(value))
+        .replace("\r", " ")
+        .replace("\n", "\\n")
+        .replace("\t", " ")
+    )
 
 
 def _folded(line: str) -> str:
@@ -61,7 +77,9 @@ def _day(date: datetime.date) -> str:
     return date.isoformat().replace("-", "")
 
 
-def _event(names: Sequence[str], stamp: Sequence[str], summary: str, when: Iterable[str]) -> Iterator[str]:
+def _event(
+    names: Sequence[str], stamp: Sequence[str], summary: str, when: Iterable[str]
+) -> Iterator[str]:
     """The lines of an event. Its names make it the same event in a later calendar."""
     yield "BEGIN:VEVENT"
     yield f"UID:{uuid.uuid5(uuid.NAMESPACE_URL, ' '.join(['inrc2pb', *names]))}"
@@ -81,9 +99,16 @@ def _when(date: datetime.date, shift: str, times: Mapping[str, Times]) -> Iterat
         yield f"{name}:{_day(moment.date())}T{moment:%H%M%S}"
 
 
-def calendar(view: RosterView, nurse: str, monday: datetime.date, times: Mapping[str, Times], issue: Optional[Issue] = None) -> str:
+def calendar(
+    view: RosterView,
+    nurse: str,
+    monday: datetime.date,
+    times: Mapping[str, Times],
+    issue: Optional[Issue] = None,
+) -> str:
     """The text of a nurse's calendar. One without shifts says so, since a calendar may not be empty; an issue of one cancels this, so that
-    a later one has nothing to take back. Shifts of older issues are cancelled on days on which this one has none."""
+    a later one has nothing to take back. Shifts of older issues are cancelled on days on which this one has none.
+    """
     ward = allowed(view.name)
     stamp = [f"DTSTAMP:{_day(monday)}T000000Z", *([f"SEQUENCE:{issue.number}"] if issue else [])]
     lines = ["BEGIN:VCALENDAR", "VERSION:2.0", "PRODID:-//inrc2pb//inrc2pb-roster//EN"]
@@ -95,7 +120,12 @@ def calendar(view: RosterView, nurse: str, monday: datetime.date, times: Mapping
     ]
     for date, index, cell in shifts:
         names = [ward, allowed(nurse), _day(date), *([str(index)] if index else [])]
-        lines += _event(names, stamp, f"{cell.shift} {cell.skill}".replace("_", " "), _when(date, cell.shift, times))
+        lines += _event(
+            names,
+            stamp,
+            f"{cell.shift} {cell.skill}".replace("_", " "),
+            _when(date, cell.shift, times),
+        )
     dates = {date for date, _, _ in shifts}
     for date in sorted(set(issue.before.get(nurse, ())) - dates) if issue else ():
         when = [f"DTSTART;VALUE=DATE:{_day(date)}", "STATUS:CANCELLED"]
@@ -124,11 +154,18 @@ def file_names(nurses: Iterable[str]) -> Dict[str, str]:
 
 
 def write_calendars(
-    view: RosterView, folder: Path, monday: datetime.date, times: Mapping[str, Times], issue: Optional[Issue] = None
+    view: RosterView,
+    folder: Path,
+    monday: datetime.date,
+    times: Mapping[str, Times],
+    issue: Optional[Issue] = None,
 ) -> None:
     """Writes a calendar for each nurse, also for those of older issues, to the folder, which is made if it does not exist."""
     nurses = dict.fromkeys((*view.nurses, *(issue.before if issue else ())))
-    texts = {name: calendar(view, nurse, monday, times, issue) for nurse, name in file_names(nurses).items()}
+    texts = {
+        name: calendar(view, nurse, monday, times, issue)
+        for nurse, name in file_names(nurses).items()
+    }
     folder.mkdir(parents=True, exist_ok=True)
     for name, text in texts.items():
         write_own_text(folder / name, text)

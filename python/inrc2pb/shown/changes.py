@@ -53,14 +53,19 @@ def changes(old: RosterView, new: RosterView) -> List[Change]:
 
 
 def _day_text(view: RosterView, week: int, nurse: str, day: int) -> str:
-    return shifts_text(view.cells(week, nurse, day), view.reason(week, nurse, day) if view.is_away(week, nurse, day) else OFF)
+    return shifts_text(
+        view.cells(week, nurse, day),
+        view.reason(week, nurse, day) if view.is_away(week, nurse, day) else OFF,
+    )
 
 
 def changed_lines(old: RosterView, new: RosterView) -> Iterator[str]:
     """A line for each change."""
     for change in changes(old, new):
         week = new.prefix(new.weeks[change.week])
-        yield change_text(f"{week}{change.nurse} {DAYS[change.day]}", change.now_text, change.before_text)
+        yield change_text(
+            f"{week}{change.nurse} {DAYS[change.day]}", change.now_text, change.before_text
+        )
 
 
 # ---- charges
@@ -92,7 +97,9 @@ def swapped(view: RosterView, swaps: Sequence[Tuple[str, str]]) -> RosterView:
     """The roster of one week after swaps in turn: two nurses and days, as `Chen Fri` and `Grace Fri`, get each other's cells.
     Raises Misuse if one of them is not in the roster."""
     if len(view.weeks) != 1:
-        raise Misuse("swap is for one roster: change a copy of one of these, and give the others to why, with --old")
+        raise Misuse(
+            "swap is for one roster: change a copy of one of these, and give the others to why, with --old"
+        )
     cells = list(view.weeks[0].cells)
     for pair in swaps:
         first, second = (_place(view, text) for text in pair)

@@ -31,7 +31,11 @@ def joined(*parts: str) -> Markup:
 def element(tag: str, *inside: str, **attributes: Optional[str]) -> Markup:
     """An element. In the names of attributes a line is written `_`, as in `aria_label`, and a last one is left out, as in `class_`.
     Attributes that are None are left out too."""
-    words = [f' {name.rstrip("_").replace("_", "-")}="{escaped(value)}"' for name, value in attributes.items() if value is not None]
+    words = [
+        f' {name.rstrip("_").replace("_", "-")}="{escaped(value)}"'
+        for name, value in attributes.items()
+        if value is not None
+    ]
     start = f"<{tag}{''.join(words)}"
     return Markup(f"{start}/>" if tag in _EMPTY else f"{start}>{joined(*inside)}</{tag}>")
 

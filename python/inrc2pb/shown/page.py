@@ -81,7 +81,10 @@ caption, h2, summary, .charges p { break-after: avoid }
 
 def page_style() -> Markup:
     """The style, with the colors of the shift types. Browsers print them only if `print-color-adjust` says so."""
-    colors = "".join(f".s{number} {{ background: {color}; color: {ink_on(color)} }}\n" for number, color in enumerate(COLORS))
+    colors = "".join(
+        f".s{number} {{ background: {color}; color: {ink_on(color)} }}\n"
+        for number, color in enumerate(COLORS)
+    )
     return Markup(STYLE + colors)
 
 
@@ -106,7 +109,11 @@ def _summary(page: Content) -> Iterator[str]:
     old = page.old.penalty if page.old and not page.old.breaks_absences else None
     before = f" instead of {old}" if cost and old is not None else ""
     named = f"{view.weeks_text}: " if page.monday else ""
-    made = f"; as of {page.as_of:%A}, {date_text(page.as_of)} {page.as_of:%Y, %H:%M}" if page.as_of else ""
+    made = (
+        f"; as of {page.as_of:%A}, {date_text(page.as_of)} {page.as_of:%Y, %H:%M}"
+        if page.as_of
+        else ""
+    )
     yield f"{named}{plural(len(view.nurses), 'nurse')}, {plural(count, 'shift')}{cost}{before}{made}"
     # Only a page with costs explains the rules.
     yield from plain_breach_lines(view) if page.only_table else breach_lines(view)
@@ -117,7 +124,9 @@ def _roster(page: Content) -> Markup:
     roster = RosterTable(page)
     lines = [element("p", line) for line in _summary(page)]
     legend = roster.legend()
-    items = element("ul", *(element("li", line) for line in legend), class_="legend") if legend else ""
+    items = (
+        element("ul", *(element("li", line) for line in legend), class_="legend") if legend else ""
+    )
     return element("section", element("h1", title(page)), *lines, *roster.tables(), items)
 
 
@@ -138,7 +147,9 @@ def _charge(page: Content, week: int, charge: Charge) -> Markup:
 def _foldable(name: str, charged: List[Charge], items: List[Markup]) -> Markup:
     """The charges of a nurse, or of the places. They are open, so that they are printed."""
     cost = sum(charge.cost for charge in charged)
-    summary = element("summary", element("b", name), f": {cost} ({costs_text(cost_by_rule(charged))})")
+    summary = element(
+        "summary", element("b", name), f": {cost} ({costs_text(cost_by_rule(charged))})"
+    )
     return element("details", summary, element("ul", *items), open="")
 
 
@@ -151,7 +162,11 @@ def charges_section(page: Content) -> Markup:
         for charge in week.charges or ():
             charged.setdefault(charge.nurse, []).append(charge)
             items.setdefault(charge.nurse, []).append(_charge(page, index, charge))
-    folds = [_foldable(readable(nurse), charged[nurse], items[nurse]) for nurse in view.nurses if nurse in charged]
+    folds = [
+        _foldable(readable(nurse), charged[nurse], items[nurse])
+        for nurse in view.nurses
+        if nurse in charged
+    ]
     if None in charged:
         folds.append(_foldable("Places with fewer nurses than best", charged[None], items[None]))
     free = [readable(nurse) for nurse in view.nurses if nurse not in charged]
@@ -167,12 +182,25 @@ def charges_section(page: Content) -> Markup:
 
 def _details(page: Content) -> List[Markup]:
     """The sections below the roster. In print the first of them begins a page."""
-    changed, counted, wished, parts = changes_table(page), totals_table(page), wishes_table(page), []
+    changed, counted, wished, parts = (
+        changes_table(page),
+        totals_table(page),
+        wishes_table(page),
+        [],
+    )
     if page.old:
         nothing = element("p", f"Nothing is {page.changed}.")
         parts.append(section("Changes", changed or nothing, class_="changes sheet"))
     if counted:
-        parts.append(section("Totals", counted, sums_table(page) or "", wished or "", class_=None if page.old else "sheet"))
+        parts.append(
+            section(
+                "Totals",
+                counted,
+                sums_table(page) or "",
+                wished or "",
+                class_=None if page.old else "sheet",
+            )
+        )
     covered = list(coverage_tables(page))
     if covered:
         parts.append(section("Coverage", *covered))
@@ -184,7 +212,10 @@ def _details(page: Content) -> List[Markup]:
 def page_text(page: Content) -> str:
     """The page: well-formed XML, and HTML."""
     parts = [_roster(page), *([] if page.only_table else _details(page))]
-    meta = [element("meta", charset="utf-8"), element("meta", name="viewport", content="width=device-width")]
+    meta = [
+        element("meta", charset="utf-8"),
+        element("meta", name="viewport", content="width=device-width"),
+    ]
     if page.plan:
         meta.append(element("meta", name="plan", content=page.plan))
     head = element("head", *meta, element("title", title(page)), element("style", page_style()))

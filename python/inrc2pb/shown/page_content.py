@@ -69,7 +69,9 @@ class Content:
     def marks(self, week: int, nurse: str, day: int, marks: str) -> str:
         """Those marks of a nurse's shift that the page shows. One that is promised has a sign for that."""
         shown_marks = (mark for mark in marks if mark == AWAY or not self.only_table)
-        return "".join(mark for mark in shown_marks if mark != HELD or not self.is_promised(week, nurse, day))
+        return "".join(
+            mark for mark in shown_marks if mark != HELD or not self.is_promised(week, nurse, day)
+        )
 
     @property
     def changed(self) -> str:
@@ -82,11 +84,22 @@ class Content:
         return changes(self.old, self.view) if self.old else []
 
 
-def table(caption: str, heads: Sequence[Markup], rows: Sequence[Sequence[Markup]], class_: Optional[str] = None) -> Markup:
+def table(
+    caption: str,
+    heads: Sequence[Markup],
+    rows: Sequence[Sequence[Markup]],
+    class_: Optional[str] = None,
+) -> Markup:
     """A table with its caption, the rows of its head and its rows."""
     head = joined(*(element("tr", row) for row in heads))
     body = joined(*(Markup(f"{element('tr', *row)}\n") for row in rows))
-    return element("table", element("caption", caption), element("thead", head), element("tbody", body), class_=class_)
+    return element(
+        "table",
+        element("caption", caption),
+        element("thead", head),
+        element("tbody", body),
+        class_=class_,
+    )
 
 
 def column(text: str, class_: Optional[str] = None) -> Markup:
@@ -115,8 +128,19 @@ def day_heads(page: Content, weeks: Sequence[int], corner: str) -> List[Markup]:
     for week in weeks:
         for day, name in enumerate(page.days(week)):
             word, _, date = name.partition(" ")
-            sign = [joined(shown(HOLIDAY, class_="mark"), hidden(f", {HOLIDAY_MEANING}"))] if page.is_holiday(week, day) else []
-            days.append(column(joined(word, *sign, *([element("span", f" {date}", class_="date")] if date else [])), weekend_class(day)))
+            sign = (
+                [joined(shown(HOLIDAY, class_="mark"), hidden(f", {HOLIDAY_MEANING}"))]
+                if page.is_holiday(week, day)
+                else []
+            )
+            days.append(
+                column(
+                    joined(
+                        word, *sign, *([element("span", f" {date}", class_="date")] if date else [])
+                    ),
+                    weekend_class(day),
+                )
+            )
     row = joined(column(corner), *days)
     if len(page.view.weeks) == 1:
         return [row]

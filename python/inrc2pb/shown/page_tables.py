@@ -31,7 +31,14 @@ def totals_table(page: Content) -> Optional[Markup]:
         return None
     is_last = any(week.week and week.week.is_last for week in view.weeks[-1:])
     some_away = any(total.away for total in by_nurse.values())
-    heads = ["nurse", "shifts", *(["of them for days away"] if some_away else []), "contract", "difference", *map(readable, view.shifts)]
+    heads = [
+        "nurse",
+        "shifts",
+        *(["of them for days away"] if some_away else []),
+        "contract",
+        "difference",
+        *map(readable, view.shifts),
+    ]
     heads += ["weekends", "at most", "wishes", "granted", "missed"]
     rows = []
     for nurse, total in by_nurse.items():
@@ -43,8 +50,15 @@ def totals_table(page: Content) -> Optional[Markup]:
             _left(total, is_last),
             *map(str, total.by_shift.values()),
         ]
-        numbers += [f"{total.weekends}{f' ({over} too many)' if over > 0 else ''}", str(total.max_weekends)]
-        numbers += [str(len(total.wishes)), str(total.granted), str(len(total.wishes) - total.granted)]
+        numbers += [
+            f"{total.weekends}{f' ({over} too many)' if over > 0 else ''}",
+            str(total.max_weekends),
+        ]
+        numbers += [
+            str(len(total.wishes)),
+            str(total.granted),
+            str(len(total.wishes) - total.granted),
+        ]
         if view.has_costs:
             numbers.append(str(sum(view.costs[nurse].values())))
         rows.append([first(readable(nurse)), *(element("td", number) for number in numbers)])
@@ -60,10 +74,19 @@ def sums_table(page: Content) -> Optional[Markup]:
     has_times, groups = bool(page.times), [page.sums, *([page.all_sums] if page.all_sums else [])]
     heads = sum_heads(has_times)
     names = ["this period", "all periods"][: len(groups)]
-    above = joined(element("td"), *(element("th", name, scope="colgroup", colspan=str(len(heads))) for name in names))
+    above = joined(
+        element("td"),
+        *(element("th", name, scope="colgroup", colspan=str(len(heads))) for name in names),
+    )
     head = joined(column("nurse"), *(column(name) for _ in groups for name in heads))
-    numbers = {nurse: [number for sums in groups for number in sums.get(nurse, Sums()).texts(has_times)] for nurse in page.view.nurses}
-    rows = [[first(readable(nurse)), *(element("td", number) for number in of_nurse)] for nurse, of_nurse in numbers.items()]
+    numbers = {
+        nurse: [number for sums in groups for number in sums.get(nurse, Sums()).texts(has_times)]
+        for nurse in page.view.nurses
+    }
+    rows = [
+        [first(readable(nurse)), *(element("td", number) for number in of_nurse)]
+        for nurse, of_nurse in numbers.items()
+    ]
     return table("Shifts, nights, weekends and wishes of each nurse", [above, head], rows, "totals")
 
 
@@ -79,19 +102,32 @@ def wishes_table(page: Content) -> Optional[Markup]:
     rows = []
     for nurse, total in (totals(page.view) or {}).items():
         if total.wishes:
-            texts = [", ".join(_wish(page, wish) for wish in total.wishes if wish.granted == granted) for granted in (True, False)]
+            texts = [
+                ", ".join(_wish(page, wish) for wish in total.wishes if wish.granted == granted)
+                for granted in (True, False)
+            ]
             rows.append([first(readable(nurse)), *(element("td", text) for text in texts)])
-    return table("Wishes", [joined(*map(column, ("nurse", "granted", "missed")))], rows, "words") if rows else None
+    return (
+        table("Wishes", [joined(*map(column, ("nurse", "granted", "missed")))], rows, "words")
+        if rows
+        else None
+    )
 
 
 def changes_table(page: Content) -> Optional[Markup]:
     """The changes since the older roster."""
     rows = []
     for change in page.changes:
-        texts = page.days(change.week)[change.day], readable(change.before_text), readable(change.now_text)
+        texts = (
+            page.days(change.week)[change.day],
+            readable(change.before_text),
+            readable(change.now_text),
+        )
         rows.append([first(readable(change.nurse)), *(element("td", text) for text in texts)])
     heads = joined(*map(column, ("nurse", "day", "before", "now")))
-    return table(f"{len(rows)} changes since {page.since}", [heads], rows, "words") if rows else None
+    return (
+        table(f"{len(rows)} changes since {page.since}", [heads], rows, "words") if rows else None
+    )
 
 
 # ---- coverage
@@ -112,7 +148,14 @@ def _covered(place: Covered, day: int) -> Markup:
     if sign:
         parts.append(joined(" ", shown(sign, class_="mark"), hidden(words)))
     if range_:
-        parts.append(joined(" ", element("small", shown(range_), hidden(f"minimum {place.minimum}, best {place.optimal}"))))
+        parts.append(
+            joined(
+                " ",
+                element(
+                    "small", shown(range_), hidden(f"minimum {place.minimum}, best {place.optimal}")
+                ),
+            )
+        )
     return element("td", *parts, class_=" ".join(kind for kind in kinds if kind) or None)
 
 
@@ -126,7 +169,11 @@ def coverage_tables(page: Content) -> Iterator[Markup]:
                 places.setdefault((shift, skill), {})[week] = days
         rows = [
             [first(readable(f"{shift} {skill}"))]
-            + [_covered(place, day) for week in weeks for day, place in enumerate(covered.get(week, [Covered(0, 0, 0)] * 7))]
+            + [
+                _covered(place, day)
+                for week in weeks
+                for day, place in enumerate(covered.get(week, [Covered(0, 0, 0)] * 7))
+            ]
             for (shift, skill), covered in places.items()
         ]
         if rows:

@@ -48,7 +48,9 @@ def _seconds_of(log: Path) -> Dict[str, float]:
     """The seconds of each job by its number, in a file of `parallel --joblog`."""
     head, *lines = [line.split("\t") for line in text_of(log).splitlines()] or [[""]]
     if head[:1] != ["Seq"]:
-        raise Misuse(f"{log} is no log of parallel: give the file that its option --joblog has written")
+        raise Misuse(
+            f"{log} is no log of parallel: give the file that its option --joblog has written"
+        )
     try:
         return {words[0]: float(words[3]) for words in lines}
     except (IndexError, ValueError):
@@ -61,18 +63,40 @@ def table(results: Iterable[Result]) -> List[str]:
     rows = [_HEAD, *map(_row, known)]
     widths = [max(map(len, column)) for column in zip(*rows)]
     lines = [
-        "  ".join([row[0].ljust(widths[0]), *(cell.rjust(width) for cell, width in zip(row[1:], widths[1:]))]).rstrip() for row in rows
+        "  ".join(
+            [
+                row[0].ljust(widths[0]),
+                *(cell.rjust(width) for cell, width in zip(row[1:], widths[1:])),
+            ]
+        ).rstrip()
+        for row in rows
     ]
     solved = [result for result in known if result.penalty is not None]
     sums = f"penalty {sum(result.penalty or 0 for result in solved)} in all"
     proved = sum(result.is_proved for result in solved)
-    return [*lines, f"reports: {len(known)}; with a roster: {len(solved)}, proved the best: {proved}; {sums}"]
+    return [
+        *lines,
+        f"reports: {len(known)}; with a roster: {len(solved)}, proved the best: {proved}; {sums}",
+    ]
 
 
 def _row(result: Result) -> Sequence[str]:
     gap = "-"
     if result.penalty is not None and result.bound is not None:
-        gap = f"{100 * max(0, result.penalty - result.bound) / result.penalty:.1f}" if result.penalty else "0.0"
-    penalty, bound = ("-" if number is None else str(number) for number in (result.penalty, result.bound))
+        gap = (
+            f"{100 * max(0, result.penalty - result.bound) / result.penalty:.1f}"
+            if result.penalty
+            else "0.0"
+        )
+    penalty, bound = (
+        "-" if number is None else str(number) for number in (result.penalty, result.bound)
+    )
     best = "proved" if result.is_proved else "no" if result.penalty is not None else "no roster"
-    return printable(result.name), penalty, bound, gap, best, "-" if result.seconds is None else f"{result.seconds:.1f}"
+    return (
+        printable(result.name),
+        penalty,
+        bound,
+        gap,
+        best,
+        "-" if result.seconds is None else f"{result.seconds:.1f}",
+    )

@@ -48,33 +48,70 @@ def read_view(files: RosterFiles) -> RosterView:
     views = []
     for index, (solution, fix) in enumerate(zip(solutions, fixes)):
         held = read_solution(fix, scenario, texts[fix]).cells if fix else ()
-        data = with_given(scenario, datas[index], claims, numbers[index]) if scenario and datas else None
+        data = (
+            with_given(scenario, datas[index], claims, numbers[index])
+            if scenario and datas
+            else None
+        )
         week = Week(scenario, histories[index], data) if scenario and histories and data else None
         number = histories[index].week if week else solution.week
-        of_week = {(away.nurse, away.day): word for away, word in reasons.items() if away.week == number + 1}
-        views.append(WeekView(number, solution.cells, data, week=week, held=held, early=files.early, reasons=of_week))
+        of_week = {
+            (away.nurse, away.day): word
+            for away, word in reasons.items()
+            if away.week == number + 1
+        }
+        views.append(
+            WeekView(
+                number,
+                solution.cells,
+                data,
+                week=week,
+                held=held,
+                early=files.early,
+                reasons=of_week,
+            )
+        )
     if scenario:
-        warnings = [*_other_weeks(files.rosters, texts, scenario, histories), *_other_weeks(fixes, texts, scenario, histories)]
+        warnings = [
+            *_other_weeks(files.rosters, texts, scenario, histories),
+            *_other_weeks(fixes, texts, scenario, histories),
+        ]
         return RosterView(
-            scenario.name, list(scenario.nurses), list(scenario.shift_types), skills=list(scenario.skills), weeks=views, warnings=warnings
+            scenario.name,
+            list(scenario.nurses),
+            list(scenario.shift_types),
+            skills=list(scenario.skills),
+            weeks=views,
+            warnings=warnings,
         )
     shown = [cell for view in views for cell in view.cells]
-    nurses, shifts, skills = (row.nurse for row in shown), (row.shift for row in shown), (row.skill for row in shown)
-    return RosterView(solutions[0].scenario, _each_once(nurses), _each_once(shifts), _each_once(skills), views)
+    nurses, shifts, skills = (
+        (row.nurse for row in shown),
+        (row.shift for row in shown),
+        (row.skill for row in shown),
+    )
+    return RosterView(
+        solutions[0].scenario, _each_once(nurses), _each_once(shifts), _each_once(skills), views
+    )
 
 
 def read_old(files: RosterFiles, rosters: Sequence[Path]) -> RosterView:
     """Reads the older rosters of the same weeks and ward. Raises Misuse if they are of others."""
     if len(rosters) != len(files.rosters):
         raise Misuse(
-            f"--old has {plural(len(rosters), 'file')} for {plural(len(files.rosters), 'roster')}: " "give one for each, in their order"
+            f"--old has {plural(len(rosters), 'file')} for {plural(len(files.rosters), 'roster')}: "
+            "give one for each, in their order"
         )
     for old, new in zip(rosters, files.rosters):
         before, now = (read_solution(path, None) for path in (old, new))
         if before.scenario != now.scenario:
-            raise Misuse(f"{old} is a roster of '{before.scenario}', and {new} of '{now.scenario}': give two rosters of one ward")
+            raise Misuse(
+                f"{old} is a roster of '{before.scenario}', and {new} of '{now.scenario}': give two rosters of one ward"
+            )
         if before.week != now.week:
-            raise Misuse(f"{old} is a roster of week {before.week}, and {new} of week {now.week}: give two rosters of one week")
+            raise Misuse(
+                f"{old} is a roster of week {before.week}, and {new} of week {now.week}: give two rosters of one week"
+            )
     return replace(read_view(replace(files, rosters=rosters)), warnings=())
 
 
@@ -87,21 +124,27 @@ def _check_numbers(files: RosterFiles) -> None:
     """Each roster has its files, or none does."""
     count = len(files.rosters)
     if len(files.weeks) not in (0, count):
-        raise Misuse(f"--week has {plural(len(files.weeks), 'file')} for {plural(count, 'roster')}: give one for each, in their order")
+        raise Misuse(
+            f"--week has {plural(len(files.weeks), 'file')} for {plural(count, 'roster')}: give one for each, in their order"
+        )
     if len(files.histories) not in (0, 1, count):
         raise Misuse(
             f"--his has {plural(len(files.histories), 'file')} for {plural(count, 'roster')}: "
             "give the first week's, or each week's in order"
         )
     if (files.given or files.reasons) and not files.weeks:
-        raise Misuse(f"{'--given' if files.given else '--reasons'} needs --sce and --week: give them too")
+        raise Misuse(
+            f"{'--given' if files.given else '--reasons'} needs --sce and --week: give them too"
+        )
     if files.weeks and not files.scenario:
         raise Misuse("--week needs --sce: give the scenario too")
     if files.histories and not (files.scenario and files.weeks):
         raise Misuse("--his needs --sce and --week: give all three for the costs")
 
 
-def _histories(files: RosterFiles, scenario: Scenario, solutions: Sequence[Solution]) -> List[History]:
+def _histories(
+    files: RosterFiles, scenario: Scenario, solutions: Sequence[Solution]
+) -> List[History]:
     """The history of each week: as given, or computed from the first one and the rosters."""
     histories = [read_history(path, scenario) for path in files.histories]
     for path, history in zip(files.histories, histories):
@@ -120,10 +163,17 @@ def _histories(files: RosterFiles, scenario: Scenario, solutions: Sequence[Solut
 
 
 def _other_weeks(
-    paths: Sequence[Optional[Path]], texts: Dict[Path, str], scenario: Scenario, histories: Sequence[History]
+    paths: Sequence[Optional[Path]],
+    texts: Dict[Path, str],
+    scenario: Scenario,
+    histories: Sequence[History],
 ) -> Iterator[str]:
     """A warning for each file, one of each week, that is of another ward or week than it is shown with."""
     for index, path in enumerate(paths):
-        other = other_week(path, scenario, histories[index] if histories else None, texts[path]) if path else ""
+        other = (
+            other_week(path, scenario, histories[index] if histories else None, texts[path])
+            if path
+            else ""
+        )
         if other:
             yield f"{path}: {other}"

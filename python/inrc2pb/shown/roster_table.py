@@ -5,7 +5,17 @@ from typing import Dict, Iterator, List, Mapping, Sequence
 from ..week.words import OFF, readable
 from .changes import shifts_text
 from .markup import Markup, element, hidden, joined, shown
-from .page_content import HOLIDAY, HOLIDAY_MEANING, Content, column, day_heads, first, groups_of_weeks, table, weekend_class
+from .page_content import (
+    HOLIDAY,
+    HOLIDAY_MEANING,
+    Content,
+    column,
+    day_heads,
+    first,
+    groups_of_weeks,
+    table,
+    weekend_class,
+)
 from .roster_text import COLORS, cuts
 from .roster_view import MEANINGS, ShownCell
 from .totals import sum_heads, worked
@@ -19,7 +29,13 @@ CHANGED = "\u0394"
 _DAYS_OFF = (OFF, "promised")
 WEEKENDS = "WE"
 # The short heads of sums on a wall, and what they mean.
-SUM_HEADS = {"shifts": "\u03a3", "hours": "h", "nights": "N", "weekends": WEEKENDS, "wishes granted": "W"}
+SUM_HEADS = {
+    "shifts": "\u03a3",
+    "hours": "h",
+    "nights": "N",
+    "weekends": WEEKENDS,
+    "wishes granted": "W",
+}
 MEANINGS_OF_SUMS = {
     "shifts": "shifts in the period",
     "hours": "hours",
@@ -67,27 +83,43 @@ class RosterTable:
                 summed = element("th", text, scope="colgroup", colspan=str(len(self._sums())))
                 above = [joined(head, summed) for head in above]
                 days = joined(days, *(column(name, "sum") for name in self._sums()))
-            room = " roomy" if self.page.only_table and len(groups) == 1 and len(rows) <= MOST_ROOMY else ""
-            yield table("Shifts of each nurse", [*above, days], rows, ("roster" if self.single else "roster many") + room)
+            room = (
+                " roomy"
+                if self.page.only_table and len(groups) == 1 and len(rows) <= MOST_ROOMY
+                else ""
+            )
+            yield table(
+                "Shifts of each nurse",
+                [*above, days],
+                rows,
+                ("roster" if self.single else "roster many") + room,
+            )
 
     def _sums(self) -> List[str]:
         """The heads of the columns with sums: short ones of those of the period, or names of shift types, as in the cells, and that of
         weekends."""
         if self.page.sums:
             return [SUM_HEADS[head] for head in sum_heads(bool(self.page.times))]
-        return [*(readable(shift) if self.single else self.short[shift] for shift in self.view.shifts), WEEKENDS]
+        return [
+            *(readable(shift) if self.single else self.short[shift] for shift in self.view.shifts),
+            WEEKENDS,
+        ]
 
     def _counts(self) -> Mapping[str, Sequence[str]]:
         """The sums of each nurse."""
         if self.page.sums:
-            return {nurse: sums.texts(bool(self.page.times)) for nurse, sums in self.page.sums.items()}
+            return {
+                nurse: sums.texts(bool(self.page.times)) for nurse, sums in self.page.sums.items()
+            }
         return {nurse: list(map(str, numbers)) for nurse, numbers in worked(self.view).items()}
 
     def _name(self, nurse: str, week: int) -> Markup:
         """The head of a nurse's row. By keyboard one goes from name to name, and not from cell to cell."""
         if not self.page.link:
             return first(readable(nurse))
-        return element("th", element("a", readable(nurse), href=self.page.link(week, nurse, 0)), scope="row")
+        return element(
+            "th", element("a", readable(nurse), href=self.page.link(week, nurse, 0)), scope="row"
+        )
 
     def _cell(self, week: int, nurse: str, day: int) -> Markup:
         cells = self.view.cells(week, nurse, day)
@@ -111,7 +143,15 @@ class RosterTable:
         kinds = [weekend_class(day), f"s{number}" if cells else None, "changed" if change else None]
         if self.page.link:
             named = hidden(f"{readable(nurse)}, {self.page.days(week)[day]}: ")
-            parts = [element("a", named, *(parts or [shown("\u00b7")]), href=self.page.link(week, nurse, day), tabindex="-1")]
+            parts = [
+                element(
+                    "a",
+                    named,
+                    *(parts or [shown("\u00b7")]),
+                    href=self.page.link(week, nurse, day),
+                    tabindex="-1",
+                )
+            ]
         return element("td", *parts, class_=" ".join(kind for kind in kinds if kind) or None)
 
     def _why(self, week: int, nurse: str, day: int) -> str:
@@ -124,7 +164,9 @@ class RosterTable:
     def _shift(self, cell: ShownCell, marks: str) -> Markup:
         """A shift, and its skill, with these marks."""
         shift, skill = readable(cell.shift), readable(cell.skill)
-        signs = [joined(shown(mark, class_="mark"), hidden(f", {MEANINGS[mark]}")) for mark in marks]
+        signs = [
+            joined(shown(mark, class_="mark"), hidden(f", {MEANINGS[mark]}")) for mark in marks
+        ]
         if self.single:
             return joined(element("b", shift), " ", element("small", skill), *signs)
         short = element("b", self.short[cell.shift])
@@ -141,11 +183,27 @@ class RosterTable:
             if short or times:
                 lines.append(f"{short}{readable(shift)}{times}")
         if not self.single and len(self.skills) > 1:
-            lines += [f"{short} = {readable(skill)}" for skill, short in self.skills.items() if short != skill]
-        rows = [(number, row, week.marks(row)) for number, week in enumerate(self.view.weeks) for row in week.cells]
-        marks = {mark for week, row, some in rows for mark in self.page.marks(week, row.nurse, row.day, some)}
+            lines += [
+                f"{short} = {readable(skill)}"
+                for skill, short in self.skills.items()
+                if short != skill
+            ]
+        rows = [
+            (number, row, week.marks(row))
+            for number, week in enumerate(self.view.weeks)
+            for row in week.cells
+        ]
+        marks = {
+            mark
+            for week, row, some in rows
+            for mark in self.page.marks(week, row.nurse, row.day, some)
+        }
         meanings = {**MEANINGS, CHANGED: self.page.changed}
-        lines += [f"{mark} = {meaning}" for mark, meaning in meanings.items() if mark in marks or mark == CHANGED and self.changed]
+        lines += [
+            f"{mark} = {meaning}"
+            for mark, meaning in meanings.items()
+            if mark in marks or mark == CHANGED and self.changed
+        ]
         if any(self.page.is_swapped(*place) for place in self.page.swapped):
             lines.append(f"{SWAPPED} = {SWAPPED_MEANING}")
         if self.page.promised:
@@ -153,5 +211,8 @@ class RosterTable:
         if self.page.holidays:
             lines.append(f"{HOLIDAY} = {HOLIDAY_MEANING}")
         if self.page.only_table and self.page.sums:
-            return lines + [f"{SUM_HEADS[head]} = {MEANINGS_OF_SUMS[head]}" for head in sum_heads(bool(self.page.times))]
+            return lines + [
+                f"{SUM_HEADS[head]} = {MEANINGS_OF_SUMS[head]}"
+                for head in sum_heads(bool(self.page.times))
+            ]
         return lines + ([f"{WEEKENDS} = weekends with work"] if self.page.only_table else [])

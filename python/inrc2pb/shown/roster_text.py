@@ -19,13 +19,22 @@ AWAY = "-"
 def ink_on(color: str) -> str:
     """Black or white, whichever has the greater contrast with the color (by its luminance, as WCAG defines it)."""
     parts = [int(color[index : index + 2], 16) / 255 for index in (1, 3, 5)]
-    red, green, blue = (part / 12.92 if part <= 0.04045 else ((part + 0.055) / 1.055) ** 2.4 for part in parts)
+    red, green, blue = (
+        part / 12.92 if part <= 0.04045 else ((part + 0.055) / 1.055) ** 2.4 for part in parts
+    )
     return "#000000" if 0.2126 * red + 0.7152 * green + 0.0722 * blue > 0.179 else "#ffffff"
 
 
 def columns(text: str) -> int:
     """The columns that a text takes: a full-width letter, as of Chinese, takes two, and an accent of its own none."""
-    return sum(0 if unicodedata.combining(letter) else 2 if unicodedata.east_asian_width(letter) in "WF" else 1 for letter in text)
+    return sum(
+        0
+        if unicodedata.combining(letter)
+        else 2
+        if unicodedata.east_asian_width(letter) in "WF"
+        else 1
+        for letter in text
+    )
 
 
 def _filled(text: str, width: int) -> str:
@@ -43,7 +52,9 @@ def cuts(names: Sequence[str], minimum: int) -> Dict[str, str]:
 
 def abbreviations(*shortened: Dict[str, str]) -> List[str]:
     """A line with the meaning of each name that was cut, if one was."""
-    cut = dict.fromkeys(f"{short} = {name}" for names in shortened for name, short in names.items() if short != name)
+    cut = dict.fromkeys(
+        f"{short} = {name}" for names in shortened for name, short in names.items() if short != name
+    )
     return ["  ".join(cut)] if cut else []
 
 
@@ -69,7 +80,12 @@ class TextTable:
         self.shifts = self._cuts(view.shifts, 5 if self.single else 1)
         self.skills = self._cuts(view.skills, 2)
         self.gap = "  " if self.single else " "
-        cells = [self.text(week, nurse, day) for week in range(len(view.weeks)) for nurse in view.nurses for day in range(7)]
+        cells = [
+            self.text(week, nurse, day)
+            for week in range(len(view.weeks))
+            for nurse in view.nurses
+            for day in range(7)
+        ]
         self.width = max([3 if self.single else 2, *map(columns, cells)])
         self.has_away = AWAY in cells
         self.first = max([columns(name) for name in self.nurses.values()], default=0)
@@ -90,11 +106,22 @@ class TextTable:
             of_types = [list(map(str, total.by_shift.values())) for total in counted.values()]
             table = [list(self.types.values()), *of_types]
             wide = [max(map(columns, column)) for column in zip(*table)]
-            rows.append([" ".join(_filled(text, width) for text, width in zip(row, wide)) for row in table])
-            rows += [[head, *texts] for head, *texts in zip(HEADS, *(total.texts() for total in counted.values()))]
+            rows.append(
+                [" ".join(_filled(text, width) for text, width in zip(row, wide)) for row in table]
+            )
+            rows += [
+                [head, *texts]
+                for head, *texts in zip(HEADS, *(total.texts() for total in counted.values()))
+            ]
         if self.view.has_costs:
             rows.append(
-                ["cost", *(f"{sum(self.view.costs[nurse].values()):4}  {costs_text(self.view.costs[nurse])}" for nurse in self.view.nurses)]
+                [
+                    "cost",
+                    *(
+                        f"{sum(self.view.costs[nurse].values()):4}  {costs_text(self.view.costs[nurse])}"
+                        for nurse in self.view.nurses
+                    ),
+                ]
             )
         return [[_filled(text, max(map(columns, column))) for text in column] for column in rows]
 
@@ -104,13 +131,23 @@ class TextTable:
         if not cells and self.view.is_away(week, nurse, day):
             return self._harmless(self.view.reason(week, nurse, day)) if self.single else AWAY
         skills = [f" {self.skills[cell.skill]}" if self.single else "" for cell in cells]
-        return "+".join(f"{self.shifts[cell.shift]}{skill}{cell.marks}" for cell, skill in zip(cells, skills)) or "."
+        return (
+            "+".join(
+                f"{self.shifts[cell.shift]}{skill}{cell.marks}"
+                for cell, skill in zip(cells, skills)
+            )
+            or "."
+        )
 
     def shown(self, week: int, nurse: str, day: int) -> str:
         """The same in its column."""
         cells = self.view.cells(week, nurse, day)
         padded = _filled(self.text(week, nurse, day), self.width)
-        return in_color(padded, self.view.shifts.index(cells[0].shift)) if self.colored and cells else padded
+        return (
+            in_color(padded, self.view.shifts.index(cells[0].shift))
+            if self.colored and cells
+            else padded
+        )
 
     def head(self) -> List[str]:
         """The title, and the names of the columns."""
@@ -121,15 +158,34 @@ class TextTable:
             numbers = between.join(f"{week.name:{len(days)}}" for week in self.view.weeks)
             lines.append(f"{'':{self.first}}  {numbers}".rstrip())
         named = between.join([days] * len(self.view.weeks))
-        return [*lines, "  ".join([" " * self.first, named, *(column[0] for column in self.right)]).rstrip()]
+        return [
+            *lines,
+            "  ".join([" " * self.first, named, *(column[0] for column in self.right)]).rstrip(),
+        ]
 
     def lines(self) -> List[str]:
         """The whole table."""
         view, lines = self.view, list(map(self._harmless, self.head()))
         for row, (nurse, name) in enumerate(self.nurses.items(), 1):
-            weeks = [_with_weekend_apart([self.shown(week, nurse, day) for day in range(7)], self.gap) for week in range(len(view.weeks))]
-            lines.append("  ".join([_filled(name, self.first), "  ||  ".join(weeks), *(column[row] for column in self.right)]).rstrip())
-        names = [self.nurses, self.shifts, self.skills if self.single else {}, self.types if self.right else {}]
+            weeks = [
+                _with_weekend_apart([self.shown(week, nurse, day) for day in range(7)], self.gap)
+                for week in range(len(view.weeks))
+            ]
+            lines.append(
+                "  ".join(
+                    [
+                        _filled(name, self.first),
+                        "  ||  ".join(weeks),
+                        *(column[row] for column in self.right),
+                    ]
+                ).rstrip()
+            )
+        names = [
+            self.nurses,
+            self.shifts,
+            self.skills if self.single else {},
+            self.types if self.right else {},
+        ]
         below = abbreviations(*names)
         if totals(view):
             below.append(LEGEND)
@@ -143,11 +199,29 @@ def spreadsheet(view: RosterView) -> Iterator[List[object]]:
     """Rows of a spreadsheet: nurses by days, then the cost and the rules that charge it, then the totals."""
     single, counted = len(view.weeks) == 1, totals(view)
     days = [day if single else f"{week.name} {day}" for week in view.weeks for day in DAYS]
-    heads = ["shifts", "minimum", "maximum", "weekends", "most weekends", "wishes", "granted", *view.shifts] if counted else []
+    heads = (
+        [
+            "shifts",
+            "minimum",
+            "maximum",
+            "weekends",
+            "most weekends",
+            "wishes",
+            "granted",
+            *view.shifts,
+        ]
+        if counted
+        else []
+    )
     yield ["nurse", *days, *(["cost", "rules"] if view.has_costs else []), *heads]
     for nurse in view.nurses:
-        of_days = [view.cells(week, nurse, day) for week in range(len(view.weeks)) for day in range(7)]
-        shown = [" + ".join(" ".join([cell.shift, cell.skill, *cell.marks]) for cell in cells) for cells in of_days]
+        of_days = [
+            view.cells(week, nurse, day) for week in range(len(view.weeks)) for day in range(7)
+        ]
+        shown = [
+            " + ".join(" ".join([cell.shift, cell.skill, *cell.marks]) for cell in cells)
+            for cells in of_days
+        ]
         row: List[object] = [nurse, *shown]
         if view.has_costs:
             row += [sum(view.costs[nurse].values()), costs_text(view.costs[nurse])]

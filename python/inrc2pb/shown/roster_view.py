@@ -3,7 +3,19 @@
 import itertools
 from dataclasses import dataclass, field
 from functools import cached_property
-from typing import Callable, Dict, FrozenSet, Iterable, Iterator, List, Mapping, NamedTuple, Optional, Sequence, Tuple
+from typing import (
+    Callable,
+    Dict,
+    FrozenSet,
+    Iterable,
+    Iterator,
+    List,
+    Mapping,
+    NamedTuple,
+    Optional,
+    Sequence,
+    Tuple,
+)
 
 from ..judging import rules
 from ..judging.absences import absences_of, is_broken_by
@@ -67,10 +79,18 @@ class WeekView:
     @cached_property
     def _asked(self) -> FrozenSet[object]:
         """The nurses, days and shift types of the requests; None is any shift type."""
-        return frozenset((request.nurse, request.day, request.shift) for request in self.data.requests) if self.data else frozenset()
+        return (
+            frozenset((request.nurse, request.day, request.shift) for request in self.data.requests)
+            if self.data
+            else frozenset()
+        )
 
     def _is_refused(self, cell: Cell) -> bool:
-        return (cell.nurse, cell.day, cell.shift) in self._asked or (cell.nurse, cell.day, None) in self._asked
+        return (cell.nurse, cell.day, cell.shift) in self._asked or (
+            cell.nurse,
+            cell.day,
+            None,
+        ) in self._asked
 
     @cached_property
     def breaches(self) -> List[Breach]:
@@ -80,19 +100,30 @@ class WeekView:
     @cached_property
     def charges(self) -> Optional[List[rules.Charge]]:
         """What the soft rules charge; None if the week's files are not known, or the roster breaks a hard rule."""
-        return list(rules.charges(self.week, self.cells, self.early)) if self.week and not self.breaches else None
+        return (
+            list(rules.charges(self.week, self.cells, self.early))
+            if self.week and not self.breaches
+            else None
+        )
 
     @cached_property
     def above(self) -> List[rules.Charge]:
         """What the roster has above limits that hold, if the week's files are known."""
-        return exceeded(self.week, self.week.data.limits, self.cells) if self.week and not self.breaches else []
+        return (
+            exceeded(self.week, self.week.data.limits, self.cells)
+            if self.week and not self.breaches
+            else []
+        )
 
     def for_absence(self, charge: rules.Charge) -> int:
         """The part of a charge that is for absences: days off above the maximum in a row, while the nurse is away."""
         if (charge.rule, charge.what) != ("S3", "off above") or not charge.days:
             return 0
         first, last = charge.days
-        away = sum(Absence(charge.nurse or "", day, None) in self.absences for day in range(first, last + 1))
+        away = sum(
+            Absence(charge.nurse or "", day, None) in self.absences
+            for day in range(first, last + 1)
+        )
         return charge.weight * min(charge.times, away)
 
     @property
@@ -104,20 +135,33 @@ class WeekView:
     def notes(self) -> List[str]:
         """Lines on held rows that are missing, and on the cost."""
         cells = set(self.cells)
-        lines = [f"held, and not in the roster: {cell.row()}" for cell in self.held if cell not in cells]
+        lines = [
+            f"held, and not in the roster: {cell.row()}" for cell in self.held if cell not in cells
+        ]
         if self.breaches:
             lines.append(f"roster breaks {self.breaches[0].rule}: it has no penalty")
         if self.charges is not None:
             places = sum(charge.cost for charge in self.charges if charge.nurse is None)
-            whole, away = sum(charge.cost for charge in self.charges), sum(map(self.for_absence, self.charges))
+            whole, away = sum(charge.cost for charge in self.charges), sum(
+                map(self.for_absence, self.charges)
+            )
             absent = f", {away} of it for absences" if away else ""
-            lines.append(f"cost: of the nurses {whole - places}{absent}, of places not filled (S1) {places}; penalty {whole}")
-        return lines + [f"above a limit that holds: {limits_in_words([charge], self.cells)}" for charge in self.above]
+            lines.append(
+                f"cost: of the nurses {whole - places}{absent}, of places not filled (S1) {places}; penalty {whole}"
+            )
+        return lines + [
+            f"above a limit that holds: {limits_in_words([charge], self.cells)}"
+            for charge in self.above
+        ]
 
     @property
     def misfilled(self) -> List[str]:
         """A line for each day with places that have too few nurses, and then for each with too many."""
-        return [*missing_nurses(self.week, self.cells), *spare_nurses(self.week, self.cells)] if self.week else []
+        return (
+            [*missing_nurses(self.week, self.cells), *spare_nurses(self.week, self.cells)]
+            if self.week
+            else []
+        )
 
 
 @dataclass
@@ -138,7 +182,9 @@ class RosterView:
         cells: Dict[object, List[ShownCell]] = {}
         for index, week in enumerate(self.weeks):
             for row in week.cells:
-                cells.setdefault((index, row.nurse, row.day), []).append(ShownCell(row.shift, row.skill, week.marks(row)))
+                cells.setdefault((index, row.nurse, row.day), []).append(
+                    ShownCell(row.shift, row.skill, week.marks(row))
+                )
         return cells
 
     @property
@@ -186,7 +232,10 @@ class RosterView:
         for charge in (charge for week in self.weeks for charge in week.charges or ()):
             if charge.nurse is not None:
                 paid[charge.nurse][charge.rule] += charge.cost
-        return {nurse: {rule: cost for rule, cost in by_rule.items() if cost} for nurse, by_rule in paid.items()}
+        return {
+            nurse: {rule: cost for rule, cost in by_rule.items() if cost}
+            for nurse, by_rule in paid.items()
+        }
 
     def legend(self) -> List[str]:
         """The meaning of the marks, and notes on the whole roster."""
@@ -240,7 +289,9 @@ def coverage(week: Week, cells: Iterable[Cell]) -> List[Tuple[str, str, List[Cov
     for shift, skill in itertools.product(week.scenario.shift_types, week.scenario.skills):
         places = [Place(day, shift, skill) for day in range(7)]
         needs = [week.data.requirements.get(place, Requirement(0, 0)) for place in places]
-        days = [Covered(number[place], need.minimum, need.optimal) for place, need in zip(places, needs)]
+        days = [
+            Covered(number[place], need.minimum, need.optimal) for place, need in zip(places, needs)
+        ]
         if any(any(day) for day in days):
             covered.append((shift, skill, days))
     return covered
@@ -254,7 +305,9 @@ def missing_nurses(week: Week, cells: Iterable[Cell]) -> Iterator[str]:
         for place, required in week.data.requirements.items():
             wanted = max(required.minimum, required.optimal)
             if place.day == day and number[place] < wanted:
-                minimum = f", at least {required.minimum}" if number[place] < required.minimum else ""
+                minimum = (
+                    f", at least {required.minimum}" if number[place] < required.minimum else ""
+                )
                 places.append(f"{place.shift} {place.skill} ({number[place]} of {wanted}{minimum})")
         if places:
             yield f"missing on {name}: {', '.join(places)}"

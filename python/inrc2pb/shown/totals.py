@@ -39,11 +39,17 @@ class Totals(NamedTuple):
     def texts(self) -> Tuple[str, str, str]:
         """The shifts, the weekends and the wishes with their limits, as `5/17-21`, `1/2` and `2/3`."""
         contract, wishes = f"{self.contract.minimum}-{self.contract.maximum}", len(self.wishes)
-        return f"{self.shifts}/{contract}", f"{self.weekends}/{self.max_weekends}", f"{self.granted}/{wishes}" if wishes else "-"
+        return (
+            f"{self.shifts}/{contract}",
+            f"{self.weekends}/{self.max_weekends}",
+            f"{self.granted}/{wishes}" if wishes else "-",
+        )
 
 
 HEADS = ("shifts", "weekends", "wishes")
-LEGEND = "shifts and weekends: in the period until now / the contract's limits; wishes: granted / all"
+LEGEND = (
+    "shifts and weekends: in the period until now / the contract's limits; wishes: granted / all"
+)
 
 
 def wishes_by_nurse(week: WeekView, index: int) -> Dict[str, List[Wish]]:
@@ -62,7 +68,9 @@ def totals(view: RosterView) -> Optional[Dict[str, Totals]]:
     if not last.week:
         return None
     wishes = [wishes_by_nurse(week, index) for index, week in enumerate(view.weeks)]
-    number = collections.Counter((row.nurse, row.shift) for week in view.weeks for row in week.cells)
+    number = collections.Counter(
+        (row.nurse, row.shift) for week in view.weeks for row in week.cells
+    )
     days: Dict[str, List[int]] = {}
     for row in last.cells:
         days.setdefault(row.nurse, []).append(row.day)
@@ -84,10 +92,20 @@ def totals(view: RosterView) -> Optional[Dict[str, Totals]]:
 
 def worked(view: RosterView) -> Dict[str, List[int]]:
     """The shifts of each type of each nurse in the weeks of a table, and her weekends with work."""
-    number = collections.Counter((row.nurse, row.shift) for week in view.weeks for row in week.cells)
-    weekends = {(index, row.nurse) for index, week in enumerate(view.weeks) for row in week.cells if row.day in (SATURDAY, SUNDAY)}
+    number = collections.Counter(
+        (row.nurse, row.shift) for week in view.weeks for row in week.cells
+    )
+    weekends = {
+        (index, row.nurse)
+        for index, week in enumerate(view.weeks)
+        for row in week.cells
+        if row.day in (SATURDAY, SUNDAY)
+    }
     on_weekends = collections.Counter(nurse for _, nurse in weekends)
-    return {nurse: [*(number[nurse, shift] for shift in view.shifts), on_weekends[nurse]] for nurse in view.nurses}
+    return {
+        nurse: [*(number[nurse, shift] for shift in view.shifts), on_weekends[nurse]]
+        for nurse in view.nurses
+    }
 
 
 class Sums(NamedTuple):
@@ -115,7 +133,13 @@ class Sums(NamedTuple):
     def texts(self, has_times: bool) -> List[str]:
         """The numbers as they stand in a table, hours rounded."""
         hours = [f"{self.hours / datetime.timedelta(hours=1):.0f}"] if has_times else []
-        return [str(self.shifts), *hours, str(self.nights), str(self.weekends), f"{self.granted}/{self.wishes}" if self.wishes else "-"]
+        return [
+            str(self.shifts),
+            *hours,
+            str(self.nights),
+            str(self.weekends),
+            f"{self.granted}/{self.wishes}" if self.wishes else "-",
+        ]
 
 
 def sum_heads(has_times: bool) -> List[str]:
@@ -124,7 +148,11 @@ def sum_heads(has_times: bool) -> List[str]:
 
 
 def sums_of(
-    nurses: Iterable[str], cells: Iterable[Cell], wishes: Iterable[Request], nights: Collection[str], times: Mapping[str, Times]
+    nurses: Iterable[str],
+    cells: Iterable[Cell],
+    wishes: Iterable[Request],
+    nights: Collection[str],
+    times: Mapping[str, Times],
 ) -> Dict[str, Sums]:
     """The sums of nurses with these shifts and wishes of a period, both with its days; `nights` has the shift types of the night."""
     rows: Dict[str, Dict[int, str]] = {nurse: {} for nurse in nurses}
@@ -138,10 +166,16 @@ def sums_of(
         mine = asked.get(nurse, [])
         sums[nurse] = Sums(
             shifts=len(row),
-            hours=sum((times[shift].length for shift in row.values() if shift in times), datetime.timedelta()),
+            hours=sum(
+                (times[shift].length for shift in row.values() if shift in times),
+                datetime.timedelta(),
+            ),
             nights=sum(shift in nights for shift in row.values()),
             weekends=len({day // len(DAYS) for day in row if day % len(DAYS) >= SATURDAY}),
             wishes=len(mine),
-            granted=sum(row.get(wish.day) is None or wish.shift not in (None, row[wish.day]) for wish in mine),
+            granted=sum(
+                row.get(wish.day) is None or wish.shift not in (None, row[wish.day])
+                for wish in mine
+            ),
         )
     return sums

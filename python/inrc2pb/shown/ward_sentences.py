@@ -29,12 +29,18 @@ def ward_sentence(scenario: Scenario) -> str:
 def scenario_sentences(scenario: Scenario) -> Iterator[str]:
     """The shift types, contracts and skills of a ward."""
     for shift in scenario.shift_types.values():
-        after = f" After {shift.name}, the next day no {' and no '.join(shift.forbidden_next)}." if shift.forbidden_next else ""
+        after = (
+            f" After {shift.name}, the next day no {' and no '.join(shift.forbidden_next)}."
+            if shift.forbidden_next
+            else ""
+        )
         yield f"{shift.name}: {_in_a_row(shift.consecutive)} in a row.{after}"
     owners = _owners(scenario)
     alike = together((_contract_text(scenario.contracts[name], scenario), name) for name in owners)
     for text, names in alike.items():
-        named = joined(f"{name} ({joined(owners[name]) if owners[name] else 'nobody'})" for name in names)
+        named = joined(
+            f"{name} ({joined(owners[name]) if owners[name] else 'nobody'})" for name in names
+        )
         yield f"Contract{'s' if len(names) > 1 else ''} {named}: {text}."
     yield from part_sentences(scenario, scenario.nurses)
     for skill in scenario.skills:
@@ -51,13 +57,18 @@ def _owners(scenario: Scenario) -> Dict[str, List[str]]:
     """The nurses of each contract that is no part of another one, also those for whom a part of it counts."""
     wholes = [name for name in scenario.contracts if not part_contract(name, scenario.contracts)]
     parts = {nurse: _part(scenario, nurse) for nurse in scenario.nurses}
-    of_nurse = {nurse: part.whole if part else scenario.nurses[nurse].contract for nurse, part in parts.items()}
+    of_nurse = {
+        nurse: part.whole if part else scenario.nurses[nurse].contract
+        for nurse, part in parts.items()
+    }
     return {name: [nurse for nurse, whole in of_nurse.items() if whole == name] for name in wholes}
 
 
 def _contract_text(contract: Contract, scenario: Scenario) -> str:
     """The limits of a contract."""
-    days = f"{_in_a_row(contract.working_days)} of work in a row, {_in_a_row(contract.days_off)} off"
+    days = (
+        f"{_in_a_row(contract.working_days)} of work in a row, {_in_a_row(contract.days_off)} off"
+    )
     weekends = "any number of weekends with work"
     if contract.max_weekends < scenario.weeks:
         weekends = f"at most {plural(contract.max_weekends, 'weekend')} with work"
@@ -75,9 +86,13 @@ def part_sentences(scenario: Scenario, nurses: Iterable[str]) -> Iterator[str]:
         part, contract = _part(scenario, nurse), scenario.contract_of(nurse)
         if part and part.total:
             gone, whole = part.total - part.days, scenario.contracts[part.whole].assignments
-            instead = f"{_shifts(contract.assignments, scenario)} in place of {_range(whole, part.total)}"
+            instead = (
+                f"{_shifts(contract.assignments, scenario)} in place of {_range(whole, part.total)}"
+            )
             yield f"{nurse} is away or unpaid on {gone} of {part.total} days: contract {part.whole} counts in proportion, {instead}."
-    long_away = [nurse for nurse in nurses for part in [_part(scenario, nurse)] if part and part.any_days_off]
+    long_away = [
+        nurse for nurse in nurses for part in [_part(scenario, nurse)] if part and part.any_days_off
+    ]
     if long_away:
         yield f"No maximum of days off in a row, since they are away for longer, or come or leave: {joined(long_away)}."
 
@@ -112,9 +127,19 @@ def limit_sentences(scenario: Scenario, data: WeekData) -> Iterator[str]:
 
 def _limits_text(scenario: Scenario, data: WeekData, nurse: str) -> str:
     """The maxima that a nurse never exceeds; nothing if she has none."""
-    contract, kinds = scenario.contract_of(nurse), {limit.kind for limit in data.limits if limit.nurse == nurse}
-    most = {SHIFTS: contract.assignments.maximum, WORK_DAYS: contract.working_days.maximum, WEEKENDS: contract.max_weekends}
-    words = [f"{plural(most[kind], what)}{' in a row' if kind == WORK_DAYS else ''}" for kind, what in _LIMITS.items() if kind in kinds]
+    contract, kinds = scenario.contract_of(nurse), {
+        limit.kind for limit in data.limits if limit.nurse == nurse
+    }
+    most = {
+        SHIFTS: contract.assignments.maximum,
+        WORK_DAYS: contract.working_days.maximum,
+        WEEKENDS: contract.max_weekends,
+    }
+    words = [
+        f"{plural(most[kind], what)}{' in a row' if kind == WORK_DAYS else ''}"
+        for kind, what in _LIMITS.items()
+        if kind in kinds
+    ]
     return joined(words) if words else ""
 
 
@@ -123,14 +148,30 @@ def history_sentences(history: History, counted: Counted = Counted()) -> Iterato
     if history.week:
         yield f"{plural(history.week, 'week')} of the period {'is' if history.week == 1 else 'are'} over."
     past = list(history.nurses.values())
-    lasts = together((row.last_shift, row) for row in sorted(past, key=lambda row: row.last_shift is not None))
+    lasts = together(
+        (row.last_shift, row) for row in sorted(past, key=lambda row: row.last_shift is not None)
+    )
     for shift, nurses in lasts.items():
         rows = together((_row_text(row), row.nurse) for row in nurses)
         yield f"{shift or 'Off'} on Sunday: {'; '.join(f'{joined(names)} {text}' for text, names in rows.items())}."
-    days_away = {row.nurse: (counted.shifts.get(row.nurse, 0), counted.weekends.get(row.nurse, 0)) for row in past}
-    worked = {row.nurse: (row.assignments - days_away[row.nurse][0], row.weekends - days_away[row.nurse][1]) for row in past}
-    for label, numbers in (("In the period until now", worked), ("For days away in the whole period", days_away)):
-        totals = together((_total_text(*both), nurse) for nurse, both in numbers.items() if any(both))
+    days_away = {
+        row.nurse: (counted.shifts.get(row.nurse, 0), counted.weekends.get(row.nurse, 0))
+        for row in past
+    }
+    worked = {
+        row.nurse: (
+            row.assignments - days_away[row.nurse][0],
+            row.weekends - days_away[row.nurse][1],
+        )
+        for row in past
+    }
+    for label, numbers in (
+        ("In the period until now", worked),
+        ("For days away in the whole period", days_away),
+    ):
+        totals = together(
+            (_total_text(*both), nurse) for nurse, both in numbers.items() if any(both)
+        )
         if totals:
             yield f"{label}: {'; '.join(f'{joined(names)} {text}' for text, names in totals.items())}."
 
@@ -147,7 +188,9 @@ def _total_text(shifts: int, weekends: int) -> str:
     return f"{plural(shifts, 'shift')} and {plural(weekends, 'weekend')}"
 
 
-def supply_text(scenario: Scenario, history: Optional[History], data: WeekData, paid: Paid = ()) -> str:
+def supply_text(
+    scenario: Scenario, history: Optional[History], data: WeekData, paid: Paid = ()
+) -> str:
     """The shifts that a week asks for, and those that the contracts supply. `paid` has days away that count as work."""
     (minimum, best), (low, high) = asked_shifts(data), supplied_shifts(scenario, history, paid)
     return f"asks for {numbers_text(minimum, best)} shifts; the contracts supply {numbers_text(low, high)} a week"

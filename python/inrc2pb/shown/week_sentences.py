@@ -42,28 +42,53 @@ def days_of_week(days: Collection[int]) -> str:
     return joined(DAYS[day] for day in ordered)
 
 
-def weeks_sentences(scenario: Scenario, weeks: Sequence[DescribedWeek], days_text: DaysText = days_of_week) -> Iterator[str]:
+def weeks_sentences(
+    scenario: Scenario, weeks: Sequence[DescribedWeek], days_text: DaysText = days_of_week
+) -> Iterator[str]:
     """Weeks in sentences. Their days count from the Monday of the first one, and have these texts."""
     yield from _needs_sentences(weeks)
     order = {nurse: number for number, nurse in enumerate(scenario.nurses)}
-    absences = ((index, absence) for index, week in enumerate(weeks) for absence in absences_of(week.data))
-    away = [(absence.nurse, WEEK_DAYS * index + absence.day, absence.shift) for index, absence in absences]
+    absences = (
+        (index, absence) for index, week in enumerate(weeks) for absence in absences_of(week.data)
+    )
+    away = [
+        (absence.nurse, WEEK_DAYS * index + absence.day, absence.shift)
+        for index, absence in absences
+    ]
     away.sort(key=lambda absence: (order[absence[0]], absence[1]))
     for shift in scenario.shift_types:
         never = ((nurse, day) for nurse, day, what in away if what == shift)
-        yield from _sentence(f"Never {shift}", never, lambda days: "" if len(days) == WEEK_DAYS * len(weeks) else days_text(days))
-    whole = together((_reason(weeks, nurse, day), (nurse, day)) for nurse, day, shift in away if shift is None)
-    yield from _sentence("Always off", whole.get(_ALWAYS, ()), lambda days: days_of_week({day % WEEK_DAYS for day in days}))
+        yield from _sentence(
+            f"Never {shift}",
+            never,
+            lambda days: "" if len(days) == WEEK_DAYS * len(weeks) else days_text(days),
+        )
+    whole = together(
+        (_reason(weeks, nurse, day), (nurse, day)) for nurse, day, shift in away if shift is None
+    )
+    yield from _sentence(
+        "Always off",
+        whole.get(_ALWAYS, ()),
+        lambda days: days_of_week({day % WEEK_DAYS for day in days}),
+    )
     for reason, label in _REASONS.items():
         yield from _sentence(label, whole.get(reason, ()), days_text)
     yield from _wishes_sentences(scenario, weeks, days_text)
-    held = [cell._replace(day=WEEK_DAYS * index + cell.day) for index, week in enumerate(weeks) for cell in week.held]
+    held = [
+        cell._replace(day=WEEK_DAYS * index + cell.day)
+        for index, week in enumerate(weeks)
+        for cell in week.held
+    ]
     yield from held_sentences(held, days_text)
 
 
 def held_sentences(held: Iterable[Cell], days_text: DaysText = days_of_week) -> Iterator[str]:
     """Held shifts."""
-    yield from _sentence("For certain", ((f"{cell.nurse} {cell.shift} {cell.skill}", cell.day) for cell in held), days_text)
+    yield from _sentence(
+        "For certain",
+        ((f"{cell.nurse} {cell.shift} {cell.skill}", cell.day) for cell in held),
+        days_text,
+    )
 
 
 def _sentence(label: str, pairs: Iterable[Tuple[str, int]], days_text: DaysText) -> Iterator[str]:
@@ -78,26 +103,54 @@ def _reason(weeks: Sequence[DescribedWeek], nurse: str, day: int) -> str:
     return weeks[day // WEEK_DAYS].reasons.get((nurse, day % WEEK_DAYS), _AWAY)
 
 
-def _wishes_sentences(scenario: Scenario, weeks: Sequence[DescribedWeek], days_text: DaysText) -> Iterator[str]:
+def _wishes_sentences(
+    scenario: Scenario, weeks: Sequence[DescribedWeek], days_text: DaysText
+) -> Iterator[str]:
     """Wishes, and how many equal requests of a file they are."""
-    requests = ((index, request) for index, week in enumerate(weeks) for request in wishes_of(week.data))
-    wishes = [(request.nurse, request.shift, WEEK_DAYS * index + request.day) for index, request in requests]
+    requests = (
+        (index, request) for index, week in enumerate(weeks) for request in wishes_of(week.data)
+    )
+    wishes = [
+        (request.nurse, request.shift, WEEK_DAYS * index + request.day)
+        for index, request in requests
+    ]
 
     def days_and_requests(days: Collection[int]) -> str:
         times = f" ({len(days)} requests)" if len(days) > len(set(days)) else ""
         return f"{days_text(set(days))}{times}"
 
     for shift in (None, *scenario.shift_types):
-        pairs = [(nurse, day) for nurse in scenario.nurses for who, what, day in wishes if (who, what) == (nurse, shift)]
-        yield from _sentence(f"Would rather {'be off' if shift is None else f'not work {shift}'}", pairs, days_and_requests)
+        pairs = [
+            (nurse, day)
+            for nurse in scenario.nurses
+            for who, what, day in wishes
+            if (who, what) == (nurse, shift)
+        ]
+        yield from _sentence(
+            f"Would rather {'be off' if shift is None else f'not work {shift}'}",
+            pairs,
+            days_and_requests,
+        )
 
 
 def _needs_sentences(weeks: Sequence[DescribedWeek]) -> Iterator[str]:
     """The numbers of each shift type and skill, those of most weeks first."""
-    for shift, skill in dict.fromkeys((place.shift, place.skill) for week in weeks for place in week.data.requirements):
-        numbers = [[week.data.requirements.get(Place(day, shift, skill), Requirement(0, 0)) for day in range(WEEK_DAYS)] for week in weeks]
+    for shift, skill in dict.fromkeys(
+        (place.shift, place.skill) for week in weeks for place in week.data.requirements
+    ):
+        numbers = [
+            [
+                week.data.requirements.get(Place(day, shift, skill), Requirement(0, 0))
+                for day in range(WEEK_DAYS)
+            ]
+            for week in weeks
+        ]
         usual = max(numbers, key=numbers.count)
-        others = together((_other_numbers(of_week, usual), week) for week, of_week in zip(weeks, numbers) if of_week != usual)
+        others = together(
+            (_other_numbers(of_week, usual), week)
+            for week, of_week in zip(weeks, numbers)
+            if of_week != usual
+        )
         words = [f"; {_weeks_text(some)}: {text}" for text, some in others.items()]
         yield f"{shift} {skill}: {_numbers_by_day(enumerate(usual))}{''.join(words)}."
 
@@ -110,7 +163,9 @@ def _weeks_text(weeks: Sequence[DescribedWeek]) -> str:
 
 
 def _other_numbers(numbers: Sequence[Requirement], usual: Sequence[Requirement]) -> str:
-    return _numbers_by_day((day, number) for day, number in enumerate(numbers) if number != usual[day])
+    return _numbers_by_day(
+        (day, number) for day, number in enumerate(numbers) if number != usual[day]
+    )
 
 
 def _numbers_by_day(numbers: Iterable[Tuple[int, Requirement]]) -> str:

@@ -20,7 +20,10 @@ def _charges(view: RosterView) -> List[Tuple[str, Charge]]:
 def breach_lines(view: RosterView, named: str = "roster") -> Iterator[str]:
     """A line for each hard rule that a roster breaks."""
     for week in view.weeks:
-        yield from (f"{view.prefix(week)}the {named} breaks {breach.rule}: {breach.reason}" for breach in week.breaches)
+        yield from (
+            f"{view.prefix(week)}the {named} breaks {breach.rule}: {breach.reason}"
+            for breach in week.breaches
+        )
 
 
 def plain_breach_lines(view: RosterView) -> Iterator[str]:
@@ -33,7 +36,10 @@ def why_lines(view: RosterView) -> Iterator[str]:
     """A line for each hard rule that is broken and for each charge, and the sum."""
     yield from breach_lines(view)
     for above in view.weeks:
-        yield from (f"{view.prefix(above)}above a limit that holds: {limits_in_words([charge], above.cells)}" for charge in above.above)
+        yield from (
+            f"{view.prefix(above)}above a limit that holds: {limits_in_words([charge], above.cells)}"
+            for charge in above.above
+        )
     for shown in view.weeks:
         for charge in shown.charges or ():
             away = shown.for_absence(charge)
@@ -53,14 +59,21 @@ def change_lines(old: RosterView, new: RosterView) -> Iterator[str]:
         return
     yield from charge_lines(*(_charged(view) for view in (old, new)))
     before, now = (cost_by_rule(charge for _, charge in _charges(view)) for view in (old, new))
-    by_rule = [f"{rule} {now[rule] - before[rule]:+}" for rule in SOFT_RULES if now[rule] != before[rule]]
+    by_rule = [
+        f"{rule} {now[rule] - before[rule]:+}" for rule in SOFT_RULES if now[rule] != before[rule]
+    ]
     rules = f": {' '.join(by_rule)}" if by_rule else ""
-    yield sum_text(old.penalty, new.penalty, f"{rules}; penalty {new.penalty} instead of {old.penalty}")
+    yield sum_text(
+        old.penalty, new.penalty, f"{rules}; penalty {new.penalty} instead of {old.penalty}"
+    )
 
 
 def _charged(view: RosterView) -> List[Charged]:
     """The cost of each charge, and its rule and the charge in words."""
-    return [Charged(charge.cost, f"{charge.rule}  {week}{in_words(charge)}") for week, charge in _charges(view)]
+    return [
+        Charged(charge.cost, f"{charge.rule}  {week}{in_words(charge)}")
+        for week, charge in _charges(view)
+    ]
 
 
 def days_text(days: Tuple[int, int], names: Sequence[str] = DAYS) -> str:
@@ -110,7 +123,13 @@ def reason(charge: Charge, monday: str) -> str:
 def in_words(charge: Charge, with_nurse: bool = True, names: Sequence[str] = DAYS) -> str:
     """A charge in words, as `Chen, Mon to Thu: 4 days off in a row, at most 3`, with these names of days."""
     monday = "Monday" if names is DAYS else names[0]
-    days = days_text(charge.days, names) if charge.days else "" if RULES[charge.rule].form is Form.TOTAL else f"before {monday}"
+    days = (
+        days_text(charge.days, names)
+        if charge.days
+        else ""
+        if RULES[charge.rule].form is Form.TOTAL
+        else f"before {monday}"
+    )
     who = charge.subject if charge.nurse is None else charge.nurse if with_nurse else ""
     named = ", ".join(filter(None, (who, days)))
     return f"{named}: {reason(charge, monday)}" if named else reason(charge, monday)

@@ -26,7 +26,9 @@ _DOUBLE, _INT, _POINTER = ctypes.c_double, ctypes.c_int, ctypes.c_void_p
 # Clp's functions that return an array of a model; others that get nothing but the model; and those that get an array, or a number, too.
 _READING = "getColLower getColUpper getRowLower getRowUpper getObjCoefficients dualRowSolution primalColumnSolution statusArray".split()
 _OF_MODEL = "deleteModel status numberIterations objectiveValue".split()
-_WITH_ARRAY = "chgColumnLower chgColumnUpper chgRowLower chgRowUpper chgObjCoefficients copyinStatus".split()
+_WITH_ARRAY = (
+    "chgColumnLower chgColumnUpper chgRowLower chgRowUpper chgObjCoefficients copyinStatus".split()
+)
 _WITH_NUMBER = "setLogLevel setMaximumIterations dual primal".split()
 # The status of Clp, the iterations, the value, and, if they are asked for, the rows' prices, the columns' values, and the statuses of the
 # columns and of the rows in the basis.
@@ -74,29 +76,55 @@ class Program:
         """Adds rows without entries."""
         number = len(lower) // 8
         starts = (_INT * (number + 1))()
-        self._clp.Clp_addRows(self._model, _INT(number), _doubles(lower), _doubles(upper), starts, _ints(b""), _doubles(b""))
+        self._clp.Clp_addRows(
+            self._model,
+            _INT(number),
+            _doubles(lower),
+            _doubles(upper),
+            starts,
+            _ints(b""),
+            _doubles(b""),
+        )
         self._rows += number
 
-    def add_columns(self, costs: bytes, lower: bytes, upper: bytes, starts: bytes, rows: bytes, values: bytes) -> None:
+    def add_columns(
+        self, costs: bytes, lower: bytes, upper: bytes, starts: bytes, rows: bytes, values: bytes
+    ) -> None:
         """Adds columns; the entries of each are between two starts."""
         number = len(costs) // 8
         entries = _ints(starts), _ints(rows), _doubles(values)
-        self._clp.Clp_addColumns(self._model, _INT(number), _doubles(lower), _doubles(upper), _doubles(costs), *entries)
+        self._clp.Clp_addColumns(
+            self._model, _INT(number), _doubles(lower), _doubles(upper), _doubles(costs), *entries
+        )
         self._columns += number
 
     def bound_columns(self, numbers: bytes, lower: bytes, upper: bytes) -> None:
         """Changes the bounds of columns."""
-        self._change(self._columns, numbers, lower, self._clp.Clp_getColLower, self._clp.Clp_chgColumnLower)
-        self._change(self._columns, numbers, upper, self._clp.Clp_getColUpper, self._clp.Clp_chgColumnUpper)
+        self._change(
+            self._columns, numbers, lower, self._clp.Clp_getColLower, self._clp.Clp_chgColumnLower
+        )
+        self._change(
+            self._columns, numbers, upper, self._clp.Clp_getColUpper, self._clp.Clp_chgColumnUpper
+        )
 
     def bound_rows(self, numbers: bytes, lower: bytes, upper: bytes) -> None:
         """Changes the bounds of rows."""
-        self._change(self._rows, numbers, lower, self._clp.Clp_getRowLower, self._clp.Clp_chgRowLower)
-        self._change(self._rows, numbers, upper, self._clp.Clp_getRowUpper, self._clp.Clp_chgRowUpper)
+        self._change(
+            self._rows, numbers, lower, self._clp.Clp_getRowLower, self._clp.Clp_chgRowLower
+        )
+        self._change(
+            self._rows, numbers, upper, self._clp.Clp_getRowUpper, self._clp.Clp_chgRowUpper
+        )
 
     def set_costs(self, numbers: bytes, costs: bytes) -> None:
         """Changes the costs of columns."""
-        self._change(self._columns, numbers, costs, self._clp.Clp_getObjCoefficients, self._clp.Clp_chgObjCoefficients)
+        self._change(
+            self._columns,
+            numbers,
+            costs,
+            self._clp.Clp_getObjCoefficients,
+            self._clp.Clp_chgObjCoefficients,
+        )
 
     def _change(self, length: int, numbers: bytes, values: bytes, get: Any, put: Any) -> None:
         of_all = _doubles(ctypes.string_at(get(self._model), 8 * length))
@@ -105,13 +133,17 @@ class Program:
         put(self._model, of_all)
 
     def _statuses(self) -> Tuple[bytes, bytes]:
-        statuses = ctypes.string_at(self._clp.Clp_statusArray(self._model), self._columns + self._rows)
+        statuses = ctypes.string_at(
+            self._clp.Clp_statusArray(self._model), self._columns + self._rows
+        )
         return statuses[: self._columns], statuses[self._columns :]
 
     def begin_at(self, columns: bytes, rows: bytes) -> None:
         """Goes on with the basis of these statuses of the first columns and rows."""
         statuses = columns.ljust(self._columns, AT_LOWER) + rows.ljust(self._rows, _BASIC)
-        self._clp.Clp_copyinStatus(self._model, (ctypes.c_ubyte * len(statuses)).from_buffer_copy(statuses))
+        self._clp.Clp_copyinStatus(
+            self._model, (ctypes.c_ubyte * len(statuses)).from_buffer_copy(statuses)
+        )
 
     def solve(self, how: str, iterations: int, seconds: float, whole: bool) -> Answer:
         """Solves it, from the basis at which it is."""
@@ -124,7 +156,9 @@ class Program:
         if not whole:
             return (*head, b"", b"", b"", b"")
         found = (clp.Clp_dualRowSolution, self._rows), (clp.Clp_primalColumnSolution, self._columns)
-        prices, columns = (ctypes.string_at(get(model), 8 * number) if number else b"" for get, number in found)
+        prices, columns = (
+            ctypes.string_at(get(model), 8 * number) if number else b"" for get, number in found
+        )
         return (*head, prices, columns, *self._statuses())
 
 

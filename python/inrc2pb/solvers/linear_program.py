@@ -47,12 +47,16 @@ def write_linear_program(opb: TextIO, lp: TextIO, check: Check = None) -> ModelS
     header = opb.readline(MAX_HEADER)
     match = _HEADER.fullmatch(header)
     if not match:
-        raise ModelFault("the model does not begin with `* #variable= V #constraint= C`: give a file that `inrc2pb encode` wrote")
+        raise ModelFault(
+            "the model does not begin with `* #variable= V #constraint= C`: give a file that `inrc2pb encode` wrote"
+        )
     variables, constraints = int(match.group(1)), int(match.group(2))
     lp.write("Minimize\n obj:")
     step, found = _write_statements(_pieces(opb, check), lp, f"x{variables}")
     if found != constraints:
-        raise ModelFault(f"the model has {found} constraints and announces {constraints}: it is cut, so encode the week again")
+        raise ModelFault(
+            f"the model has {found} constraints and announces {constraints}: it is cut, so encode the week again"
+        )
     _write_binaries(variables, lp)
     return ModelSize(variables, constraints, step)
 
@@ -104,7 +108,9 @@ def _pieces(opb: TextIO, check: Check) -> Iterator[Tuple[str, bool]]:
         if len(rest) > MAX_STATEMENT:
             raise ModelFault("a statement is too long: give a file that `inrc2pb encode` wrote")
     if rest.strip():
-        raise ModelFault("the model ends in the middle of a statement: it is cut, so encode the week again")
+        raise ModelFault(
+            "the model ends in the middle of a statement: it is cut, so encode the week again"
+        )
 
 
 def _terms(text: str, last: str) -> List[str]:
@@ -112,26 +118,37 @@ def _terms(text: str, last: str) -> List[str]:
     found = _TERMS.match(text)
     end = found.end() if found else 0
     if end < len(text):
-        raise ModelFault(f"no linear terms as `inrc2pb encode` writes them: {' '.join(text[end : end + 200].split())[:60]}")
+        raise ModelFault(
+            f"no linear terms as `inrc2pb encode` writes them: {' '.join(text[end : end + 200].split())[:60]}"
+        )
     words = text.split()
     variables = words[1::2]
     # A longer word has a greater number; words of one length have the order of their numbers.
     length = max(map(len, variables), default=0)
-    if length > len(last) or (length == len(last) and max(word for word in variables if len(word) == length) > last):
-        raise ModelFault(f"the model has variables after {last}, the last that it announces: encode the week again")
+    if length > len(last) or (
+        length == len(last) and max(word for word in variables if len(word) == length) > last
+    ):
+        raise ModelFault(
+            f"the model has variables after {last}, the last that it announces: encode the week again"
+        )
     return words
 
 
 def _lines(words: List[str]) -> List[str]:
     """The terms, some on each line."""
-    return [" ".join(words[index : index + 2 * TERMS_PER_LINE]) for index in range(0, len(words), 2 * TERMS_PER_LINE)]
+    return [
+        " ".join(words[index : index + 2 * TERMS_PER_LINE])
+        for index in range(0, len(words), 2 * TERMS_PER_LINE)
+    ]
 
 
 def _write_constraint(number: int, text: str, lp: TextIO, last: str) -> None:
     terms, _, degree = text.partition(">=")
     match = _DEGREE.fullmatch(degree)
     if not match:
-        raise ModelFault(f"constraint {number} has no `>=` with a degree of 17 digits or less: give a model that `inrc2pb encode` wrote")
+        raise ModelFault(
+            f"constraint {number} has no `>=` with a degree of 17 digits or less: give a model that `inrc2pb encode` wrote"
+        )
     # A row without terms is legal in OPB, but not in an LP file.
     lines = "\n ".join(_lines(_terms(terms, last))) or "0 x1"
     lp.write(f" c{number}: {lines} >= {match.group(1)}\n")
@@ -140,7 +157,12 @@ def _write_constraint(number: int, text: str, lp: TextIO, last: str) -> None:
 def _write_binaries(variables: int, lp: TextIO) -> None:
     lp.write("Binary\n")
     for first in range(1, variables + 1, TERMS_PER_LINE):
-        lp.write("".join(f" x{number}" for number in range(first, min(first + TERMS_PER_LINE, variables + 1))) + "\n")
+        lp.write(
+            "".join(
+                f" x{number}" for number in range(first, min(first + TERMS_PER_LINE, variables + 1))
+            )
+            + "\n"
+        )
     lp.write("End\n")
 
 

@@ -42,7 +42,13 @@ class LinearSolver:
 
     name = CBC
 
-    def __init__(self, processes: Processes, folder: Path, warn: Callable[[str], None], chooses: Optional[bool] = None) -> None:
+    def __init__(
+        self,
+        processes: Processes,
+        folder: Path,
+        warn: Callable[[str], None],
+        chooses: Optional[bool] = None,
+    ) -> None:
         self._processes, self.folder, self.warn = processes, folder, warn
         self._model, self._answer = folder / "rows.mps", folder / "rows.sol"
         self._child, self._faults = Child(processes, folder), 0
@@ -59,7 +65,9 @@ class LinearSolver:
         """A linear program without rows and columns, kept by the child."""
         return LinearProgram(self._child)
 
-    def choose(self, model: str, clock: Clock, cutoff: Optional[int], step: int, nodes: int = 0) -> Chosen:
+    def choose(
+        self, model: str, clock: Clock, cutoff: Optional[int], step: int, nodes: int = 0
+    ) -> Chosen:
         """Solves an integer program whose values are multiples of `step`, in at most so many nodes, if that is not 0; only answers of at
         most the cutoff count. A fault is no answer."""
         try:
@@ -73,13 +81,25 @@ class LinearSolver:
                 self.warn(f"{fault}: the search goes on without integer programs")
             return Chosen(None, False)
 
-    def _choose(self, model: str, clock: Clock, cutoff: Optional[int], step: int, nodes: int) -> Chosen:
+    def _choose(
+        self, model: str, clock: Clock, cutoff: Optional[int], step: int, nodes: int
+    ) -> Chosen:
         seconds, allowed = clock.left(), f"{step - 0.1}"
         words = [CBC, self._model.name, "sec", f"{seconds:.1f}", "timem", "elapsed"]
         words += [] if cutoff is None else ["cutoff", f"{cutoff + 0.5}"]
-        words += ["ratio", "0", "allow", allowed, "increment", allowed, *(["maxNodes", str(nodes)] if nodes else [])]
+        words += [
+            "ratio",
+            "0",
+            "allow",
+            allowed,
+            "increment",
+            allowed,
+            *(["maxNodes", str(nodes)] if nodes else []),
+        ]
         words += ["-heuristicsOnOff", "off"] if model.count("\n BV ") > MANY else []
-        ended = self._run(model, [*words, "solve", "solution", self._answer.name], clock, seconds + _WRITING)
+        ended = self._run(
+            model, [*words, "solve", "solution", self._answer.name], clock, seconds + _WRITING
+        )
         late = clock.left() < seconds / 2
         if ended.timed_out:
             return Chosen(None, False)
@@ -105,7 +125,9 @@ class LinearSolver:
         if not self._answer.exists():
             raise SolverFault(f"{CBC} wrote no answer and ended with status {ended.status}")
         if self._answer.stat().st_size > MAX_OUTPUT:
-            raise SolverFault(f"{CBC} wrote more than {MAX_OUTPUT >> 20} MiB, too much for an answer")
+            raise SolverFault(
+                f"{CBC} wrote more than {MAX_OUTPUT >> 20} MiB, too much for an answer"
+            )
         lines = self._answer.read_text(encoding="utf-8", errors="replace").splitlines()
         if not lines:
             raise SolverFault(f"{CBC} wrote an empty answer")

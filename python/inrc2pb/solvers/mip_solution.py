@@ -13,7 +13,12 @@ from ..week.faults import Misuse
 from ..week.slots import PathLike
 
 # How a solver ended, and the status of its answer.
-STATUSES = {"optimal": "OPTIMUM FOUND", "stopped": "SATISFIABLE", "infeasible": "UNSATISFIABLE", "unknown": "UNKNOWN"}
+STATUSES = {
+    "optimal": "OPTIMUM FOUND",
+    "stopped": "SATISFIABLE",
+    "infeasible": "UNSATISFIABLE",
+    "unknown": "UNKNOWN",
+}
 # A value may be off by a millionth; the factor allows for the rounding of binary numbers.
 TOLERANCE = 1e-6 * (1 + 1e-9)
 # A value that is off by no more is an integer by some solver's tolerance, such as Gurobi's own of 1e-5.
@@ -54,7 +59,13 @@ class Answer:
         if self.objective is not None:
             target.write(f"o {self.objective}\n")
         for index in range(0, len(self.variables), LITERALS_PER_LINE):
-            target.write("v" + "".join(f" x{number}" for number in self.variables[index : index + LITERALS_PER_LINE]) + "\n")
+            target.write(
+                "v"
+                + "".join(
+                    f" x{number}" for number in self.variables[index : index + LITERALS_PER_LINE]
+                )
+                + "\n"
+            )
 
 
 def check_size(path: PathLike) -> None:
@@ -65,10 +76,16 @@ def check_size(path: PathLike) -> None:
 
 def read_answer(solution: TextIO, ended: Optional[str] = None) -> Answer:
     """The answer in a result file. `ended`, a key of STATUSES, counts if the file does not say how the solver ended."""
-    lines = ((number, line) for number, line in enumerate(map(str.strip, _limited(solution)), 1) if line)
+    lines = (
+        (number, line) for number, line in enumerate(map(str.strip, _limited(solution)), 1) if line
+    )
     first = next(lines, None)
     if first is None:
-        return Answer(STATUSES[ended or "unknown"]) if ended in (None, "infeasible", "unknown") else _no_values()
+        return (
+            Answer(STATUSES[ended or "unknown"])
+            if ended in (None, "infeasible", "unknown")
+            else _no_values()
+        )
     for begins, reader in _READERS:
         if begins.match(first[1]):
             answer = reader(first, lines, ended or "stopped")
@@ -86,12 +103,16 @@ def _limited(solution: TextIO) -> Iterator[str]:
     while line := solution.readline(MAX_LINE + 1):
         left -= len(line)
         if left < 0 or len(line) > MAX_LINE:
-            raise SolutionFault(f"a line or the file is longer than {MAX_LINE >> 20} or {MAX_BYTES >> 20} MiB: this is no answer")
+            raise SolutionFault(
+                f"a line or the file is longer than {MAX_LINE >> 20} or {MAX_BYTES >> 20} MiB: this is no answer"
+            )
         yield line
 
 
 def _no_values() -> Answer:
-    raise SolutionFault("the solution has no variable that is 1, not even the unit variable: the file is cut, or of another model")
+    raise SolutionFault(
+        "the solution has no variable that is 1, not even the unit variable: the file is cut, or of another model"
+    )
 
 
 def _objective(text: str) -> Optional[int]:
@@ -108,16 +129,22 @@ def _put_value(line: int, name: str, text: str, variables: "array[int]") -> None
     """Keeps the variable if its value is 1."""
     match = _VARIABLE.fullmatch(name)
     if not match:
-        raise SolutionFault(f"line {line}: '{name[:40]}' is no variable of the model: is this a solution of another model?")
+        raise SolutionFault(
+            f"line {line}: '{name[:40]}' is no variable of the model: is this a solution of another model?"
+        )
     if not _NUMBER.fullmatch(text):
         raise SolutionFault(f"line {line}: '{text[:40]}' is no value for {name}")
     value = float(text)
     off = min(abs(value), abs(value - 1))
     if off > SOLVER_TOLERANCE:
-        raise NotInteger(f"line {line}: {name} is {text}, neither 0 nor 1: let the solver solve the model with integers")
+        raise NotInteger(
+            f"line {line}: {name} is {text}, neither 0 nor 1: let the solver solve the model with integers"
+        )
     if off > TOLERANCE:
         advice = "give the solver a smaller integrality tolerance (Gurobi: IntFeasTol=1e-9; HiGHS: mip_feasibility_tolerance = 1e-9)"
-        raise SolutionFault(f"line {line}: {name} is {text}, off by more than a millionth: {advice}")
+        raise SolutionFault(
+            f"line {line}: {name} is {text}, off by more than a millionth: {advice}"
+        )
     if value > 0.5:
         variables.append(int(match.group(1)))
 
@@ -141,11 +168,17 @@ def _of_cbc(first: Line, lines: Iterator[Line], _ended: str) -> Answer:
     says, _, objective = first[1].partition(" - objective value")
     if "nfeasible" in says:
         return Answer("UNSATISFIABLE")
-    if says not in ("Optimal", "Optimal (within gap tolerance)") and not re.fullmatch(r"Stopped on [a-zA-Z -]+", says):
+    if says not in ("Optimal", "Optimal (within gap tolerance)") and not re.fullmatch(
+        r"Stopped on [a-zA-Z -]+", says
+    ):
         return Answer("UNKNOWN")
     rows = ((number, [word for word in words if word != "**"]) for number, words in _words(lines))
     try:
-        return Answer(STATUSES["optimal" if says == "Optimal" else "stopped"], _objective(objective.strip()), _values(rows, 1, 2))
+        return Answer(
+            STATUSES["optimal" if says == "Optimal" else "stopped"],
+            _objective(objective.strip()),
+            _values(rows, 1, 2),
+        )
     except NotInteger:
         if says.startswith("Optimal"):
             raise
@@ -173,7 +206,9 @@ def _of_glpsol(_first: Line, lines: Iterator[Line], _ended: str) -> Answer:
         elif "Column name" in line:
             break
     if status not in _GLPSOL:
-        raise SolutionFault(f"the solution's status is '{status}': let glpsol solve the model with integers")
+        raise SolutionFault(
+            f"the solution's status is '{status}': let glpsol solve the model with integers"
+        )
     if status not in ("INTEGER OPTIMAL", "INTEGER NON-OPTIMAL"):
         return Answer(_GLPSOL[status])
     return Answer(_GLPSOL[status], objective, _values(_columns(lines), 1, 2))
@@ -206,7 +241,11 @@ def _of_highs(_first: Line, lines: Iterator[Line], _ended: str) -> Answer:
             return Answer("UNKNOWN")
     if not feasible:
         return Answer("UNKNOWN")
-    return Answer(STATUSES["optimal" if says == "Optimal" else "stopped"], objective, _values(_until_comment(lines)))
+    return Answer(
+        STATUSES["optimal" if says == "Optimal" else "stopped"],
+        objective,
+        _values(_until_comment(lines)),
+    )
 
 
 def _until_comment(lines: Iterator[Line]) -> Iterator[Tuple[int, List[str]]]:
@@ -224,7 +263,9 @@ def _of_list(first: Line, lines: Iterator[Line], ended: str) -> Answer:
         objective = _objective(value.strip()) if key.strip() == "Objective value" else objective
         first = next(lines, (0, ""))
     rows = [first] if first[1] else []
-    return Answer(STATUSES[ended], objective, _values(_words(line for part in (rows, lines) for line in part)))
+    return Answer(
+        STATUSES[ended], objective, _values(_words(line for part in (rows, lines) for line in part))
+    )
 
 
 def _of_symphony(_first: Line, lines: Iterator[Line], _ended: str) -> Answer:
@@ -260,7 +301,9 @@ def _of_toulbar2(_first: Line, lines: Iterator[Line], _ended: str) -> Answer:
         raise SolutionFault("toulbar2 printed no names of variables: give it the option -s=3")
     if not last[1]:
         return Answer(STATUSES["infeasible" if says == "infeasible" else "unknown"])
-    return Answer(STATUSES[says], objective, _values((last[0], word.split("=v")) for word in last[1].split()))
+    return Answer(
+        STATUSES[says], objective, _values((last[0], word.split("=v")) for word in last[1].split())
+    )
 
 
 _READERS: List[Tuple["re.Pattern[str]", Callable[[Line, Iterator[Line], str], Answer]]] = [

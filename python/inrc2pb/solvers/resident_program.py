@@ -32,7 +32,17 @@ _MARK = "    MARKER                 'MARKER'                 'INT{}'\n"
 _Operation = Tuple[object, ...]
 NAME = "Clp's library"
 
-__all__ = ["DUAL", "INFEASIBLE", "OPTIMAL", "PRIMAL", "STOPPED", "Child", "Column", "LinearProgram", "Solution"]
+__all__ = [
+    "DUAL",
+    "INFEASIBLE",
+    "OPTIMAL",
+    "PRIMAL",
+    "STOPPED",
+    "Child",
+    "Column",
+    "LinearProgram",
+    "Solution",
+]
 
 
 class Column(NamedTuple):
@@ -46,7 +56,8 @@ class Column(NamedTuple):
 
 class Solution(NamedTuple):
     """The answer of a linear program: whether it is OPTIMAL, INFEASIBLE or STOPPED at the limit of its iterations, its value, the prices of
-    its rows, the values of its columns, the number of iterations, and the statuses of columns and rows in its basis, if they are known."""
+    its rows, the values of its columns, the number of iterations, and the statuses of columns and rows in its basis, if they are known.
+    """
 
     status: int
     value: float
@@ -85,7 +96,9 @@ class Child:
     def start(self) -> None:
         """Starts a new process, which has no programs."""
         self.end()
-        process = self._process = self._processes.open([sys.executable, "-I", "-S", clp_child.__file__], self._folder)
+        process = self._process = self._processes.open(
+            [sys.executable, "-I", "-S", clp_child.__file__], self._folder
+        )
         assert process.stdin and process.stdout
         requests, answers = os.dup(process.stdin.fileno()), os.dup(process.stdout.fileno())
         self._pipes = Connection(requests, readable=False), Connection(answers, writable=False)
@@ -113,7 +126,9 @@ class Child:
         elif self._faults >= MAX_FAULTS:
             self.broken = str(fault)
 
-    def ask(self, operations: Sequence[_Operation], clock: Clock, rows: int, columns: int) -> Solution:
+    def ask(
+        self, operations: Sequence[_Operation], clock: Clock, rows: int, columns: int
+    ) -> Solution:
         """Does the operations, of which the last one solves; so many numbers belong to the answer."""
         if self._processes.stopped:
             raise TimeIsOver
@@ -141,7 +156,11 @@ def _solution(answer: clp_child.Answer, rows: int, columns: int) -> Solution:
     """The solution of an answer. Numbers that are none are a SolverFault."""
     status, iterations, value, *found, of_columns, of_rows = answer
     prices, values = (array("d", part) for part in found)
-    if (len(prices), len(values)) != (rows, columns) or status not in (OPTIMAL, INFEASIBLE, STOPPED):
+    if (len(prices), len(values)) != (rows, columns) or status not in (
+        OPTIMAL,
+        INFEASIBLE,
+        STOPPED,
+    ):
         raise SolverFault(f"{NAME} ended with status {status}")
     if status == INFEASIBLE:
         value = math.inf
@@ -230,7 +249,13 @@ class LinearProgram:
     def _change(self, name: str, values: Mapping[int, Sequence[float]]) -> None:
         if values:
             numbers = array("i", values).tobytes()
-            self._pending.append((name, numbers, *(array("d", map(_finite, part)).tobytes() for part in zip(*values.values()))))
+            self._pending.append(
+                (
+                    name,
+                    numbers,
+                    *(array("d", map(_finite, part)).tobytes() for part in zip(*values.values())),
+                )
+            )
 
     def take_basis(self, basis: Tuple[bytes, bytes]) -> None:
         """Goes on with the basis of an earlier solution."""
@@ -243,9 +268,12 @@ class LinearProgram:
 
     # ---- solutions
 
-    def solve(self, clock: Clock, how: str = PRIMAL, iterations: int = 0, whole: bool = True) -> Solution:
+    def solve(
+        self, clock: Clock, how: str = PRIMAL, iterations: int = 0, whole: bool = True
+    ) -> Solution:
         """Solves it by the dual or the primal simplex method, in at most these iterations (0: any number). Only a whole solution has
-        prices, values and rises. The end of the clock's time is a TimeIsOver; if the child does not work, this is a SolverFault."""
+        prices, values and rises. The end of the clock's time is a TimeIsOver; if the child does not work, this is a SolverFault.
+        """
         clock.check()
         while self._child and not self._child.broken:
             try:
@@ -254,13 +282,19 @@ class LinearProgram:
                 self._child.fail(fault)
             finally:
                 clock.check()
-        raise SolverFault(self._child.broken if self._child else "there is no solver of linear programs")
+        raise SolverFault(
+            self._child.broken if self._child else "there is no solver of linear programs"
+        )
 
     def _by_child(self, child: Child, clock: Clock, words: Tuple[object, ...]) -> Solution:
         if not child.is_alive:
             child.start()
         if self._start != child.starts:
-            self._start, self._sent, self._pending = child.starts, (0, 0), [("begin_at", *self.basis)]
+            self._start, self._sent, self._pending = (
+                child.starts,
+                (0, 0),
+                [("begin_at", *self.basis)],
+            )
         operations, self._pending = [*self._new(), *self._pending, ("solve", *words)], []
         sizes = (self.rows, self.columns) if words[-1] else (0, 0)
         found = child.ask([(self._number, *operation) for operation in operations], clock, *sizes)
@@ -280,7 +314,15 @@ class LinearProgram:
         `whole` are those of columns that are 0 or 1."""
         kinds, right, ranges = [], [], []
         for number, (lower, upper) in enumerate(zip(self._lower, self._upper)):
-            kind = "E" if lower == upper else "N" if upper - lower >= 2 * _INFINITE else "G" if upper >= _INFINITE else "L"
+            kind = (
+                "E"
+                if lower == upper
+                else "N"
+                if upper - lower >= 2 * _INFINITE
+                else "G"
+                if upper >= _INFINITE
+                else "L"
+            )
             kinds.append(f" {kind}  c{number}\n")
             if kind != "N":
                 right.append(_entry("RHS", f"c{number}", upper if kind == "L" else lower))
@@ -302,8 +344,12 @@ class LinearProgram:
                 limits.append(f" BV BND       {name}\n")
             else:
                 if lower:
-                    limits.append(_bound("LO" if lower > -_INFINITE else "MI", name, _finite(lower)))
-                limits.append(_bound("UP", name, upper) if upper < _INFINITE else f" PL BND       {name}\n")
+                    limits.append(
+                        _bound("LO" if lower > -_INFINITE else "MI", name, _finite(lower))
+                    )
+                limits.append(
+                    _bound("UP", name, upper) if upper < _INFINITE else f" PL BND       {name}\n"
+                )
         if marks % 2:
             lines.append(_MARK.format("END"))
         ranges[:0] = ["RANGES\n"] if ranges else []
@@ -312,7 +358,10 @@ class LinearProgram:
 
 def _as_arrays(columns: Sequence[Column]) -> Tuple[bytes, ...]:
     """The costs, the bounds, the starts of the entries, their rows and their values."""
-    bounds = [array("d", map(_finite, part)).tobytes() for part in zip(*(column[:3] for column in columns))]
+    bounds = [
+        array("d", map(_finite, part)).tobytes()
+        for part in zip(*(column[:3] for column in columns))
+    ]
     starts, rows, values = array("i", [0]), array("i"), array("d")
     for column in columns:
         for row, value in column.entries:

@@ -61,10 +61,16 @@ class Solver:
     def _has(self, place: str) -> bool:
         return any(place in word for word in self._words)
 
-    def solve(self, files: WeekFiles, seconds: float, folder: Path, processes: Processes) -> Outcome:
+    def solve(
+        self, files: WeekFiles, seconds: float, folder: Path, processes: Processes
+    ) -> Outcome:
         """Solves the week within these seconds, with the model and the result in the folder."""
         limit = time.monotonic() + seconds
-        places = {"{opb}": folder / "week.opb", "{lp}": folder / "week.lp", "{sol}": folder / "week.sol"}
+        places = {
+            "{opb}": folder / "week.opb",
+            "{lp}": folder / "week.lp",
+            "{sol}": folder / "week.sol",
+        }
         if not encode_unless_stopped(files, places["{opb}"], processes):
             return NONE_IN_TIME
 
@@ -79,9 +85,18 @@ class Solver:
         except TimeIsOver:
             return NONE_IN_TIME
         left = limit - time.monotonic()
-        texts = {**{place: str(path) for place, path in places.items()}, "{}": str(places["{opb}"]), "{seconds}": str(max(1, int(left)))}
-        words = [re.sub(r"\{[a-z]*\}", lambda found: texts.get(str(found[0]), str(found[0])), word) for word in self._words]
-        ended = processes.run(words, left, self._home, signal.SIGINT if self._has("{sol}") else signal.SIGTERM)
+        texts = {
+            **{place: str(path) for place, path in places.items()},
+            "{}": str(places["{opb}"]),
+            "{seconds}": str(max(1, int(left))),
+        }
+        words = [
+            re.sub(r"\{[a-z]*\}", lambda found: texts.get(str(found[0]), str(found[0])), word)
+            for word in self._words
+        ]
+        ended = processes.run(
+            words, left, self._home, signal.SIGINT if self._has("{sol}") else signal.SIGTERM
+        )
         return self._outcome(ended, places["{sol}"] if self._has("{sol}") else None)
 
     def _outcome(self, ended: Ended, result: Optional[Path]) -> Outcome:
@@ -90,10 +105,15 @@ class Solver:
         if result is None and _has_status(ended.data):
             return Outcome(ended.output)
         if ended.flooded:
-            return Outcome("", f"it printed more than {MAX_OUTPUT >> 20} MiB, too much for an answer")
+            return Outcome(
+                "", f"it printed more than {MAX_OUTPUT >> 20} MiB, too much for an answer"
+            )
         if ended.timed_out:
             return NONE_IN_TIME
-        return Outcome("", f"it {'printed no answer' if result is None else 'wrote no result file'} and {_ending(ended)}")
+        return Outcome(
+            "",
+            f"it {'printed no answer' if result is None else 'wrote no result file'} and {_ending(ended)}",
+        )
 
 
 def _has_status(printed: bytes) -> bool:
@@ -146,5 +166,7 @@ def _why_not_run(name: str) -> str:
     if Path(name).is_file() and "/" not in name:
         return f"there is no solver {name} in PATH: name the one in this folder ./{name}"
     package = PACKAGES.get(name)
-    advice = f"install it (Debian: apt-get install {package})" if package else "correct its name or path"
+    advice = (
+        f"install it (Debian: apt-get install {package})" if package else "correct its name or path"
+    )
     return f"there is no solver {name}: {advice}"

@@ -17,7 +17,9 @@ _NIGHT_ENDS = datetime.timedelta(hours=3)
 _TIMES = re.compile("([0-9]{1,2}:[0-9]{2}) ?[-\u2013] ?([0-9]{1,2}:[0-9]{2})")
 _WEEKDAY = re.compile("(mon|tue|wed|thu|fri|sat|sun)[a-z]* ?([0-9]{1,2})?", re.IGNORECASE)
 _CALENDAR_WEEK = re.compile(r"(?:cw|kw|calendar week)\.? ?([0-9]{1,2})", re.IGNORECASE)
-_IN_WORDS = re.compile(f"(?:(mon|tue|wed|thu|fri|sat|sun)[a-z]* )?([0-9]{{1,2}}) ({'|'.join(MONTHS)})", re.IGNORECASE)
+_IN_WORDS = re.compile(
+    f"(?:(mon|tue|wed|thu|fri|sat|sun)[a-z]* )?([0-9]{{1,2}}) ({'|'.join(MONTHS)})", re.IGNORECASE
+)
 _DATE = re.compile(r"([0-9]{4})-([0-9]{1,2})-([0-9]{1,2})|([0-9]{1,2})\.([0-9]{1,2})\.?([0-9]{4})?")
 
 
@@ -75,7 +77,9 @@ def read_monday(text: str, weeks: int) -> datetime.date:
         if str(date) != text:
             raise ValueError
     except ValueError:
-        raise Misuse(f"--monday {text}: this is no date: give year, month and day, such as 2026-11-30") from None
+        raise Misuse(
+            f"--monday {text}: this is no date: give year, month and day, such as 2026-11-30"
+        ) from None
     try:
         date + (7 * weeks + 2) * DAY
         monday = date - date.weekday() * DAY
@@ -90,7 +94,9 @@ def day_names(monday: Optional[datetime.date], week: int) -> Sequence[str]:
     """The days of a week, counted from 0, as `Mon 30 Nov`, or as `Mon` if the date is not known."""
     if monday is None:
         return DAYS
-    return [f"{day} {date_text(monday + (7 * week + number) * DAY)}" for number, day in enumerate(DAYS)]
+    return [
+        f"{day} {date_text(monday + (7 * week + number) * DAY)}" for number, day in enumerate(DAYS)
+    ]
 
 
 def read_times(texts: Sequence[str], shifts: Collection[str]) -> Dict[str, Times]:
@@ -100,7 +106,9 @@ def read_times(texts: Sequence[str], shifts: Collection[str]) -> Dict[str, Times
     for text in texts:
         shift, is_given, times = text.rpartition("=")
         if not is_given or not _TIMES.fullmatch(times):
-            raise Misuse(f"--times {text}: give a shift type, its start and its end, such as Early=06:00-14:15")
+            raise Misuse(
+                f"--times {text}: give a shift type, its start and its end, such as Early=06:00-14:15"
+            )
         if shift not in shifts:
             advice = did_you_mean(shift, shifts, f"give one of {quoted(shifts)}")
             raise Misuse(f"--times {text}: '{shift}' is no shift type: {advice}")
@@ -109,7 +117,9 @@ def read_times(texts: Sequence[str], shifts: Collection[str]) -> Dict[str, Times
         by_shift[shift] = times_of(times, f"--times {text}")
     missing = [shift for shift in shifts if shift not in by_shift]
     if by_shift and missing:
-        raise Misuse(f"--times has no times of {quoted(missing)}: give them too, such as --times {missing[0]}=06:00-14:15")
+        raise Misuse(
+            f"--times has no times of {quoted(missing)}: give them too, such as --times {missing[0]}=06:00-14:15"
+        )
     return by_shift
 
 
@@ -117,7 +127,9 @@ def times_of(text: str, where: str) -> Times:
     """The times of a shift, given as `06:00-14:15`. Raises Misuse, which names `where`, if the text is otherwise."""
     match = _TIMES.fullmatch(text)
     if not match:
-        raise Misuse(f"{where}: '{text}' has no times: write when the shift begins and ends, such as 06:00-14:15")
+        raise Misuse(
+            f"{where}: '{text}' has no times: write when the shift begins and ends, such as 06:00-14:15"
+        )
     start, end = (_minutes(where, time) for time in match.groups())
     length = (end - start) % (24 * 60) or 24 * 60
     return Times(datetime.time(start // 60 % 24, start % 60), datetime.timedelta(minutes=length))
@@ -127,7 +139,9 @@ def _minutes(where: str, time: str) -> int:
     """The minutes from midnight to a time, such as 6:00 or 24:00."""
     hours, minutes = map(int, time.split(":"))
     if minutes > 59 or hours * 60 + minutes > 24 * 60:
-        raise Misuse(f"{where}: {time} is no time of a day: give hours from 0 to 24 and minutes from 00 to 59")
+        raise Misuse(
+            f"{where}: {time} is no time of a day: give hours from 0 to 24 and minutes from 00 to 59"
+        )
     return hours * 60 + minutes
 
 
@@ -178,12 +192,19 @@ class PlanDays(NamedTuple):
         if len(weeks) == 1:
             return self.week_text(weeks[0])
         numbers = f"weeks {joined(str(week + 1) for week in weeks)}"
-        return numbers if self.monday is None else f"{numbers} (calendar weeks {joined(str(self.calendar_week(week)) for week in weeks)})"
+        return (
+            numbers
+            if self.monday is None
+            else f"{numbers} (calendar weeks {joined(str(self.calendar_week(week)) for week in weeks)})"
+        )
 
     def week_number(self, text: str) -> Optional[int]:
         """The week that a text names: `2` is the second one of the plan, and `CW 49`, or `49` in a plan of fewer weeks, a calendar week.
         None if the plan does not have it, or it is none."""
-        calendar, number = _CALENDAR_WEEK.fullmatch(text), int(text) if re.fullmatch("[0-9]{1,2}", text) else 0
+        calendar, number = (
+            _CALENDAR_WEEK.fullmatch(text),
+            int(text) if re.fullmatch("[0-9]{1,2}", text) else 0,
+        )
         if not calendar and 1 <= number <= self.weeks:
             return number - 1
         wanted = int(calendar[1]) if calendar else number
@@ -193,11 +214,19 @@ class PlanDays(NamedTuple):
     def text(self, day: int) -> str:
         """A day in a sentence, as `Fri 4 Dec`, or `Fri of week 1`."""
         name = DAYS[day % WEEK_DAYS]
-        return f"{name} of week {day // WEEK_DAYS + 1}" if self.monday is None else f"{name} {date_text(self.date(day))}"
+        return (
+            f"{name} of week {day // WEEK_DAYS + 1}"
+            if self.monday is None
+            else f"{name} {date_text(self.date(day))}"
+        )
 
     def span(self, days: Sequence[int]) -> str:
         """The first and the last of these days, as `Fri 4 Dec to Sun 6 Dec`."""
-        return self.text(days[0]) if days[0] == days[-1] else f"{self.text(days[0])} to {self.text(days[-1])}"
+        return (
+            self.text(days[0])
+            if days[0] == days[-1]
+            else f"{self.text(days[0])} to {self.text(days[-1])}"
+        )
 
     def spans(self, days: Collection[int]) -> str:
         """Days in a sentence, those in a row together."""
@@ -206,32 +235,51 @@ class PlanDays(NamedTuple):
 
     def head(self, day: int) -> str:
         """The day as the head of a column, as `2026-12-04` or `Fri 1`."""
-        return f"{DAYS[day % WEEK_DAYS]} {day // WEEK_DAYS + 1}" if self.monday is None else str(self.date(day))
+        return (
+            f"{DAYS[day % WEEK_DAYS]} {day // WEEK_DAYS + 1}"
+            if self.monday is None
+            else str(self.date(day))
+        )
 
     def number(self, text: str, near: int) -> int:
         """The day that a text names. A day of the week is the first one from the day `near` on. Raises OtherPlan if the plan does not have
         the day, and Misuse if the text is none."""
-        weekday, date, in_words = _WEEKDAY.fullmatch(text), written_date(text), _IN_WORDS.fullmatch(text)
+        weekday, date, in_words = (
+            _WEEKDAY.fullmatch(text),
+            written_date(text),
+            _IN_WORDS.fullmatch(text),
+        )
         if in_words:
             day = self.number(f"{in_words[2]}.{MONTHS.index(in_words[3].title()) + 1}.", near)
             if in_words[1] and in_words[1].title() != DAYS[day % WEEK_DAYS]:
-                raise Misuse(f"'{text}' is a {DAYS[day % WEEK_DAYS]}: write {self.head(day)}, if you mean this day")
+                raise Misuse(
+                    f"'{text}' is a {DAYS[day % WEEK_DAYS]}: write {self.head(day)}, if you mean this day"
+                )
         elif weekday:
-            of_week, week = DAYS.index(weekday[1].title()), self.week_number(weekday[2]) if weekday[2] else None
+            of_week, week = (
+                DAYS.index(weekday[1].title()),
+                self.week_number(weekday[2]) if weekday[2] else None,
+            )
             # A week that the plan does not have is said below.
             beyond = WEEK_DAYS * (self.weeks if week is None else week)
             day = beyond + of_week if weekday[2] else near + (of_week - near) % WEEK_DAYS
         elif date:
             day = self._of_date(text, date)
         else:
-            raise Misuse(f"'{text}' is no day: write a day such as {self.head(near)}, or Fri for the next Friday of the plan")
+            raise Misuse(
+                f"'{text}' is no day: write a day such as {self.head(near)}, or Fri for the next Friday of the plan"
+            )
         if not 0 <= day < self.total:
-            raise OtherPlan(f"'{text}' is not in this plan: it has the days {self.head(0)} to {self.head(self.total - 1)}")
+            raise OtherPlan(
+                f"'{text}' is not in this plan: it has the days {self.head(0)} to {self.head(self.total - 1)}"
+            )
         return day
 
     def _of_date(self, text: str, written: WrittenDate) -> int:
         if self.monday is None:
-            raise Misuse(f"'{text}': the sheet plan has no dates: write a day such as {self.head(0)}, or dates into its heads")
+            raise Misuse(
+                f"'{text}': the sheet plan has no dates: write a day such as {self.head(0)}, or dates into its heads"
+            )
         try:
             date = written.date(self.monday.year)
             if date < self.monday and written.year is None:

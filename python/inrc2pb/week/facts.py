@@ -71,7 +71,9 @@ def facts_text(name: str, claims: Sequence[Claim]) -> str:
     return f"FACTS\n{name}\n\nROWS = {len(claims)}\n{rows}"
 
 
-def read_facts(path: PathLike, scenario: Scenario, weeks: int = MAX_WEEKS, text: Optional[str] = None) -> Tuple[Claim, ...]:
+def read_facts(
+    path: PathLike, scenario: Scenario, weeks: int = MAX_WEEKS, text: Optional[str] = None
+) -> Tuple[Claim, ...]:
     """Reads a file of facts about a plan of so many weeks of this ward."""
     slots = Slots(path, text)
     slots.words("FACTS")
@@ -87,12 +89,17 @@ def read_facts(path: PathLike, scenario: Scenario, weeks: int = MAX_WEEKS, text:
 
 def read_fact(slots: Slots, scenario: Scenario, weeks: int) -> Fact:
     """Takes the words of a fact about a plan of so many weeks."""
-    return _READERS[slots.known_name("kind of fact", _READERS, "a row").text](slots, scenario, weeks)
+    return _READERS[slots.known_name("kind of fact", _READERS, "a row").text](
+        slots, scenario, weeks
+    )
 
 
 def _choice(slots: Slots, scenario: Scenario, weeks: int) -> Choice:
     week, nurse = _week(slots, weeks), _nurse(slots, scenario)
-    day, shift = _day(slots), slots.known_name("shift type", scenario.shift_types, "SHIFT_TYPES", (NONE,)).text
+    day, shift = (
+        _day(slots),
+        slots.known_name("shift type", scenario.shift_types, "SHIFT_TYPES", (NONE,)).text,
+    )
     return Choice(week, nurse, day, None if shift == NONE else shift)
 
 
@@ -156,7 +163,9 @@ Reasons = Dict[DayAway, str]
 
 def reasons_text(name: str, reasons: Reasons) -> str:
     """The text of a file of reasons of the ward with this name."""
-    rows = "".join(f"{away.week} {away.nurse} {DAYS[away.day]} {word}\n" for away, word in reasons.items())
+    rows = "".join(
+        f"{away.week} {away.nurse} {DAYS[away.day]} {word}\n" for away, word in reasons.items()
+    )
     return f"REASONS\n{name}\n\nROWS = {len(reasons)}\n{rows}"
 
 
@@ -173,7 +182,11 @@ def read_reasons(path: PathLike, scenario: Scenario, text: Optional[str] = None)
         token = slots.known_name("day", DAYS, "the week")
         away = DayAway(week, nurse, DAYS.index(token.text))
         if away in reasons:
-            slots.fault(token, "repeated", f"{nurse} has two reasons on {token.text} of week {week}: remove one")
+            slots.fault(
+                token,
+                "repeated",
+                f"{nurse} has two reasons on {token.text} of week {week}: remove one",
+            )
         reasons[away] = slots.any_word("the reason of a day away").text
     slots.end("reason")
     return reasons

@@ -7,7 +7,9 @@ from pathlib import Path
 from typing import Callable, Iterator, List, Optional, Sequence, Type, TypeVar, Union
 
 # Signs that a terminal obeys, such as the first one of a color, those that turn the direction of a text, and bytes of such signs.
-_CONTROL = re.compile("[\x00-\x08\x0b\x0c\x0e-\x1f\x7f-\x9f\u202a-\u202e\u2066-\u2069\udc80-\udc9f]")
+_CONTROL = re.compile(
+    "[\x00-\x08\x0b\x0c\x0e-\x1f\x7f-\x9f\u202a-\u202e\u2066-\u2069\udc80-\udc9f]"
+)
 # Advice after a fault of the operating system, by its number.
 _ADVICE = {
     "ENOENT": "look at its name and folder",
@@ -132,10 +134,16 @@ def page(name: str) -> str:
 
 # Advice after a fault of `inrc2pb`, by a part of its line.
 _PROGRAM_ADVICE = (
-    ("write failed", "look at the folder's name and permissions and at the free space (TMPDIR has the temporary files)"),
+    (
+        "write failed",
+        "look at the folder's name and permissions and at the free space (TMPDIR has the temporary files)",
+    ),
     ("read failed", "look at the file's name, folder and permissions"),
     ("out of memory", "end other programs"),
-    ("UNSATISFIABLE", f"the minimum numbers cannot all be met; {page('ward_reference.md')} shows how to find out why"),
+    (
+        "UNSATISFIABLE",
+        f"the minimum numbers cannot all be met; {page('ward_reference.md')} shows how to find out why",
+    ),
     ("UNKNOWN", "give the solver more time"),
     ("answer: ", "look at what the solver prints, or use another solver"),
     ("roster breaks", "correct its file, or leave it out"),
@@ -153,7 +161,9 @@ def fault_line(fault: BaseException) -> str:
     elif isinstance(fault, ProgramFault):
         of_line = next((advice for part, advice in _PROGRAM_ADVICE if part in fault.message), "")
         advice = _os_advice(fault.__cause__) if isinstance(fault.__cause__, OSError) else of_line
-    return printable((f"{line}: {advice}" if advice and not line.endswith("?") else line).replace("\n", " "))
+    return printable(
+        (f"{line}: {advice}" if advice and not line.endswith("?") else line).replace("\n", " ")
+    )
 
 
 def printable(text: str) -> str:

@@ -27,7 +27,16 @@ from .records import (
     WeekData,
     week_name,
 )
-from .slots import MAX_CONTRACTS, MAX_NURSES, MAX_SHIFTS, MAX_SKILLS, MAX_WEEKS, PathLike, Slots, Token
+from .slots import (
+    MAX_CONTRACTS,
+    MAX_NURSES,
+    MAX_SHIFTS,
+    MAX_SKILLS,
+    MAX_WEEKS,
+    PathLike,
+    Slots,
+    Token,
+)
 from .writing import write_text
 
 
@@ -50,9 +59,13 @@ def read_scenario(path: PathLike, text: Optional[str] = None) -> Scenario:
         nurse = slots.new_name("nurse", nurses)
         contract = slots.known_name("contract", contracts, "CONTRACTS").text
         count = slots.number(f"the number of skills of {nurse}", 0, len(skills))
-        nurses[nurse] = Nurse(nurse, contract, _names_once(slots, count, "skill", tuple(skills), "SKILLS"))
+        nurses[nurse] = Nurse(
+            nurse, contract, _names_once(slots, count, "skill", tuple(skills), "SKILLS")
+        )
     slots.end("nurse")
-    return Scenario(name, weeks, tuple(skills), shift_types=shift_types, contracts=contracts, nurses=nurses)
+    return Scenario(
+        name, weeks, tuple(skills), shift_types=shift_types, contracts=contracts, nurses=nurses
+    )
 
 
 def _shift_types(slots: Slots) -> Dict[str, ShiftType]:
@@ -67,7 +80,9 @@ def _shift_types(slots: Slots) -> Dict[str, ShiftType]:
         for _ in limits:
             token = slots.known_name("shift type", limits, "SHIFT_TYPES")
             _only_once(slots, token, after, f"the successions of '{token.text}' are")
-            count = slots.number(f"the number of shift types that may not follow {token.text}", 0, len(limits))
+            count = slots.number(
+                f"the number of shift types that may not follow {token.text}", 0, len(limits)
+            )
             after[token.text] = _names_once(slots, count, "shift type", limits, "SHIFT_TYPES")
     return {shift: ShiftType(shift, limits[shift], after[shift]) for shift in limits}
 
@@ -88,7 +103,9 @@ def _contracts(slots: Slots) -> Dict[str, Contract]:
     return contracts
 
 
-def _names_once(slots: Slots, count: int, kind: str, names: Iterable[str], source: str) -> Tuple[str, ...]:
+def _names_once(
+    slots: Slots, count: int, kind: str, names: Iterable[str], source: str
+) -> Tuple[str, ...]:
     known = list(names)
     taken: List[str] = []
     for _ in range(count):
@@ -98,7 +115,9 @@ def _names_once(slots: Slots, count: int, kind: str, names: Iterable[str], sourc
     return tuple(taken)
 
 
-def _only_once(slots: Slots, token: Token, taken: Iterable[object], what: str, key: object = None) -> None:
+def _only_once(
+    slots: Slots, token: Token, taken: Iterable[object], what: str, key: object = None
+) -> None:
     if (token.text if key is None else key) in taken:
         slots.fault(token, "repeated", f"{what} listed twice: remove one")
 
@@ -124,7 +143,10 @@ def _nurse_history(slots: Slots, nurse: str, scenario: Scenario) -> NurseHistory
     assignments = slots.number(f"the assignments of {nurse}")
     weekends = slots.number(f"the weekends of {nurse}")
     last = slots.known_name("shift type", scenario.shift_types, "SHIFT_TYPES", (NONE,)).text
-    runs = [slots.number(f"the consecutive {what} of {nurse}") for what in ("assignments to one shift type", "working days", "days off")]
+    runs = [
+        slots.number(f"the consecutive {what} of {nurse}")
+        for what in ("assignments to one shift type", "working days", "days off")
+    ]
     return NurseHistory(nurse, assignments, weekends, None if last == NONE else last, *runs)
 
 
@@ -132,7 +154,12 @@ def check_week_number(path: PathLike, history: History, scenario: Scenario) -> N
     """Raises FileFault if the history's week is none of the scenario's weeks."""
     if history.week >= scenario.weeks:
         over = "the period is over, begin a new one with inrc2pb-roster next --new-period"
-        raise FileFault(path, 0, f"week {history.week} is not below WEEKS = {scenario.weeks}: {over}", "week not below WEEKS")
+        raise FileFault(
+            path,
+            0,
+            f"week {history.week} is not below WEEKS = {scenario.weeks}: {over}",
+            "week not below WEEKS",
+        )
 
 
 def check_weeks_left(count: int, history: History, scenario: Scenario) -> None:
@@ -158,7 +185,13 @@ def read_week(path: PathLike, scenario: Scenario, text: Optional[str] = None) ->
         if token.text == ending:
             break
         skill = slots.known_name("skill", scenario.skills, "SKILLS")
-        _only_once(slots, skill, requirements, f"the row {token.text} {skill.text} is", Place(0, token.text, skill.text))
+        _only_once(
+            slots,
+            skill,
+            requirements,
+            f"the row {token.text} {skill.text} is",
+            Place(0, token.text, skill.text),
+        )
         for day, named in enumerate(DAYS):
             pair = slots.pair(f"{token.text} {skill.text} on {named}")
             requirements[Place(day, token.text, skill.text)] = Requirement(*pair)
@@ -185,7 +218,9 @@ def _day(slots: Slots) -> int:
     return DAYS.index(slots.known_name("day", DAYS, "the week").text)
 
 
-def read_solution(path: PathLike, scenario: Optional[Scenario] = None, text: Optional[str] = None) -> Solution:
+def read_solution(
+    path: PathLike, scenario: Optional[Scenario] = None, text: Optional[str] = None
+) -> Solution:
     """Reads a solution or fix file; with a scenario each name has to be one of its names."""
     slots = Slots(path, text)
     slots.words("SOLUTION")
@@ -194,10 +229,22 @@ def read_solution(path: PathLike, scenario: Optional[Scenario] = None, text: Opt
     slots.words("ASSIGNMENTS", "=")
     rows: Dict[Cell, None] = {}
     for _ in range(slots.number("the number of assignments")):
-        nurse = slots.known_name("nurse", scenario.nurses, "NURSES") if scenario else slots.any_word("a nurse")
+        nurse = (
+            slots.known_name("nurse", scenario.nurses, "NURSES")
+            if scenario
+            else slots.any_word("a nurse")
+        )
         day = _day(slots)
-        shift = slots.known_name("shift type", scenario.shift_types, "SHIFT_TYPES") if scenario else slots.any_word("a shift type")
-        skill = slots.known_name("skill", scenario.skills, "SKILLS") if scenario else slots.any_word("a skill")
+        shift = (
+            slots.known_name("shift type", scenario.shift_types, "SHIFT_TYPES")
+            if scenario
+            else slots.any_word("a shift type")
+        )
+        skill = (
+            slots.known_name("skill", scenario.skills, "SKILLS")
+            if scenario
+            else slots.any_word("a skill")
+        )
         row = Cell(nurse.text, day, shift.text, skill.text)
         _only_once(slots, skill, rows, f"the row '{row.row()}' is", row)
         rows[row] = None
@@ -206,15 +253,26 @@ def read_solution(path: PathLike, scenario: Optional[Scenario] = None, text: Opt
 
 
 def _row(*words: object) -> str:
-    return " ".join(f"({word.minimum},{word.maximum})" if isinstance(word, Limits) else str(word) for word in words)
+    return " ".join(
+        f"({word.minimum},{word.maximum})" if isinstance(word, Limits) else str(word)
+        for word in words
+    )
 
 
 def scenario_text(scenario: Scenario) -> str:
     """The text of a scenario file."""
-    types, contracts, nurses = scenario.shift_types.values(), scenario.contracts.values(), scenario.nurses.values()
+    types, contracts, nurses = (
+        scenario.shift_types.values(),
+        scenario.contracts.values(),
+        scenario.nurses.values(),
+    )
     lines = [f"SCENARIO = {scenario.name}", "", f"WEEKS = {scenario.weeks}"]
     lines += ["", f"SKILLS = {len(scenario.skills)}", *scenario.skills]
-    lines += ["", f"SHIFT_TYPES = {len(types)}", *(_row(shift.name, shift.consecutive) for shift in types)]
+    lines += [
+        "",
+        f"SHIFT_TYPES = {len(types)}",
+        *(_row(shift.name, shift.consecutive) for shift in types),
+    ]
     lines += ["", "FORBIDDEN_SHIFT_TYPES_SUCCESSIONS"]
     lines += [_row(shift.name, len(shift.forbidden_next), *shift.forbidden_next) for shift in types]
     lines += ["", f"CONTRACTS = {len(contracts)}"]
@@ -229,7 +287,11 @@ def scenario_text(scenario: Scenario) -> str:
         )
         for contract in contracts
     ]
-    lines += ["", f"NURSES = {len(nurses)}", *(_row(nurse.name, nurse.contract, len(nurse.skills), *nurse.skills) for nurse in nurses)]
+    lines += [
+        "",
+        f"NURSES = {len(nurses)}",
+        *(_row(nurse.name, nurse.contract, len(nurse.skills), *nurse.skills) for nurse in nurses),
+    ]
     return "\n".join(lines) + "\n"
 
 
@@ -237,10 +299,17 @@ def week_text(data: WeekData) -> str:
     """The text of a week's file."""
     lines = ["WEEK_DATA", data.name, "", "REQUIREMENTS"]
     for shift, skill in dict.fromkeys((place.shift, place.skill) for place in data.requirements):
-        pairs = [data.requirements.get(Place(day, shift, skill), Requirement(0, 0)) for day in range(len(DAYS))]
-        lines.append(_row(shift, skill, *(Limits(required.minimum, required.optimal) for required in pairs)))
+        pairs = [
+            data.requirements.get(Place(day, shift, skill), Requirement(0, 0))
+            for day in range(len(DAYS))
+        ]
+        lines.append(
+            _row(shift, skill, *(Limits(required.minimum, required.optimal) for required in pairs))
+        )
     lines += ["", f"SHIFT_OFF_REQUESTS = {len(data.requests)}"]
-    lines += [_row(request.nurse, request.shift or ANY, DAYS[request.day]) for request in data.requests]
+    lines += [
+        _row(request.nurse, request.shift or ANY, DAYS[request.day]) for request in data.requests
+    ]
     return "\n".join(lines) + "\n"
 
 

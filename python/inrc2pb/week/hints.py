@@ -11,7 +11,9 @@ HEADINGS = (
     "SCENARIO WEEKS SKILLS SHIFT_TYPES FORBIDDEN_SHIFT_TYPES_SUCCESSIONS CONTRACTS NURSES HISTORY NURSE_HISTORY WEEK_DATA REQUIREMENTS "
     "SHIFT_OFF_REQUESTS SOLUTION ASSIGNMENTS"
 ).split()
-_COUNTED = re.compile(r"\s*(?:SKILLS|SHIFT_TYPES|CONTRACTS|NURSES|SHIFT_OFF_REQUESTS|ASSIGNMENTS)\s*=\s*([0-9]{1,9})\s*$")
+_COUNTED = re.compile(
+    r"\s*(?:SKILLS|SHIFT_TYPES|CONTRACTS|NURSES|SHIFT_OFF_REQUESTS|ASSIGNMENTS)\s*=\s*([0-9]{1,9})\s*$"
+)
 _BEGINS = ("PK\x03\x04", "%PDF", "{\\rtf")
 _IN_BRACKETS = re.compile(r"\([^()]*\)")
 # Blanks that look like others, and are letters of a name.
@@ -38,7 +40,9 @@ def is_no_text(text: str) -> bool:
     return "\0" in text or text.startswith(_BEGINS)
 
 
-def reasons(lines: Sequence[str], line: int, word: str, names: Collection[str] = (), heading: str = "") -> str:
+def reasons(
+    lines: Sequence[str], line: int, word: str, names: Collection[str] = (), heading: str = ""
+) -> str:
     """The probable reasons of a fault at this word of a line (none: at the end of the file), as the end of its sentence.
 
     Each of the names should have a line below the heading.
@@ -97,8 +101,14 @@ def _wrong_row(lines: Sequence[str], line: int) -> Iterator[str]:
     """The mistake in the row before the fault, else in the row of the fault: a wrong number of words, or a wrong order."""
     rows = [number for number in range(line) if words_of(lines[number])]
     for number in rows[-2:]:
-        section = next((heading for heading in map(_heading_of, reversed(lines[:number])) if heading), "")
-        reason = None if _heading_of(lines[number]) or section not in _ROWS else _ROWS[section](lines[number])
+        section = next(
+            (heading for heading in map(_heading_of, reversed(lines[:number])) if heading), ""
+        )
+        reason = (
+            None
+            if _heading_of(lines[number]) or section not in _ROWS
+            else _ROWS[section](lines[number])
+        )
         if reason:
             yield reason
             return
@@ -132,7 +142,11 @@ def _names_of(row: str) -> List[str]:
 def _blank_in(row: str, count: int) -> Optional[str]:
     """A reason if a row begins with more words than it should have names. One with = is a heading, though a wrong one."""
     names = [] if "=" in row else _names_of(row)
-    return f"does a name in '{' '.join(names)}' have a blank? write _ for it" if len(names) > count else None
+    return (
+        f"does a name in '{' '.join(names)}' have a blank? write _ for it"
+        if len(names) > count
+        else None
+    )
 
 
 def _announced(names: int, noun: str) -> Callable[[str], Optional[str]]:
@@ -153,13 +167,21 @@ def _announced(names: int, noun: str) -> Callable[[str], Optional[str]]:
 def _required(row: str) -> Optional[str]:
     """A reason if a row has another number of pairs than days. One with = is a heading, though a wrong one."""
     names, pairs = "" if "=" in row else " ".join(_names_of(row)), row.count("(")
-    return f"{names} has {plural(pairs, 'pair')}, and {len(DAYS)} are needed" if names and pairs != len(DAYS) else None
+    return (
+        f"{names} has {plural(pairs, 'pair')}, and {len(DAYS)} are needed"
+        if names and pairs != len(DAYS)
+        else None
+    )
 
 
 def _requested(row: str) -> Optional[str]:
     words = words_of(row)
     turned = len(words) == 3 and words[1] in DAYS and words[2] not in DAYS
-    return "the shift type comes first, then the day" if turned else _wrong_length(row, 3, "a request has a nurse, a shift type and a day")
+    return (
+        "the shift type comes first, then the day"
+        if turned
+        else _wrong_length(row, 3, "a request has a nurse, a shift type and a day")
+    )
 
 
 def _assigned(row: str) -> Optional[str]:
@@ -184,7 +206,9 @@ def _wrong_length(row: str, count: int, says: str) -> Optional[str]:
 
 def _past(row: str) -> Optional[str]:
     words = words_of(row)
-    return _blank_in(row, 1) or (None if len(words) == 7 else f"{words[0]} has {len(words) - 1} entries, and 6 are needed")
+    return _blank_in(row, 1) or (
+        None if len(words) == 7 else f"{words[0]} has {len(words) - 1} entries, and 6 are needed"
+    )
 
 
 _ROWS: Dict[str, Callable[[str], Optional[str]]] = {
@@ -218,7 +242,9 @@ def _reasons(lines: Sequence[str], line: int, word: str) -> Iterator[str]:
             yield f"{where}remove the quotation marks"
         if ";" in text.strip(" ;\t\r"):
             yield f"{where}write blanks for the semicolons; inrc2pb-plan reads spreadsheets"
-        if re.search(r"[^\s(),=],[^\s(),=]", _IN_BRACKETS.sub(" ", text)) and not re.search(r"[0-9],[0-9]", _IN_BRACKETS.sub(" ", text)):
+        if re.search(r"[^\s(),=],[^\s(),=]", _IN_BRACKETS.sub(" ", text)) and not re.search(
+            r"[0-9],[0-9]", _IN_BRACKETS.sub(" ", text)
+        ):
             yield f"{where}write blanks for the commas; inrc2pb-plan reads spreadsheets"
         if re.search(r"[\[\]{}]", text):
             yield f"{where}write ( and ) for other brackets"
@@ -237,4 +263,7 @@ def of_another_kind(word: str) -> str:
 def composed_otherwise(word: str, names: Collection[str]) -> Optional[str]:
     """The name that looks like this word, and has other bytes: an accent may be a part of its letter or a sign of its own."""
     same = unicodedata.normalize("NFC", word)
-    return next((name for name in names if name != word and unicodedata.normalize("NFC", name) == same), None)
+    return next(
+        (name for name in names if name != word and unicodedata.normalize("NFC", name) == same),
+        None,
+    )

@@ -26,7 +26,9 @@ def own_bytes(top: Path, name: str) -> bytes:
             os.close(inside)
             inside = inner
         # A pipe is opened without a wait for its writer.
-        with open(os.open(last, os.O_RDONLY | os.O_NOFOLLOW | os.O_NONBLOCK, dir_fd=inside), "rb") as file:
+        with open(
+            os.open(last, os.O_RDONLY | os.O_NOFOLLOW | os.O_NONBLOCK, dir_fd=inside), "rb"
+        ) as file:
             if not stat.S_ISREG(os.fstat(file.fileno()).st_mode):
                 raise FileNotFoundError(errno.ENOENT, "it is no file", name)
             return file.read()
@@ -49,7 +51,9 @@ def check_inside(path: Path, top: Path) -> None:
 def check_no_link(path: Path) -> None:
     """Raises Misuse if the path is a link."""
     if path.is_symlink():
-        raise Misuse(f"{path} is a link, and no link is followed here: put what it leads to in its place, or delete it")
+        raise Misuse(
+            f"{path} is a link, and no link is followed here: put what it leads to in its place, or delete it"
+        )
 
 
 def check_own(folder: Path) -> None:
@@ -57,7 +61,11 @@ def check_own(folder: Path) -> None:
     for path in (folder, *sorted(folder.iterdir())):
         if path.is_symlink():
             raise FileFault(
-                path, 0, "this is a link, and no link is followed here: delete it, or type undo to go back to the plan before it"
+                path,
+                0,
+                "this is a link, and no link is followed here: delete it, or type undo to go back to the plan before it",
             )
         if not path.is_file() and not path.is_dir():
-            raise FileFault(path, 0, "this is no file: delete it, or type undo to go back to the plan before it")
+            raise FileFault(
+                path, 0, "this is no file: delete it, or type undo to go back to the plan before it"
+            )

@@ -1,7 +1,18 @@
 """A scenario, a history, a week and a roster as values. Days are numbers from 0 (Monday); `DAYS` has their names."""
 
 from dataclasses import dataclass
-from typing import Dict, FrozenSet, Iterable, List, Mapping, NamedTuple, Optional, Sequence, Set, Tuple
+from typing import (
+    Dict,
+    FrozenSet,
+    Iterable,
+    List,
+    Mapping,
+    NamedTuple,
+    Optional,
+    Sequence,
+    Set,
+    Tuple,
+)
 
 DAYS = ("Mon", "Tue", "Wed", "Thu", "Fri", "Sat", "Sun")
 NONE, ANY = "None", "Any"
@@ -193,17 +204,26 @@ class Week:
 
 def in_week(cells: Iterable[Cell], week: int) -> Tuple[Cell, ...]:
     """The shifts of a week, with the days of the week, as files have them."""
-    return tuple(cell._replace(day=cell.day % WEEK_DAYS) for cell in cells if cell.day // WEEK_DAYS == week)
+    return tuple(
+        cell._replace(day=cell.day % WEEK_DAYS) for cell in cells if cell.day // WEEK_DAYS == week
+    )
 
 
 def in_plan(rosters: Iterable[Sequence[Cell]]) -> Tuple[Cell, ...]:
     """The shifts of weeks, one after another from the first one on, with the days of the plan."""
-    return tuple(cell._replace(day=WEEK_DAYS * week + cell.day) for week, cells in enumerate(rosters) for cell in cells)
+    return tuple(
+        cell._replace(day=WEEK_DAYS * week + cell.day)
+        for week, cells in enumerate(rosters)
+        for cell in cells
+    )
 
 
 def exchanged(cells: Iterable[Cell], days: Mapping[NurseDay, NurseDay]) -> List[Cell]:
     """The shifts after nurses' days have got those of other nurses' days, each of which is the key of the other."""
-    places = ((cell, days.get(NurseDay(cell.nurse, cell.day), NurseDay(cell.nurse, cell.day))) for cell in cells)
+    places = (
+        (cell, days.get(NurseDay(cell.nurse, cell.day), NurseDay(cell.nurse, cell.day)))
+        for cell in cells
+    )
     return [cell._replace(nurse=place.nurse, day=place.day) for cell, place in places]
 
 

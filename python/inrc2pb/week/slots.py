@@ -4,10 +4,28 @@ import contextlib
 import difflib
 import re
 from pathlib import Path
-from typing import Callable, Collection, Iterable, Iterator, List, NamedTuple, NoReturn, Optional, Tuple, Union
+from typing import (
+    Callable,
+    Collection,
+    Iterable,
+    Iterator,
+    List,
+    NamedTuple,
+    NoReturn,
+    Optional,
+    Tuple,
+    Union,
+)
 
 from .faults import FileFault
-from .hints import HEADINGS, composed_otherwise, is_no_text, of_another_kind, reason_of_signs, reasons
+from .hints import (
+    HEADINGS,
+    composed_otherwise,
+    is_no_text,
+    of_another_kind,
+    reason_of_signs,
+    reasons,
+)
 from .records import Limits
 from .words import quoted
 
@@ -36,7 +54,9 @@ def text_of(path: PathLike) -> str:
     if len(data) > MAX_FILE_LEN:
         raise FileFault(path, 0, f"the file has more than {MAX_FILE_LEN} bytes", "out of limits")
     if data[:2] in (b"\xff\xfe", b"\xfe\xff") or (b"\0" in data[:2] and data[:1] != b"\n"):
-        raise FileFault(path, 1, "this is UTF-16 text: save the file as UTF-8", "another word expected")
+        raise FileFault(
+            path, 1, "this is UTF-16 text: save the file as UTF-8", "another word expected"
+        )
     if data[:3] == b"\xef\xbb\xbf":
         message = "the file begins with a byte order mark (BOM): save it as UTF-8 without one"
         raise FileFault(path, 1, message, "another word expected")
@@ -58,7 +78,11 @@ def is_utf8(word: str) -> bool:
 
 def _comment_hint(word: str) -> str:
     """The end of a sentence, if the word begins like a comment."""
-    return f"; '{word}' looks like a comment: the files have none, so remove it" if word.startswith(_COMMENT_STARTS) else ""
+    return (
+        f"; '{word}' looks like a comment: the files have none, so remove it"
+        if word.startswith(_COMMENT_STARTS)
+        else ""
+    )
 
 
 def _other_encoding(word: str, names: Iterable[str]) -> str:
@@ -74,11 +98,20 @@ def closest(word: str, names: Iterable[str]) -> Optional[str]:
     words = list(names)
     low = word.lower()
     same = [name for name in words if name.lower() == low]
-    longer = [name for name in words if len(name) > 2 and low.startswith(name.lower()) or len(low) > 2 and name.lower().startswith(low)]
+    longer = [
+        name
+        for name in words
+        if len(name) > 2
+        and low.startswith(name.lower())
+        or len(low) > 2
+        and name.lower().startswith(low)
+    ]
     return next(iter(same or difflib.get_close_matches(word, words, 1) or longer), None)
 
 
-def did_you_mean(word: str, names: Iterable[str], otherwise: str, shown: Callable[[str], str] = str) -> str:
+def did_you_mean(
+    word: str, names: Iterable[str], otherwise: str, shown: Callable[[str], str] = str
+) -> str:
     """A question with the name that the word most likely means, as it is shown; without one, what else to do."""
     meant = closest(word, names)
     return f"did you mean {shown(meant)}?" if meant else otherwise
@@ -104,7 +137,9 @@ class Slots:
 
     def fault(self, token: Token, fault: str, message: str) -> NoReturn:
         """Raises a fault at this token, with its probable reasons."""
-        comment = next(filter(None, (_comment_hint(word.text) for word in (token, *self._before(token)))), "")
+        comment = next(
+            filter(None, (_comment_hint(word.text) for word in (token, *self._before(token)))), ""
+        )
         lines = self.text.split("\n")
         signs = reason_of_signs(lines, token.line, token.text)
         if is_no_text(self.text):
@@ -161,7 +196,11 @@ class Slots:
             token = self.next(f"'{word}'")
             if token.text != word:
                 other = of_another_kind(token.text) if self.at == 1 else ""
-                self.fault(token, "another word expected", f"'{token.text}' where '{word}' should be{other}")
+                self.fault(
+                    token,
+                    "another word expected",
+                    f"'{token.text}' where '{word}' should be{other}",
+                )
 
     def any_word(self, what: str) -> Token:
         """A word that no list restricts."""
@@ -174,10 +213,16 @@ class Slots:
         """A number in decimal digits within its limits."""
         token = self.next(what)
         if not re.fullmatch("[0-9]+", token.text):
-            self.fault(token, "number expected", f"'{token.text}' where {what} should be, a whole number")
+            self.fault(
+                token, "number expected", f"'{token.text}' where {what} should be, a whole number"
+            )
         digits = token.text.lstrip("0") or "0"
         if len(digits) > 9 or not minimum <= int(digits) <= most:
-            self.fault(token, "out of limits", f"{what} is {token.text[:20]}: it has to be from {minimum} to {most}")
+            self.fault(
+                token,
+                "out of limits",
+                f"{what} is {token.text[:20]}: it has to be from {minimum} to {most}",
+            )
         return int(digits)
 
     def pair(self, what: str) -> Limits:
@@ -193,10 +238,14 @@ class Slots:
         """A name that is not in the list yet."""
         token = self.any_word(f"the name of a {kind}")
         if token.text in taken:
-            self.fault(token, "repeated", f"the {kind} '{token.text}' is there already: use another name")
+            self.fault(
+                token, "repeated", f"the {kind} '{token.text}' is there already: use another name"
+            )
         return token.text
 
-    def known_name(self, kind: str, names: Collection[str], source: str, others: Tuple[str, ...] = ()) -> Token:
+    def known_name(
+        self, kind: str, names: Collection[str], source: str, others: Tuple[str, ...] = ()
+    ) -> Token:
         """A name of this list, or one of the other words that may be in its place."""
         token = self.any_word(f"a {kind}")
         if token.text not in names and token.text not in others:
@@ -209,7 +258,9 @@ class Slots:
             self.fault(token, "unknown name", f"'{token.text}' where a {kind} should be")
         encoding = _other_encoding(token.text, names)
         if encoding:
-            self.fault(token, "unknown name", f"'{token.text}' is no {kind} of {source}: {encoding}")
+            self.fault(
+                token, "unknown name", f"'{token.text}' is no {kind} of {source}: {encoding}"
+            )
         same = composed_otherwise(token.text, names)
         if same:
             self.fault(

@@ -73,7 +73,9 @@ def replacing_link(target: Path, path: Optional[PathLike] = None) -> Iterator[Te
     try:
         try:
             # The system applies the umask: to ask for it, one has to change it for all threads.
-            handle = os.open(name, os.O_WRONLY | os.O_CREAT | os.O_EXCL, 0o666 if mode is None else 0o600)
+            handle = os.open(
+                name, os.O_WRONLY | os.O_CREAT | os.O_EXCL, 0o666 if mode is None else 0o600
+            )
         except OSError as fault:
             fault.filename = str(path or target)
             raise
@@ -114,11 +116,15 @@ def _write_over(target: Path, data: bytes) -> None:
         file.truncate()
 
 
-def check_inputs_stay(inputs: Iterable[Optional[Path]], target: Path, what: str, choose: str = "file") -> None:
+def check_inputs_stay(
+    inputs: Iterable[Optional[Path]], target: Path, what: str, choose: str = "file"
+) -> None:
     """Raises Misuse if the target would replace a file that the command reads, by its path or by a link."""
     for path in inputs:
         if path and path.is_file() and target.is_file() and os.path.samefile(path, target):
-            raise Misuse(f"{path} is read, so {what} cannot be written to it: choose another {choose}")
+            raise Misuse(
+                f"{path} is read, so {what} cannot be written to it: choose another {choose}"
+            )
 
 
 def check_no_pipes(inputs: Iterable[Optional[Path]]) -> None:

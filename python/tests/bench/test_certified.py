@@ -26,7 +26,9 @@ class Certified(unittest.TestCase):
         weeks = [one for one in instances.INSTANCES if one.weeks == 1]
         self.assertEqual((len(weeks), len(instances.INSTANCES) - len(weeks)), (60, 12))
         self.assertEqual(len({one.name for one in instances.INSTANCES}), 72)
-        self.assertEqual({min(one.nurses for one in weeks), max(one.nurses for one in weeks)}, {5, 1000})
+        self.assertEqual(
+            {min(one.nurses for one in weeks), max(one.nurses for one in weeks)}, {5, 1000}
+        )
 
     def test_the_files_are_those_of_the_table(self):
         rows = certify.rows()
@@ -45,22 +47,45 @@ class Certified(unittest.TestCase):
                 self.assertLessEqual(int(row.bound), int(row.best))
 
     def test_the_page_has_the_table(self):
-        self.assertIn(f"{certify.BEGIN}\n\n{certify.table(certify.rows())}\n\n{certify.END}", certify.PAGE.read_text())
+        self.assertIn(
+            f"{certify.BEGIN}\n\n{certify.table(certify.rows())}\n\n{certify.END}",
+            certify.PAGE.read_text(),
+        )
 
     @unittest.skipUnless(find_prover(), "needs inrc2pb-bound")
     def test_the_programs_confirm_some(self):
-        script, environment = CERTIFIED / "check.sh", {"INRC2PB": str(program.find_program()), "PATH": "/usr/bin:/bin"}
-        ran = subprocess.run([str(script), *CHECKED], stdout=subprocess.PIPE, stderr=subprocess.STDOUT, text=True, env=environment)
-        self.assertEqual((ran.returncode, ran.stdout.splitlines()[-1]), (0, f"{len(CHECKED)} confirmed, 0 failed"), ran.stdout)
+        script, environment = CERTIFIED / "check.sh", {
+            "INRC2PB": str(program.find_program()),
+            "PATH": "/usr/bin:/bin",
+        }
+        ran = subprocess.run(
+            [str(script), *CHECKED],
+            stdout=subprocess.PIPE,
+            stderr=subprocess.STDOUT,
+            text=True,
+            env=environment,
+        )
+        self.assertEqual(
+            (ran.returncode, ran.stdout.splitlines()[-1]),
+            (0, f"{len(CHECKED)} confirmed, 0 failed"),
+            ran.stdout,
+        )
 
     @unittest.skipUnless(find_prover(), "needs inrc2pb-bound")
     def test_a_wrong_row_is_told(self):
         row = certify.rows()["last-12"]
         with tempfile.TemporaryDirectory() as room:
             files = instances.make(instances.named("last-12"), Path(room))
-            self.assertEqual(hashlib.sha256(b"".join(path.read_bytes() for path in files.all())).hexdigest(), row.files)
-            self.assertEqual(certify.model_of(files), [str(row.variables), str(row.constraints), row.model])
-            self.assertEqual(certify.proved(files, CERTIFIED / "known" / "last-12"), (row.bound, int(row.best)))
+            self.assertEqual(
+                hashlib.sha256(b"".join(path.read_bytes() for path in files.all())).hexdigest(),
+                row.files,
+            )
+            self.assertEqual(
+                certify.model_of(files), [str(row.variables), str(row.constraints), row.model]
+            )
+            self.assertEqual(
+                certify.proved(files, CERTIFIED / "known" / "last-12"), (row.bound, int(row.best))
+            )
 
 
 if __name__ == "__main__":

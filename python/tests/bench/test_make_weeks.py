@@ -30,7 +30,13 @@ def first_roster(plan):
 class MadeWards(HelperTest):
     def made(self, nurses, *options):
         """Makes a ward; its folder, or the fault."""
-        words = [sys.executable, str(ROOT / "bench/make_weeks.py"), str(self.folder), str(nurses), *options]
+        words = [
+            sys.executable,
+            str(ROOT / "bench/make_weeks.py"),
+            str(self.folder),
+            str(nurses),
+            *options,
+        ]
         ran = subprocess.run(words, stdout=subprocess.PIPE, stderr=subprocess.PIPE)
         return ran.stderr.decode() if ran.returncode else self.folder / f"ward{nurses}"
 
@@ -38,37 +44,58 @@ class MadeWards(HelperTest):
         ward = self.made(30)
         for name in ("ward.txt", "history-3.txt", "week-3.txt"):
             text = (ward / name).read_text()
-            self.assertEqual(text.replace("ward30", "thirty"), (EXAMPLES / "thirty" / name).read_text())
+            self.assertEqual(
+                text.replace("ward30", "thirty"), (EXAMPLES / "thirty" / name).read_text()
+            )
 
     def test_numbers_of_nurses_out_of_limits(self):
         for nurses in ("11", "1001", "many"):
             self.assertIn("no number from 12 to 1000\n", self.made(nurses))
 
     def test_wide_weeks_can_be_planned(self):
-        words = [sys.executable, str(ROOT / "bench/wide_weeks.py"), str(self.folder), "60", "8", "3"]
+        words = [
+            sys.executable,
+            str(ROOT / "bench/wide_weeks.py"),
+            str(self.folder),
+            "60",
+            "8",
+            "3",
+        ]
         texts = []
         for _ in range(2):
             subprocess.run(words, check=True)
             texts.append([path.read_text() for path in sorted((self.folder / "wide8x3").iterdir())])
         self.assertEqual(texts[0], texts[1])
-        week = files.read_files(*(self.folder / "wide8x3" / name for name in ("ward.txt", "history-3.txt", "week-3.txt")))
+        week = files.read_files(
+            *(
+                self.folder / "wide8x3" / name
+                for name in ("ward.txt", "history-3.txt", "week-3.txt")
+            )
+        )
         plan = Plan.of(week.scenario, week.history, [week.data])
         found = first_roster(plan)
         self.assertEqual((found.below, first_broken(week, found.cells)), (0, None))
-        self.assertNotEqual(subprocess.run([*words[:-1], "many"], stderr=subprocess.DEVNULL).returncode, 0)
+        self.assertNotEqual(
+            subprocess.run([*words[:-1], "many"], stderr=subprocess.DEVNULL).returncode, 0
+        )
 
     def weeks(self, nurses, *options):
         """The weeks of a ward. Those in the middle get the first one's history: planning makes their own."""
         ward = self.made(nurses, *options)
         for number in range(4):
             past = 3 if number == 3 else 0
-            week = files.read_files(ward / "ward.txt", ward / f"history-{past}.txt", ward / f"week-{number}.txt")
+            week = files.read_files(
+                ward / "ward.txt", ward / f"history-{past}.txt", ward / f"week-{number}.txt"
+            )
             yield replace(week, history=replace(week.history, week=number))
 
     def test_the_minimum_is_in_proportion(self):
         for nurses in SIZES:
             for week in self.weeks(nurses):
-                self.assertEqual((len(week.scenario.nurses), len(week.data.requests)), (nurses, 25 * nurses // 30))
+                self.assertEqual(
+                    (len(week.scenario.nurses), len(week.data.requests)),
+                    (nurses, 25 * nurses // 30),
+                )
                 minimum = sum(required.minimum for required in week.data.requirements.values())
                 self.assertLess(abs(minimum - MINIMUM * nurses / 30), 3)
 

@@ -14,7 +14,9 @@ BURN = "import time\nwhile time.process_time() < 0.4: pass"
 class Measured(HelperTest):
     def test_seconds_of_a_process_that_is_left_behind_count(self):
         with open(self.folder / "said.txt", "w+") as said:
-            _, seconds, _ = solvers.measured(["sh", "-c", f'echo this; "{sys.executable}" -c "{BURN}" & '], said)
+            _, seconds, _ = solvers.measured(
+                ["sh", "-c", f'echo this; "{sys.executable}" -c "{BURN}" & '], said
+            )
             said.seek(0)
             self.assertEqual(said.read(), "this\n")
         self.assertGreater(seconds, 0.35)

@@ -12,7 +12,18 @@ import sys
 import time
 import unittest
 
-from ward import ENOUGH, HELPERS, HISTORY, ROSTER, SCENARIO, WEEK, WEEK_OPTIONS, HelperTest, program, run
+from ward import (
+    ENOUGH,
+    HELPERS,
+    HISTORY,
+    ROSTER,
+    SCENARIO,
+    WEEK,
+    WEEK_OPTIONS,
+    HelperTest,
+    program,
+    run,
+)
 
 NAMES = sorted(path.name[len("inrc2pb-") :] for path in HELPERS.glob("inrc2pb-*"))
 FILES = ("--sce", SCENARIO, "--his", HISTORY)
@@ -22,13 +33,21 @@ class Words(HelperTest):
     def test_words_that_do_not_fit_have_their_advice(self):
         solve, check = ("solve", "--out", "best.txt"), ("roster", "check")
         for words, command, line in (
-            ((*solve, *FILES, "--week", WEEK, "--tine", "5"), "solve", "unrecognized arguments: --tine 5: --tine: did you mean --time?"),
+            (
+                (*solve, *FILES, "--week", WEEK, "--tine", "5"),
+                "solve",
+                "unrecognized arguments: --tine 5: --tine: did you mean --time?",
+            ),
             (
                 ("roster", "fits", "Mon,", "Tue", *FILES, "--week", WEEK),
                 "roster fits",
                 "unrecognized arguments: Mon, Tue: write no blank between the days or names, as in Mon,Tue",
             ),
-            (("roster", "next", *FILES, ROSTER), "roster next", "the following arguments are required: --roster"),
+            (
+                ("roster", "next", *FILES, ROSTER),
+                "roster next",
+                "the following arguments are required: --roster",
+            ),
             (
                 (*check, "--scenario", SCENARIO),
                 "roster check",
@@ -49,7 +68,11 @@ class Words(HelperTest):
                 "roster show",
                 "'--sce a --his b' is one word: write $WEEK without quotes, in bash",
             ),
-            (solve, "solve", "the following arguments are required: --sce, --his, --week: is WEEK set in this terminal?"),
+            (
+                solve,
+                "solve",
+                "the following arguments are required: --sce, --his, --week: is WEEK set in this terminal?",
+            ),
             (
                 (*solve, *FILES, "--week", WEEK, "--time", "2,5"),
                 "solve",
@@ -60,16 +83,28 @@ class Words(HelperTest):
                 "solve",
                 "argument --timeout: '1m' is no number: give seconds, such as 60 or 2.5",
             ),
-            ((*solve, *FILES, "--week", WEEK, "--time", ""), "solve", "argument --time: '' is no number: give seconds, such as 60 or 2.5"),
+            (
+                (*solve, *FILES, "--week", WEEK, "--time", ""),
+                "solve",
+                "argument --time: '' is no number: give seconds, such as 60 or 2.5",
+            ),
         ):
             with self.subTest(words):
                 status, printed, said = run(*words)
-                self.assertEqual((status, printed, said.splitlines()[-1]), (2, "", f"inrc2pb-{command}: error: {line}"))
+                self.assertEqual(
+                    (status, printed, said.splitlines()[-1]),
+                    (2, "", f"inrc2pb-{command}: error: {line}"),
+                )
 
     def test_a_path_with_a_blank(self):
         status, _, said = run("solve", "--out", "my", "best.txt", *FILES, "--week", WEEK)
-        advice = "rename a file or folder whose path has a blank, and write an option before each file"
-        self.assertEqual((status, said.splitlines()[-1]), (2, f"inrc2pb-solve: error: unrecognized arguments: best.txt: {advice}"))
+        advice = (
+            "rename a file or folder whose path has a blank, and write an option before each file"
+        )
+        self.assertEqual(
+            (status, said.splitlines()[-1]),
+            (2, f"inrc2pb-solve: error: unrecognized arguments: best.txt: {advice}"),
+        )
 
     def test_the_verb_comes_first(self):
         names = "show, why, swap, check, next, fits, referee, results, names"
@@ -92,7 +127,10 @@ class Words(HelperTest):
     def test_a_solver_in_capitals(self):
         for name in ("CBC", "Clasp"):
             status, _, said = run("solve", *WEEK_OPTIONS, "--out", "best.txt", "--solver", name)
-            self.assertEqual((status, said), (1, f"inrc2pb-solve: there is no solver {name}: did you mean {name.lower()}?\n"))
+            self.assertEqual(
+                (status, said),
+                (1, f"inrc2pb-solve: there is no solver {name}: did you mean {name.lower()}?\n"),
+            )
 
 
 class Twice(HelperTest):
@@ -111,14 +149,24 @@ class Twice(HelperTest):
             with self.subTest(words):
                 status, printed, said = run(*words)
                 self.assertEqual((status, printed), (2, ""))
-                self.assertRegex(said.splitlines()[-1], f"^inrc2pb-.*: error: argument {option}: it is given twice: give it once$")
+                self.assertRegex(
+                    said.splitlines()[-1],
+                    f"^inrc2pb-.*: error: argument {option}: it is given twice: give it once$",
+                )
 
     def test_files_of_several_weeks_may_follow_one_option_or_several(self):
-        self.assertEqual(run("roster", "check", *WEEK_OPTIONS, "--roster", ROSTER, "--roster", ROSTER)[0], 0)
+        self.assertEqual(
+            run("roster", "check", *WEEK_OPTIONS, "--roster", ROSTER, "--roster", ROSTER)[0], 0
+        )
         self.assertEqual(run("roster", "check", *WEEK_OPTIONS, "--roster", ROSTER, ROSTER)[0], 0)
-        fixes, rosters = ("--fix", f"1={ROSTER}", "--fix", f"2={ROSTER}"), ("--roster", ROSTER, ROSTER)
+        fixes, rosters = ("--fix", f"1={ROSTER}", "--fix", f"2={ROSTER}"), (
+            "--roster",
+            ROSTER,
+            ROSTER,
+        )
         shown = [
-            run("roster", "show", *FILES, *weeks, *fixes, *rosters) for weeks in (("--week", WEEK, "--week", WEEK), ("--week", WEEK, WEEK))
+            run("roster", "show", *FILES, *weeks, *fixes, *rosters)
+            for weeks in (("--week", WEEK, "--week", WEEK), ("--week", WEEK, WEEK))
         ]
         self.assertEqual((shown[0][0], shown[0][1]), (0, shown[1][1]))
 
@@ -128,20 +176,33 @@ class Starting(HelperTest):
         version = program.run_program("--version")
         for name in NAMES:
             self.assertEqual(run(name, "--version"), (0, version, ""))
-        for words in (("roster", "show"), ("solve", "--inrc2"), ("solve", "--model"), ("solve", "--answer", "a")):
+        for words in (
+            ("roster", "show"),
+            ("solve", "--inrc2"),
+            ("solve", "--model"),
+            ("solve", "--answer", "a"),
+        ):
             self.assertEqual(run(*words, "--version"), (0, version, ""))
         line = "inrc2pb-roster: there is no program /nowhere: correct or unset the variable INRC2PB"
-        self.assert_fault(run("roster", "check", "--version", environment={"INRC2PB": "/nowhere"}), line, 127)
+        self.assert_fault(
+            run("roster", "check", "--version", environment={"INRC2PB": "/nowhere"}), line, 127
+        )
 
     def interrupted(self, name):
         """The end of a command that gets INT while it reads its library."""
-        ran = subprocess.run([sys.executable, str(self.folder / f"inrc2pb-{name}")], stdout=subprocess.PIPE, stderr=subprocess.PIPE)
+        ran = subprocess.run(
+            [sys.executable, str(self.folder / f"inrc2pb-{name}")],
+            stdout=subprocess.PIPE,
+            stderr=subprocess.PIPE,
+        )
         return ran.returncode, ran.stdout, ran.stderr
 
     def test_ctrl_c_at_the_start_is_quiet(self):
         library = self.folder / "inrc2pb"
         library.mkdir()
-        (library / "__init__.py").write_text("import os, signal\nos.kill(os.getpid(), signal.SIGINT)\n")
+        (library / "__init__.py").write_text(
+            "import os, signal\nos.kill(os.getpid(), signal.SIGINT)\n"
+        )
         for name in NAMES:
             shutil.copy(HELPERS / "launcher.py", self.folder / f"inrc2pb-{name}")
             self.assertEqual(self.interrupted(name), (-signal.SIGINT, b"", b""), name)
@@ -149,31 +210,63 @@ class Starting(HelperTest):
     def test_ctrl_c_later_is_caught(self):
         running = self.folder / "running"
         environment = {**os.environ, **self.slow_to_encode(running)}
-        command = [sys.executable, str(HELPERS / "inrc2pb-roster"), "check", *map(str, WEEK_OPTIONS)]
-        with subprocess.Popen(command, stdout=subprocess.PIPE, stderr=subprocess.PIPE, env=environment) as check:
+        command = [
+            sys.executable,
+            str(HELPERS / "inrc2pb-roster"),
+            "check",
+            *map(str, WEEK_OPTIONS),
+        ]
+        with subprocess.Popen(
+            command, stdout=subprocess.PIPE, stderr=subprocess.PIPE, env=environment
+        ) as check:
             while not running.exists() and check.poll() is None:
                 time.sleep(0.05)
             check.send_signal(signal.SIGINT)
-            self.assertEqual((*check.communicate(timeout=ENOUGH), check.returncode), (b"", b"", 130))
+            self.assertEqual(
+                (*check.communicate(timeout=ENOUGH), check.returncode), (b"", b"", 130)
+            )
 
     def test_a_conversion_that_is_ended_leaves_no_file(self):
         for number in (signal.SIGTERM, signal.SIGHUP):
-            command = [sys.executable, str(HELPERS / "inrc2pb-solve"), "--model", "--out", str(self.folder / "week.lp")]
+            command = [
+                sys.executable,
+                str(HELPERS / "inrc2pb-solve"),
+                "--model",
+                "--out",
+                str(self.folder / "week.lp"),
+            ]
             # A gate that runs on after its terminal is closed ignores HUP, and so would the conversion.
             heeds = functools.partial(signal.signal, number, signal.SIG_DFL)
             with subprocess.Popen(
-                command, stdin=subprocess.PIPE, stdout=subprocess.PIPE, stderr=subprocess.PIPE, preexec_fn=heeds
+                command,
+                stdin=subprocess.PIPE,
+                stdout=subprocess.PIPE,
+                stderr=subprocess.PIPE,
+                preexec_fn=heeds,
             ) as conversion:
                 while not list(self.folder.iterdir()) and conversion.poll() is None:
                     time.sleep(0.05)
                 conversion.send_signal(number)
-                self.assertEqual((conversion.wait(timeout=ENOUGH), conversion.stderr.read()), (128 + number, b""))
+                self.assertEqual(
+                    (conversion.wait(timeout=ENOUGH), conversion.stderr.read()), (128 + number, b"")
+                )
             self.assertEqual(list(self.folder.iterdir()), [])
 
     def test_a_fault_counts_also_if_the_caller_ignores_children(self):
         roster = self.changed(ROSTER, "Amara Mon Day Charge", "Amara Tue Late Charge")
-        command = [sys.executable, str(HELPERS / "inrc2pb-roster"), "check", *map(str, WEEK_OPTIONS), "--roster", str(roster)]
-        ran = subprocess.run(command, stdout=subprocess.PIPE, preexec_fn=lambda: signal.signal(signal.SIGCHLD, signal.SIG_IGN))
+        command = [
+            sys.executable,
+            str(HELPERS / "inrc2pb-roster"),
+            "check",
+            *map(str, WEEK_OPTIONS),
+            "--roster",
+            str(roster),
+        ]
+        ran = subprocess.run(
+            command,
+            stdout=subprocess.PIPE,
+            preexec_fn=lambda: signal.signal(signal.SIGCHLD, signal.SIG_IGN),
+        )
         self.assertEqual(ran.returncode, 1, ran)
 
 
@@ -185,16 +278,29 @@ class Output(HelperTest):
             with self.subTest(words):
                 closing = ["sh", "-c", 'exec "$@" >&-', "sh", *words]
                 ran = subprocess.run(closing, stderr=subprocess.PIPE, stdin=subprocess.DEVNULL)
-                self.assertEqual((ran.returncode, ran.stderr), (3, b"inrc2pb-roster: standard output: it is closed\n"))
+                self.assertEqual(
+                    (ran.returncode, ran.stderr),
+                    (3, b"inrc2pb-roster: standard output: it is closed\n"),
+                )
         target = self.folder / "history.txt"
-        words = (*self.SHOW[:2], "next", *map(str, FILES), "--roster", str(ROSTER), "--out", str(target))
+        words = (
+            *self.SHOW[:2],
+            "next",
+            *map(str, FILES),
+            "--roster",
+            str(ROSTER),
+            "--out",
+            str(target),
+        )
         ran = subprocess.run(["sh", "-c", 'exec "$@" >&-', "sh", *words], stderr=subprocess.PIPE)
         self.assertEqual((ran.returncode, ran.stderr, target.exists()), (0, b"", True))
 
     def on_terminal(self, *words):
         """What a command shows on a terminal."""
         terminal, end = pty.openpty()
-        with subprocess.Popen([*self.SHOW[:2], *map(str, words)], stdin=subprocess.DEVNULL, stdout=end, stderr=end):
+        with subprocess.Popen(
+            [*self.SHOW[:2], *map(str, words)], stdin=subprocess.DEVNULL, stdout=end, stderr=end
+        ):
             os.close(end)
             shown = b""
             # The system reports the end of the output as a fault.
@@ -209,7 +315,11 @@ class Output(HelperTest):
         for path in (SCENARIO, HISTORY, WEEK, ROSTER):
             files_of_week[path] = self.folder / path.name
             files_of_week[path].write_text(path.read_text().replace("Chen", name))
-        options = [word for option, path in zip(("--sce", "--his", "--week"), files_of_week.values()) for word in (option, path)]
+        options = [
+            word
+            for option, path in zip(("--sce", "--his", "--week"), files_of_week.values())
+            for word in (option, path)
+        ]
         for words in (
             ("show", "--roster", files_of_week[ROSTER]),
             ("fits", *options),
@@ -224,7 +334,9 @@ class Output(HelperTest):
                 self.assertFalse(set(shown) & {0x1B, 0x07}, shown)
                 self.assertNotIn("\u202e".encode(), shown)
         # A file has the name as it is.
-        self.assertIn(f"{name} ", run("roster", "next", *options[:4], "--roster", files_of_week[ROSTER])[1])
+        self.assertIn(
+            f"{name} ", run("roster", "next", *options[:4], "--roster", files_of_week[ROSTER])[1]
+        )
 
 
 if __name__ == "__main__":

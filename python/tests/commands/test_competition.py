@@ -17,13 +17,40 @@ class Simulation(HelperTest):
     def test_one_file_for_two_results(self):
         target = self.folder / "solution.txt"
         line = f"inrc2pb-solve: {target} gets the roster, so the number of the next week cannot be written to it: choose another file"
-        self.assert_fault(run("solve", "--inrc2", *WEEK_OPTIONS, "--sol", target, "--cusOut", target, "--solver", "false"), line)
+        self.assert_fault(
+            run(
+                "solve",
+                "--inrc2",
+                *WEEK_OPTIONS,
+                "--sol",
+                target,
+                "--cusOut",
+                target,
+                "--solver",
+                "false",
+            ),
+            line,
+        )
 
     def test_a_pipe_is_no_input(self):
         pipe = self.folder / "pipe"
         os.mkfifo(pipe)
-        words = ("--sce", SCENARIO, "--his", pipe, "--week", WEEK, "--sol", self.folder / "solution.txt", "--timeout", ENOUGH)
-        self.assert_fault(run("solve", "--inrc2", *words), f"inrc2pb-solve: {pipe} is a pipe, which can be read only once: give a file")
+        words = (
+            "--sce",
+            SCENARIO,
+            "--his",
+            pipe,
+            "--week",
+            WEEK,
+            "--sol",
+            self.folder / "solution.txt",
+            "--timeout",
+            ENOUGH,
+        )
+        self.assert_fault(
+            run("solve", "--inrc2", *words),
+            f"inrc2pb-solve: {pipe} is a pipe, which can be read only once: give a file",
+        )
 
     def test_the_number_of_the_next_week_may_go_to_a_pipe(self):
         pipe = self.folder / "pipe"
@@ -43,7 +70,14 @@ class Simulation(HelperTest):
         self.assertTrue(0 < seconds_since_start() < 3600)
 
     def test_without_a_roster_the_fault_names_the_time_that_was_given(self):
-        words = ("--sol", self.folder / "solution.txt", "--timeout", 0.5, "--solver", "sh -c 'sleep 60'")
+        words = (
+            "--sol",
+            self.folder / "solution.txt",
+            "--timeout",
+            0.5,
+            "--solver",
+            "sh -c 'sleep 60'",
+        )
         status, printed, said = run("solve", "--inrc2", *WEEK_OPTIONS, *words)
         self.assertEqual((status, printed), (5, ""))
         self.assertRegex(said, "^inrc2pb-solve: --timeout 0.5: no roster was found in 0.2 s: ")
@@ -56,10 +90,17 @@ class Simulation(HelperTest):
             return searches(*words, seconds=seconds, **named)
 
         # After its first answer the solver does not end. Of a minute three seconds are for the end of the process.
-        words = ("--timeout", 60, "--solver", f"{self.answers_once(early=True)[:-1]} || exec sleep 600'")
+        words = (
+            "--timeout",
+            60,
+            "--solver",
+            f"{self.answers_once(early=True)[:-1]} || exec sleep 600'",
+        )
         began = time.monotonic()
         with mock.patch.multiple(competition, seconds_since_start=lambda: 56.0, search=searched):
-            status, printed, said = run("solve", "--inrc2", *WEEK_OPTIONS, "--sol", self.folder / "solution.txt", *words)
+            status, printed, said = run(
+                "solve", "--inrc2", *WEEK_OPTIONS, "--sol", self.folder / "solution.txt", *words
+            )
         self.assertEqual(given.read_text(), "1.0")
         self.assertIn((status, "penalty 20\n" in printed), ((0, True), (5, False)), said)
         self.assertLess(time.monotonic() - began, ENOUGH)

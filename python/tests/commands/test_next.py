@@ -39,7 +39,9 @@ Dora Full 1 Nurse
 
 
 def history_text(number, rows):
-    return f"HISTORY {number} ward NURSE_HISTORY\n" + "".join(f"{' '.join(map(str, row))}\n" for row in rows)
+    return f"HISTORY {number} ward NURSE_HISTORY\n" + "".join(
+        f"{' '.join(map(str, row))}\n" for row in rows
+    )
 
 
 def solution_text(number, cells):
@@ -48,7 +50,9 @@ def solution_text(number, cells):
 
 
 def run(*words, given=None):
-    return subprocess.run([str(word) for word in words], input=given, capture_output=True, text=True)
+    return subprocess.run(
+        [str(word) for word in words], input=given, capture_output=True, text=True
+    )
 
 
 def trailing(days, has, before):
@@ -70,7 +74,9 @@ def wanted_row(past, days):
         assignments + len(works),
         weekends + (1 if days[5] or days[6] else 0),
         sunday or "None",
-        trailing(days, lambda shift: shift == sunday, shift_run if last == sunday else 0) if sunday else 0,
+        trailing(days, lambda shift: shift == sunday, shift_run if last == sunday else 0)
+        if sunday
+        else 0,
         trailing(days, bool, work_run),
         trailing(days, lambda shift: not shift, off_run),
     ]
@@ -87,8 +93,18 @@ def past_row(chance, nurse):
 MISFITS = {
     "another week": (0, [], 1, "not of week 0"),
     "an unknown nurse": (0, [("Eve", "Mon", "Early")], 0, "'Eve' is no nurse of NURSES"),
-    "an unknown shift type": (0, [("Ann", "Mon", "Noon")], 0, "'Noon' is no shift type of SHIFT_TYPES"),
-    "two assignments on a day": (0, [("Ann", "Mon", "Early"), ("Ann", "Mon", "Late")], 0, "two assignments on this day"),
+    "an unknown shift type": (
+        0,
+        [("Ann", "Mon", "Noon")],
+        0,
+        "'Noon' is no shift type of SHIFT_TYPES",
+    ),
+    "two assignments on a day": (
+        0,
+        [("Ann", "Mon", "Early"), ("Ann", "Mon", "Late")],
+        0,
+        "two assignments on this day",
+    ),
     "an unknown day": (0, [("Ann", "Montag", "Early")], 0, "did you mean 'Mon'?"),
     "the last week": (3, [], 3, "is the last of 4"),
 }
@@ -104,7 +120,14 @@ class Next(HelperTest):
         (self.folder / name).write_text(text)
 
     def next_of(self, roster="sol", *options):
-        files = ("--sce", self.folder / "sce", "--his", self.folder / "his", "--roster", self.folder / roster)
+        files = (
+            "--sce",
+            self.folder / "sce",
+            "--his",
+            self.folder / "his",
+            "--roster",
+            self.folder / roster,
+        )
         return ward.run("roster", "next", *files, *options)
 
     def test_weeks_at_random(self):
@@ -121,8 +144,16 @@ class Next(HelperTest):
         days = {}
         for nurse in NURSES:
             one = chance.choice(SHIFTS)
-            days[nurse] = [(one if same else chance.choice(SHIFTS)) if chance.random() < busy else None for _ in DAYS]
-        cells = [(nurse, DAYS[day], shift) for nurse, week in days.items() for day, shift in enumerate(week) if shift]
+            days[nurse] = [
+                (one if same else chance.choice(SHIFTS)) if chance.random() < busy else None
+                for _ in DAYS
+            ]
+        cells = [
+            (nurse, DAYS[day], shift)
+            for nurse, week in days.items()
+            for day, shift in enumerate(week)
+            if shift
+        ]
         chance.shuffle(cells)
         self.write("his", history_text(number, rows))
         self.write("sol", solution_text(number, cells))
@@ -136,7 +167,14 @@ class Next(HelperTest):
         status, printed, said = self.next_of("sol", "--new-period")
         self.assertEqual((status, printed.split("\n"), said), (0, [*wanted, ""], ""))
         self.write("wd", "WEEK_DATA ward REQUIREMENTS SHIFT_OFF_REQUESTS = 0\n")
-        files = ("--sce", self.folder / "sce", "--his", self.folder / "next", "--week", self.folder / "wd")
+        files = (
+            "--sce",
+            self.folder / "sce",
+            "--his",
+            self.folder / "next",
+            "--week",
+            self.folder / "wd",
+        )
         ran = run(self.program, "encode", *files)
         self.assertEqual((ran.returncode, ran.stderr), (0, ""))
 
@@ -145,12 +183,24 @@ class Next(HelperTest):
         chance = random.Random(2)
         self.write("his", history_text(0, [[nurse, 0, 0, "None", 0, 0, 0] for nurse in NURSES]))
         for number in range(4):
-            needs = "\n".join(f"{shift} Nurse " + " ".join(f"(0,{chance.randint(0, 2)})" for _ in DAYS) for shift in SHIFTS)
+            needs = "\n".join(
+                f"{shift} Nurse " + " ".join(f"(0,{chance.randint(0, 2)})" for _ in DAYS)
+                for shift in SHIFTS
+            )
             self.write("wd", f"WEEK_DATA ward REQUIREMENTS\n{needs}\nSHIFT_OFF_REQUESTS = 0\n")
-            files = ["--sce", self.folder / "sce", "--his", self.folder / "his", "--week", self.folder / "wd"]
+            files = [
+                "--sce",
+                self.folder / "sce",
+                "--his",
+                self.folder / "his",
+                "--week",
+                self.folder / "wd",
+            ]
             self.write("opb", run(self.program, "encode", *files).stdout)
             answer = run("clasp", "--time-limit=1", self.folder / "opb")
-            ran = run(self.program, "decode", *files, "--sol", self.folder / "sol", given=answer.stdout)
+            ran = run(
+                self.program, "decode", *files, "--sol", self.folder / "sol", given=answer.stdout
+            )
             self.assertEqual((ran.returncode, ran.stderr), (0, ""))
             status, printed, said = self.next_of()
             if number < 3:
@@ -164,7 +214,10 @@ class Next(HelperTest):
     def test_files_that_do_not_belong_to_one_week(self):
         for what, (number, cells, solved, told) in MISFITS.items():
             with self.subTest(what):
-                self.write("his", history_text(number, [[nurse, 0, 0, "None", 0, 0, 0] for nurse in NURSES]))
+                self.write(
+                    "his",
+                    history_text(number, [[nurse, 0, 0, "None", 0, 0, 0] for nurse in NURSES]),
+                )
                 self.write("sol", solution_text(solved, cells))
                 status, printed, said = self.next_of()
                 self.assertEqual((status, printed), (1, ""))

@@ -47,7 +47,9 @@ BAD_SOLVERS = ["echo nonsense", "false", "sh -c 'echo s SATISFIABLE'", "sh -c 'k
 
 def without_progress(said):
     """The lines of standard error that are not the progress of a search."""
-    return "".join(line for line in said.splitlines(keepends=True) if not re.match(" +[0-9.]+ s  ", line))
+    return "".join(
+        line for line in said.splitlines(keepends=True) if not re.match(" +[0-9.]+ s  ", line)
+    )
 
 
 class PeriodTest(HelperTest):
@@ -78,11 +80,16 @@ class Together(PeriodTest):
                 self.assertRegex(self.planned(*totals), says)
         # Without a bound a search uses up its time.
         with time_ends_at("improved"):
-            self.assertEqual(self.planned("--ahead"), "planned ahead of 2 weeks that are not known: no lower bound")
+            self.assertEqual(
+                self.planned("--ahead"),
+                "planned ahead of 2 weeks that are not known: no lower bound",
+            )
 
     def planned(self, *totals):
         """The last line about a plan of both weeks."""
-        status, printed, said = run("solve", *WARD_OPTIONS, *totals, "--out", self.folder, "--time", ENOUGH)
+        status, printed, said = run(
+            "solve", *WARD_OPTIONS, *totals, "--out", self.folder, "--time", ENOUGH
+        )
         self.assertEqual(status, 0, said)
         self.assert_period(printed, WARD_OPTIONS, 2, "--early" in totals)
         self.assertIn(f"weeks 1 to 2 together, at most {2 * ENOUGH} s\n", said)
@@ -90,26 +97,51 @@ class Together(PeriodTest):
 
     def test_thirty_nurses_in_four_weeks(self):
         with time_ends_at("improved"):
-            status, printed, said = run("solve", *MONTH_OPTIONS, *MONTH_WEEKS, "--out", self.folder, "--time", 15)
+            status, printed, said = run(
+                "solve", *MONTH_OPTIONS, *MONTH_WEEKS, "--out", self.folder, "--time", 15
+            )
         self.assertEqual(status, 0, said)
         self.assert_period(printed, (*MONTH_OPTIONS, *MONTH_WEEKS), 4)
         table = ("--sce", MONTH / "ward.txt", "--his", MONTH / "history-0.txt", *MONTH_WEEKS)
-        shown = run("roster", "show", *table, "--roster", *(self.folder / f"roster-{number}.txt" for number in range(4)))
+        shown = run(
+            "roster",
+            "show",
+            *table,
+            "--roster",
+            *(self.folder / f"roster-{number}.txt" for number in range(4)),
+        )
         self.assertEqual((shown[0], shown[2]), (0, ""))
         self.assertIn("weeks 1 to 4", shown[1])
 
     def test_held_shifts_of_a_week(self):
         held = self.solution("Grace Sat Day Nurse", week=1, name="held.txt")
-        status, _, said = run("solve", *WARD_OPTIONS, "--fix", f"2={held}", "--out", self.folder, "--time", ENOUGH)
+        status, _, said = run(
+            "solve", *WARD_OPTIONS, "--fix", f"2={held}", "--out", self.folder, "--time", ENOUGH
+        )
         self.assertEqual(status, 0, said)
         self.assertIn("Grace Sat Day Nurse\n", (self.folder / "roster-1.txt").read_text())
 
     def test_held_shifts_that_no_rosters_have(self):
-        rows = [f"{nurse} Mon Day Nurse" for nurse in ("Amara", "Bruno", "Chen", "Dilek", "Ewa", "Finn", "Grace")]
+        rows = [
+            f"{nurse} Mon Day Nurse"
+            for nurse in ("Amara", "Bruno", "Chen", "Dilek", "Ewa", "Finn", "Grace")
+        ]
         held = self.solution(*rows, week=1, name="held.txt")
-        status, printed, said = run("solve", *WARD_OPTIONS, "--fix", f"2={held}", "--out", self.folder / "out", "--time", ENOUGH)
+        status, printed, said = run(
+            "solve",
+            *WARD_OPTIONS,
+            "--fix",
+            f"2={held}",
+            "--out",
+            self.folder / "out",
+            "--time",
+            ENOUGH,
+        )
         self.assertEqual((status, printed), (5, ""))
-        self.assertRegex(said.splitlines()[-1], "^inrc2pb-solve: no rosters keep the hard rules of these weeks together, by plain Python: ")
+        self.assertRegex(
+            said.splitlines()[-1],
+            "^inrc2pb-solve: no rosters keep the hard rules of these weeks together, by plain Python: ",
+        )
 
     def test_absences(self):
         for away, says in (
@@ -120,7 +152,9 @@ class Together(PeriodTest):
             ),
         ):
             options = (*WEEK_OPTIONS, "--week", self.away(*away, week=WARD / "week-1.txt"))
-            status, printed, said = run("solve", *options, "--out", self.folder / "out", "--time", ENOUGH)
+            status, printed, said = run(
+                "solve", *options, "--out", self.folder / "out", "--time", ENOUGH
+            )
             self.assertEqual(status, 0, said)
             self.assertRegex("".join(line for line in said.splitlines() if "absence" in line), says)
             self.assertRegex(printed.splitlines()[-1], "^lower bound [0-9]+ of the sum ")
@@ -128,7 +162,9 @@ class Together(PeriodTest):
     def test_a_stop_keeps_the_best_plan(self):
         words = (*MONTH_OPTIONS, *MONTH_WEEKS, "--out", self.folder, "--time", 600)
         with subprocess.Popen(
-            [sys.executable, str(HELPERS / "inrc2pb-solve"), *map(str, words)], stdout=subprocess.PIPE, stderr=subprocess.PIPE
+            [sys.executable, str(HELPERS / "inrc2pb-solve"), *map(str, words)],
+            stdout=subprocess.PIPE,
+            stderr=subprocess.PIPE,
         ) as period:
             while not (self.folder / "roster-3.txt").exists() and period.poll() is None:
                 time.sleep(0.05)
@@ -149,16 +185,35 @@ class Together(PeriodTest):
 class Periods(PeriodTest):
     def test_held_shifts_of_a_week(self):
         held = self.folder / "held.txt"
-        words = (*WARD_OPTIONS, "--fix", f"2={held}", "--out", self.folder, "--time", ENOUGH, "--solver", "clasp")
-        files_of = ", ".join(str(self.folder / name) for name in ("roster-0.txt", "roster-1.txt", "history-1.txt", "history-2.txt"))
+        words = (
+            *WARD_OPTIONS,
+            "--fix",
+            f"2={held}",
+            "--out",
+            self.folder,
+            "--time",
+            ENOUGH,
+            "--solver",
+            "clasp",
+        )
+        files_of = ", ".join(
+            str(self.folder / name)
+            for name in ("roster-0.txt", "roster-1.txt", "history-1.txt", "history-2.txt")
+        )
         for week, hint in (
             (1, ""),
-            (3, f"inrc2pb-solve: {held}: line 1 has week 3, and the history has week 1: is the file of another week?\n"),
+            (
+                3,
+                f"inrc2pb-solve: {held}: line 1 has week 3, and the history has week 1: is the file of another week?\n",
+            ),
         ):
             held.write_text(f"SOLUTION {week} ward ASSIGNMENTS = 1 Grace Sat Day Nurse\n")
             status, _, said = run("solve", *words)
             replaced = f"files that are replaced: {files_of}\n" if week == 3 else ""
-            self.assertEqual((status, without_progress(said)), (0, f"{replaced}{BEGIN}week 2, {WARD / 'week-1.txt'}\n{hint}"))
+            self.assertEqual(
+                (status, without_progress(said)),
+                (0, f"{replaced}{BEGIN}week 2, {WARD / 'week-1.txt'}\n{hint}"),
+            )
             self.assertIn("Grace Sat Day Nurse\n", (self.folder / "roster-1.txt").read_text())
 
 
@@ -169,7 +224,10 @@ class PeriodFaults(PeriodTest):
     def test_after_a_fault_the_week_that_has_a_roster_is_reported(self):
         words = ("--out", self.folder, "--time", ENOUGH, "--solver", self.answers_once())
         status, printed, said = run("solve", *WARD_OPTIONS, *words)
-        self.assertEqual((status, printed.splitlines()[0]), (1, f"week 1: penalty 20, {self.folder / 'roster-0.txt'}"))
+        self.assertEqual(
+            (status, printed.splitlines()[0]),
+            (1, f"week 1: penalty 20, {self.folder / 'roster-0.txt'}"),
+        )
         self.assert_period(printed, WARD_OPTIONS, 1)
         self.assertTrue((self.folder / "history-1.txt").exists())
         self.assertNotIn("stopped", printed)
@@ -179,15 +237,28 @@ class PeriodFaults(PeriodTest):
         )
 
     def test_after_the_last_week_the_command_for_the_next_period_is_printed(self):
-        ward, answer, out = self.changed(SCENARIO, "WEEKS = 4", "WEEKS = 1"), self.folder / "answer.txt", self.folder / "my out"
+        ward, answer, out = (
+            self.changed(SCENARIO, "WEEKS = 4", "WEEKS = 1"),
+            self.folder / "answer.txt",
+            self.folder / "my out",
+        )
         out.mkdir()
         answer.write_text(program.answer_with(replace(WEEK_FILES, scenario=ward), ROSTER))
-        words = ("--sce", ward, "--his", HISTORY, "--week", WEEK, "--out", out, "--solver", f"sh -c 'cat {answer}'")
+        words = (
+            "--sce",
+            ward,
+            "--his",
+            HISTORY,
+            "--week",
+            WEEK,
+            "--out",
+            out,
+            "--solver",
+            f"sh -c 'cat {answer}'",
+        )
         for replaced in ("", f"files that are replaced: {out}/roster-0.txt\n"):
             status, printed, said = run("solve", *words)
-            command = (
-                f"inrc2pb-roster next --sce {ward} --his {HISTORY} --roster '{out}/roster-0.txt' --new-period --out '{out}/history-new.txt'"
-            )
+            command = f"inrc2pb-roster next --sce {ward} --his {HISTORY} --roster '{out}/roster-0.txt' --new-period --out '{out}/history-new.txt'"
             line = f"to make the first history of the next period, type: {command}\n"
             self.assertEqual((status, without_progress(said)), (0, f"{replaced}{BEGIN}{line}"))
         self.assertEqual(run(*shlex.split(command.replace("inrc2pb-", "", 1))), (0, "", ""))
@@ -197,7 +268,11 @@ class PeriodFaults(PeriodTest):
         for solver in BAD_SOLVERS:
             status, printed, said = self.period(*WARD_OPTIONS, "--solver", solver)
             self.assertNotEqual(status, 0)
-            self.assertEqual((said.count("\n"), said.startswith(f"{BEGIN}inrc2pb-solve: week 1: "), printed), (2, True, ""), said)
+            self.assertEqual(
+                (said.count("\n"), said.startswith(f"{BEGIN}inrc2pb-solve: week 1: "), printed),
+                (2, True, ""),
+                said,
+            )
         self.assertEqual(list(self.folder.iterdir()), [])
 
     def stopped(self, at_end, environment=None):
@@ -208,7 +283,9 @@ class PeriodFaults(PeriodTest):
         words = (*WARD_OPTIONS, "--out", self.folder, "--time", ENOUGH, "--solver", solver)
         command = [sys.executable, str(HELPERS / "inrc2pb-solve"), *map(str, words)]
         environment = {**os.environ, **(environment or {})}
-        with subprocess.Popen(command, stdout=subprocess.PIPE, stderr=subprocess.PIPE, env=environment) as period:
+        with subprocess.Popen(
+            command, stdout=subprocess.PIPE, stderr=subprocess.PIPE, env=environment
+        ) as period:
             while not started.exists() and period.poll() is None:
                 time.sleep(0.05)
             period.send_signal(signal.SIGTERM)
@@ -238,20 +315,38 @@ class PeriodFaults(PeriodTest):
     def test_after_a_stop_before_the_first_roster_there_is_none(self):
         for at_end in (":", "echo s UNKNOWN"):
             ended = self.stopped(at_end)
-            self.assertEqual(ended, (1, "", f"{BEGIN}inrc2pb-solve: week 1: stopped before the first roster\n"))
+            self.assertEqual(
+                ended, (1, "", f"{BEGIN}inrc2pb-solve: week 1: stopped before the first roster\n")
+            )
 
     def test_a_stop_does_not_wait_for_a_model(self):
         ended = self.stopped(":", self.slow_to_encode(self.folder / "started"))
-        self.assertEqual(ended, (1, "", f"{BEGIN}inrc2pb-solve: week 1: stopped before the first roster\n"))
+        self.assertEqual(
+            ended, (1, "", f"{BEGIN}inrc2pb-solve: week 1: stopped before the first roster\n")
+        )
 
     def test_without_a_solver_or_the_program_no_folder_is_made(self):
         out = self.folder / "planned" / "here"
         for words, environment, status, says in (
             (("--solver", "nosolver"), {}, 1, "there is no solver nosolver"),
-            (("--solver", sys.executable), {"INRC2PB": "/nowhere/inrc2pb"}, 127, "there is no program /nowhere/inrc2pb"),
+            (
+                ("--solver", sys.executable),
+                {"INRC2PB": "/nowhere/inrc2pb"},
+                127,
+                "there is no program /nowhere/inrc2pb",
+            ),
         ):
             with self.subTest(words, **environment):
-                ran = run("solve", *WARD_OPTIONS, *words, "--out", out, "--time", ENOUGH, environment=environment)
+                ran = run(
+                    "solve",
+                    *WARD_OPTIONS,
+                    *words,
+                    "--out",
+                    out,
+                    "--time",
+                    ENOUGH,
+                    environment=environment,
+                )
                 self.assertEqual((ran[0], ran[1], ran[2].count("\n")), (status, "", 1), ran[2])
                 self.assertIn(says, ran[2])
                 self.assertEqual(list(self.folder.iterdir()), [])
@@ -270,34 +365,69 @@ class PeriodFaults(PeriodTest):
 
     @unittest.skipUnless(Path("/sys").is_dir(), "needs /sys")
     def test_a_folder_in_which_nobody_may_write(self):
-        status, printed, said = run("solve", *WARD_OPTIONS, "--solver", "false", "--out", "/sys/planned")
+        status, printed, said = run(
+            "solve", *WARD_OPTIONS, "--solver", "false", "--out", "/sys/planned"
+        )
         self.assertEqual((status, printed, said.count("\n")), (3, "", 1), said)
         self.assertRegex(said, "^inrc2pb-solve: /sys/planned: .* choose another folder\n$")
 
     def test_a_week_without_a_roster(self):
         eight = ROOT / "examples" / "eight"
-        words = ("--sce", eight / "ward.txt", "--his", eight / "history-1.txt", "--week", eight / "week-1.txt")
+        words = (
+            "--sce",
+            eight / "ward.txt",
+            "--his",
+            eight / "history-1.txt",
+            "--week",
+            eight / "week-1.txt",
+        )
         status, printed, said = self.period(*words, "--solver", "sh -c 'echo s UNSATISFIABLE'")
         self.assertEqual((status, printed), (1, ""))
-        self.assertRegex(said, r"week 2: no roster keeps the hard rules( \(inrc2pb-bound\)|, says sh, which is not proved): ")
+        self.assertRegex(
+            said,
+            r"week 2: no roster keeps the hard rules( \(inrc2pb-bound\)|, says sh, which is not proved): ",
+        )
 
     def test_files_that_do_not_fit(self):
         _, _, said = self.period("--sce", SCENARIO, "--his", HISTORY, *(["--week", WEEK] * 5))
         self.assertIn("5 weeks are given, and 4 are left from week 1 of 4", said)
-        _, _, said = self.period("--sce", SCENARIO, "--his", HISTORY, "--week", WEEK, "--fix", "3=held.txt")
-        self.assertEqual(said, "inrc2pb-solve: --fix 3=held.txt: there is no week 3: give 1 for the only week\n")
+        _, _, said = self.period(
+            "--sce", SCENARIO, "--his", HISTORY, "--week", WEEK, "--fix", "3=held.txt"
+        )
+        self.assertEqual(
+            said, "inrc2pb-solve: --fix 3=held.txt: there is no week 3: give 1 for the only week\n"
+        )
         for fix in ("held.txt", "²=held.txt"):
             _, _, said = self.period(*WARD_OPTIONS, "--fix", fix)
-            wants = "give the week's number, 1 for the first week, and its file, such as 1=promised.txt"
+            wants = (
+                "give the week's number, 1 for the first week, and its file, such as 1=promised.txt"
+            )
             self.assertEqual(said, f"inrc2pb-solve: --fix {fix}: {wants}\n")
         for number in (0, 3):
             _, _, said = self.period(*WARD_OPTIONS, "--fix", f"{number}=held.txt")
             wants = f"there is no week {number}: give 1 for the first week, and 2 for the last"
             self.assertEqual(said, f"inrc2pb-solve: --fix {number}=held.txt: {wants}\n")
-        _, _, said = self.period("--sce", SCENARIO, "--his", HISTORY, "--week", WEEK, "--fix", "a.txt", "--fix", "01=b.txt")
-        self.assertEqual(said, "inrc2pb-solve: --fix 01=b.txt: week 1 has the file a.txt: put all rows into one file\n")
+        _, _, said = self.period(
+            "--sce",
+            SCENARIO,
+            "--his",
+            HISTORY,
+            "--week",
+            WEEK,
+            "--fix",
+            "a.txt",
+            "--fix",
+            "01=b.txt",
+        )
+        self.assertEqual(
+            said,
+            "inrc2pb-solve: --fix 01=b.txt: week 1 has the file a.txt: put all rows into one file\n",
+        )
         _, _, said = self.period(*WARD_OPTIONS, "--roster", ROSTER)
-        self.assertEqual(said, "inrc2pb-solve: --roster has 1 file for 2 weeks: give one for each, in their order\n")
+        self.assertEqual(
+            said,
+            "inrc2pb-solve: --roster has 1 file for 2 weeks: give one for each, in their order\n",
+        )
         _, _, said = self.period(*WARD_OPTIONS, "--roster", ROSTER, ROSTER)
         wants = "not of week 1 of ward: give one roster for each week, in order"
         self.assertEqual(said, f"inrc2pb-solve: {ROSTER} is of week 0 of ward, {wants}\n")
@@ -306,11 +436,18 @@ class PeriodFaults(PeriodTest):
         pipe = self.folder / "pipe"
         os.mkfifo(pipe)
         _, _, said = self.period("--sce", SCENARIO, "--his", HISTORY, "--week", pipe)
-        self.assertEqual(said, f"inrc2pb-solve: {pipe} is a pipe, which can be read only once: give a file\n")
+        self.assertEqual(
+            said, f"inrc2pb-solve: {pipe} is a pipe, which can be read only once: give a file\n"
+        )
         fix = self.solution("Chen Mon Day Charge", week=3, name="held.txt")
-        _, _, said = self.period("--sce", SCENARIO, "--his", HISTORY, "--week", WEEK, "--week", WEEK, "--fix", f"2={fix}")
+        _, _, said = self.period(
+            "--sce", SCENARIO, "--his", HISTORY, "--week", WEEK, "--week", WEEK, "--fix", f"2={fix}"
+        )
         hint = "line 2 has week 3, and the history has week 1: is the file of another week?"
-        self.assertEqual(said, f"inrc2pb-solve: {fix} line 5: Chen does not have the skill Charge: no roster can have this row; {hint}\n")
+        self.assertEqual(
+            said,
+            f"inrc2pb-solve: {fix} line 5: Chen does not have the skill Charge: no roster can have this row; {hint}\n",
+        )
         wrong = self.changed(WEEK, "Chen Any", "Chan Any")
         _, _, said = self.period("--sce", SCENARIO, "--his", HISTORY, "--week", wrong)
         self.assertIn("'Chan' is no nurse of NURSES: did you mean 'Chen'?", said)

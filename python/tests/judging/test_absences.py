@@ -3,9 +3,33 @@
 import unittest
 from dataclasses import replace
 
-from ward import ENOUGH, HAS_CBC, HAS_CLASP, HISTORY, ROSTER, SCENARIO, WEEK, WEEK_FILES, WEEK_OPTIONS, HelperTest, files, run, writing
+from ward import (
+    ENOUGH,
+    HAS_CBC,
+    HAS_CLASP,
+    HISTORY,
+    ROSTER,
+    SCENARIO,
+    WEEK,
+    WEEK_FILES,
+    WEEK_OPTIONS,
+    HelperTest,
+    files,
+    run,
+    writing,
+)
 
-from inrc2pb.judging.absences import MARK, MOST_REQUESTS, ROWS, absences_of, in_words, way_out, wishes_of, with_requests, working_while_away
+from inrc2pb.judging.absences import (
+    MARK,
+    MOST_REQUESTS,
+    ROWS,
+    absences_of,
+    in_words,
+    way_out,
+    wishes_of,
+    with_requests,
+    working_while_away,
+)
 from inrc2pb.search.best_roster import BestRoster
 from inrc2pb.programs.program import penalty_of
 from inrc2pb.week.records import Absence, Cell, Request
@@ -20,7 +44,10 @@ class Writing(unittest.TestCase):
         written = with_requests(WARD, DATA, added)
         self.assertEqual(absences_of(written.data), set(added))
         self.assertEqual(wishes_of(written.data), DATA.requests)
-        self.assertEqual((written.requests, len(written.data.requests)), (MOST_REQUESTS, len(DATA.requests) + 2 * MOST_REQUESTS))
+        self.assertEqual(
+            (written.requests, len(written.data.requests)),
+            (MOST_REQUESTS, len(DATA.requests) + 2 * MOST_REQUESTS),
+        )
 
     def test_all_absences_have_the_same_number(self):
         once = replace(DATA, requests=(*DATA.requests, *[Request("Chen", None, 4)] * MARK))
@@ -41,16 +68,30 @@ class Writing(unittest.TestCase):
         self.assertEqual(with_requests(WARD, DATA, every).requests, ROWS // len(every))
 
     def test_rows_that_break_absences(self):
-        rows = [Cell("Chen", 4, "Late", "Nurse"), Cell("Ewa", 0, "Day", "Nurse"), Cell("Chen", 3, "Late", "Nurse")]
+        rows = [
+            Cell("Chen", 4, "Late", "Nurse"),
+            Cell("Ewa", 0, "Day", "Nurse"),
+            Cell("Chen", 3, "Late", "Nurse"),
+        ]
         away = {AWAY, Absence("Chen", 3, None), Absence("Ewa", 0, "Night")}
         self.assertEqual(working_while_away(away, rows), [rows[0], rows[2]])
         self.assertEqual(in_words(rows), "Chen works Late on Thu and Fri, Ewa works Day on Mon")
 
     def test_the_way_out(self):
         broken = [Cell("Chen", 4, "Day", "Charge")]
-        held = [Cell("Amara", 4, "Late", "Nurse"), Cell("Grace", 4, "Late", "Nurse"), Cell("Bruno", 3, "Day", "Charge")]
-        self.assertEqual(way_out(WARD, held, broken), "hold fewer shifts with --fix; these nurses have the skill: Amara Fri Late")
-        self.assertIn("type inrc2pb-roster check with the same files and --why-none: ", way_out(WARD, held[1:], broken))
+        held = [
+            Cell("Amara", 4, "Late", "Nurse"),
+            Cell("Grace", 4, "Late", "Nurse"),
+            Cell("Bruno", 3, "Day", "Charge"),
+        ]
+        self.assertEqual(
+            way_out(WARD, held, broken),
+            "hold fewer shifts with --fix; these nurses have the skill: Amara Fri Late",
+        )
+        self.assertIn(
+            "type inrc2pb-roster check with the same files and --why-none: ",
+            way_out(WARD, held[1:], broken),
+        )
 
 
 class Kept(HelperTest):
@@ -58,14 +99,23 @@ class Kept(HelperTest):
         away = Absence("Chen", 6, None)
         week = files.read_files(SCENARIO, HISTORY, WEEK)
         week = replace(week, data=replace(DATA, absences=frozenset({away})))
-        costly, cheap = (files.read_solution(path).cells for path in (self.swapped("Chen", "Grace"), ROSTER))
+        costly, cheap = (
+            files.read_solution(path).cells for path in (self.swapped("Chen", "Grace"), ROSTER)
+        )
         self.assertFalse(working_while_away({away}, costly))
-        self.assertLess(penalty_of(WEEK_FILES, ROSTER), penalty_of(WEEK_FILES, self.folder / "start.txt"))
+        self.assertLess(
+            penalty_of(WEEK_FILES, ROSTER), penalty_of(WEEK_FILES, self.folder / "start.txt")
+        )
         for offers in ((costly, cheap), (cheap, costly)):
-            best = BestRoster(WEEK_FILES, week, self.folder / "best.txt", lambda penalty, finder: None)
+            best = BestRoster(
+                WEEK_FILES, week, self.folder / "best.txt", lambda penalty, finder: None
+            )
             for offer in offers:
                 best.offer(offer, "test")
-            self.assertEqual((set(files.read_solution(self.folder / "best.txt").cells), best.breaks()), (set(costly), []))
+            self.assertEqual(
+                (set(files.read_solution(self.folder / "best.txt").cells), best.breaks()),
+                (set(costly), []),
+            )
 
     @unittest.skipUnless(HAS_CBC, "needs cbc")
     def test_rows_keep_absences_unless_no_roster_can(self):
@@ -74,14 +124,27 @@ class Kept(HelperTest):
             ({AWAY, Absence("Grace", 6, "Day")}, True),
             ({Absence(nurse, 4, None) for nurse in ("Amara", "Bruno", "Ewa")}, False),
         ):
-            writing.write_text(self.folder / "away.txt", files.week_text(with_requests(WARD, DATA, away).data))
-            status, report, said = run("solve", *WEEK_OPTIONS[:4], "--week", self.folder / "away.txt", "--out", target)
+            writing.write_text(
+                self.folder / "away.txt", files.week_text(with_requests(WARD, DATA, away).data)
+            )
+            status, report, said = run(
+                "solve", *WEEK_OPTIONS[:4], "--week", self.folder / "away.txt", "--out", target
+            )
             self.assertEqual(status, 0, said)
-            self.assertEqual(working_while_away(away, files.read_solution(target).cells) == [], kept)
-            self.assertEqual("no roster was found that keeps every absence: " in said, not kept)
-            self.assertIn("no roster that keeps all absences costs less" if kept else "no roster costs less", report)
             self.assertEqual(
-                ("--why-none" in said, report.endswith("no roster costs less, but this one breaks an absence\n")), (not kept, not kept)
+                working_while_away(away, files.read_solution(target).cells) == [], kept
+            )
+            self.assertEqual("no roster was found that keeps every absence: " in said, not kept)
+            self.assertIn(
+                "no roster that keeps all absences costs less" if kept else "no roster costs less",
+                report,
+            )
+            self.assertEqual(
+                (
+                    "--why-none" in said,
+                    report.endswith("no roster costs less, but this one breaks an absence\n"),
+                ),
+                (not kept, not kept),
             )
 
     def test_a_roster_that_breaks_an_absence_is_a_mistake(self):
@@ -90,14 +153,30 @@ class Kept(HelperTest):
         self.assertEqual((status, printed), (1, f"{ROSTER}: Chen works Late on Wed, and is away\n"))
         fix = self.solution("Chen Mon Day Nurse")
         status, printed, _ = run("roster", "check", *words, "--fix", fix)
-        self.assertEqual((status, printed), (1, f"{fix}: Chen is away on Mon, and Day is held: remove one of the two\n"))
+        self.assertEqual(
+            (status, printed),
+            (1, f"{fix}: Chen is away on Mon, and Day is held: remove one of the two\n"),
+        )
 
     @unittest.skipUnless(HAS_CLASP, "needs clasp")
     def test_who_works_is_named_if_no_roster_keeps_all_absences(self):
         away = self.away("Amara=Fri", "Bruno=Fri", "Ewa=Fri")
-        words = (*WEEK_OPTIONS[:4], "--week", away, "--solver", "clasp", "--time", ENOUGH, "--out", self.folder / "roster.txt")
+        words = (
+            *WEEK_OPTIONS[:4],
+            "--week",
+            away,
+            "--solver",
+            "clasp",
+            "--time",
+            ENOUGH,
+            "--out",
+            self.folder / "roster.txt",
+        )
         _, _, said = run("solve", *words)
-        self.assertRegex(said, r"no roster was found that keeps every absence: (Amara|Bruno|Ewa) works Day on Fri\n")
+        self.assertRegex(
+            said,
+            r"no roster was found that keeps every absence: (Amara|Bruno|Ewa) works Day on Fri\n",
+        )
 
 
 if __name__ == "__main__":

@@ -23,18 +23,33 @@ class Names(HelperTest):
         return dict(found)
 
     def test_every_variable_and_constraint_of_a_model_has_a_name(self):
-        last = program.WeekFiles(*(THIRTY / name for name in ("ward.txt", "history-3.txt", "week-3.txt")))
-        for files in (WEEK_FILES, replace(WEEK_FILES, early=True), replace(WEEK_FILES, fix=ROSTER), last, replace(last, early=True)):
+        last = program.WeekFiles(
+            *(THIRTY / name for name in ("ward.txt", "history-3.txt", "week-3.txt"))
+        )
+        for files in (
+            WEEK_FILES,
+            replace(WEEK_FILES, early=True),
+            replace(WEEK_FILES, fix=ROSTER),
+            last,
+            replace(last, early=True),
+        ):
             names = self.names(files)
             head = self.model.read_text().split("\n", 1)[0].split()
             variables, constraints = int(head[2]), int(head[4])
-            self.assertEqual(set(names), {f"x{n}" for n in range(1, variables + 1)} | {f"c{n}" for n in range(1, constraints + 1)})
+            self.assertEqual(
+                set(names),
+                {f"x{n}" for n in range(1, variables + 1)}
+                | {f"c{n}" for n in range(1, constraints + 1)},
+            )
 
     def test_names_of_the_ward(self):
         # Seven nurses, three shift types and two skills: the unit variable has number 7*7*3*2 + 1, and the page on models has c299.
         names = self.names(WEEK_FILES)
         self.assertEqual((names["x1"], names["x295"]), ("cell Amara Mon Day Charge", "unit"))
-        self.assertEqual(names["c1"], "unit the unit variable is true; an answer that violates it is cut off, or is of another week")
+        self.assertEqual(
+            names["c1"],
+            "unit the unit variable is true; an answer that violates it is cut off, or is of another week",
+        )
         self.assertEqual(names["c60"], "H2 Wed Day Nurse needs at least 1")
         self.assertEqual(names["c298"], "S2 runs of Day of Chen should be at most 5")
         self.assertEqual(names["c299"], "S2 runs of Day of Chen should be at least 2")
@@ -46,12 +61,16 @@ class Names(HelperTest):
         line = f"inrc2pb-roster: {self.model} is not the model of this week: {advice}"
         self.assert_fault(run("roster", "names", self.model, *WEEK_OPTIONS), line)
         line = f"inrc2pb-roster: {SCENARIO} is read, so the list of names cannot be written to it: choose another file"
-        self.assert_fault(run("roster", "names", self.model, *WEEK_OPTIONS, "--out", SCENARIO), line)
+        self.assert_fault(
+            run("roster", "names", self.model, *WEEK_OPTIONS, "--out", SCENARIO), line
+        )
 
     def test_names_in_a_file(self):
         target = self.folder / "names.txt"
         names = self.names(WEEK_FILES)
-        self.assertEqual(run("roster", "names", self.model, *WEEK_OPTIONS, "--out", target), (0, "", ""))
+        self.assertEqual(
+            run("roster", "names", self.model, *WEEK_OPTIONS, "--out", target), (0, "", "")
+        )
         self.assertEqual(len(target.read_text().splitlines()), len(names))
 
 

@@ -25,7 +25,10 @@ def shifts(nurse, row):
 
 def away_of(nurse, row, **fields):
     """The days of training (T) and of leave (F) of a row."""
-    days = {sign: frozenset((nurse, day) for day, other in enumerate(row) if other == sign) for sign in "TF"}
+    days = {
+        sign: frozenset((nurse, day) for day, other in enumerate(row) if other == sign)
+        for sign in "TF"
+    }
     return DaysAway(days["T"], days["T"] | days["F"], NIGHTS, **fields)
 
 
@@ -47,7 +50,10 @@ class Counting(unittest.TestCase):
     def test_nights_before(self):
         for row, days in (("..NT", [3]), ("..NF", [3]), ("..N.T", []), ("..DT", []), ("NFF.", [1])):
             with self.subTest(row):
-                self.assertEqual(nights_before(away_of("Grace", row), shifts("Grace", row)), [("Grace", day) for day in days])
+                self.assertEqual(
+                    nights_before(away_of("Grace", row), shifts("Grace", row)),
+                    [("Grace", day) for day in days],
+                )
 
     def test_what_could_not_be_otherwise_is_no_excess(self):
         for row, fixed, above in (
@@ -60,7 +66,10 @@ class Counting(unittest.TestCase):
             ("NT.....", 0, 1),
         ):
             with self.subTest(row=row, fixed=fixed):
-                self.assertEqual(excess(WARD, PAST, away_of("Grace", row, fixed=fixed), shifts("Grace", row)), above)
+                self.assertEqual(
+                    excess(WARD, PAST, away_of("Grace", row, fixed=fixed), shifts("Grace", row)),
+                    above,
+                )
 
     def test_night_shifts_by_their_times(self):
         for times, is_night in (
@@ -82,34 +91,56 @@ class Rows(unittest.TestCase):
             away = away_of(nurse, signs, fixed=chance.choice([0, 0, 2, 5]))
             plain = Plan.of(WARD, PAST, [DATA, DATA])
             plan = replace(plain, beside=away)
-            prices = [Pricing(one, Crews(plan), lambda: None) for one in (plain, plan, plan.kept(ABSENCES_KEPT))]
+            prices = [
+                Pricing(one, Crews(plan), lambda: None)
+                for one in (plain, plan, plan.kept(ABSENCES_KEPT))
+            ]
             number = list(WARD.nurses).index(nurse)
             for _ in range(40):
-                row = bytes(0 if sign != "." or chance.random() < 0.2 else chance.choice((1, 1, 2, 3)) for sign in signs)
+                row = bytes(
+                    0 if sign != "." or chance.random() < 0.2 else chance.choice((1, 1, 2, 3))
+                    for sign in signs
+                )
                 cost, strict, less_strict = (pricing.cost(number, row) for pricing in prices)
                 if cost is None:
                     self.assertEqual((strict, less_strict), (None, None))
                     continue
-                works = {(nurse, day): types[choice - 1] for day, choice in enumerate(row) if choice}
+                works = {
+                    (nurse, day): types[choice - 1] for day, choice in enumerate(row) if choice
+                }
                 breaks = excess(WARD, PAST, away, works) > 0
                 seen[breaks] += 1
                 self.assertEqual(
-                    (strict, less_strict == cost), (None, False) if breaks else (cost, True), (nurse, signs, away.fixed, list(row))
+                    (strict, less_strict == cost),
+                    (None, False) if breaks else (cost, True),
+                    (nurse, signs, away.fixed, list(row)),
                 )
         self.assertGreater(min(seen.values()), 50)
 
     def test_a_row_that_differs_from_an_older_one_costs_a_call(self):
         chance, plain = random.Random(5), Plan.of(WARD, PAST, [DATA, DATA])
-        older = {nurse: bytes(chance.choice((0, 0, 1, 2, 3, ANY_CHOICE)) for _ in range(14)) for nurse in WARD.nurses if nurse != "Finn"}
+        older = {
+            nurse: bytes(chance.choice((0, 0, 1, 2, 3, ANY_CHOICE)) for _ in range(14))
+            for nurse in WARD.nurses
+            if nurse != "Finn"
+        }
         called = replace(plain, calls=Calls(older, 40))
         without, costs = (Pricing(one, Crews(one), lambda: None) for one in (plain, called))
         for number, nurse in enumerate(WARD.nurses):
-            row = bytes(choice if choice != ANY_CHOICE else 1 for choice in older.get(nurse, bytes(14)))
+            row = bytes(
+                choice if choice != ANY_CHOICE else 1 for choice in older.get(nurse, bytes(14))
+            )
             for day in range(14):
                 tried = row[:day] + bytes([(row[day] + 1) % 4]) + row[day + 1 :]
-                differs = nurse in older and any(old not in (choice, ANY_CHOICE) for old, choice in zip(older[nurse], tried))
+                differs = nurse in older and any(
+                    old not in (choice, ANY_CHOICE) for old, choice in zip(older[nurse], tried)
+                )
                 cost = without.cost(number, tried)
-                self.assertEqual(costs.cost(number, tried), None if cost is None else cost + 40 * differs, (nurse, day))
+                self.assertEqual(
+                    costs.cost(number, tried),
+                    None if cost is None else cost + 40 * differs,
+                    (nurse, day),
+                )
 
 
 if __name__ == "__main__":

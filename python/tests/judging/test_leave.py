@@ -16,12 +16,21 @@ WORDS = ("ill", "leave", "training")
 def ward_with(maximum, minimum=0, weeks=4):
     """The ward in which Amara has these shifts in so many weeks."""
     full = WARD.contracts["Full"]
-    return replace(WARD, weeks=weeks, contracts={**WARD.contracts, "Full": replace(full, assignments=Limits(minimum, maximum))})
+    return replace(
+        WARD,
+        weeks=weeks,
+        contracts={**WARD.contracts, "Full": replace(full, assignments=Limits(minimum, maximum))},
+    )
 
 
 def shifts(ward, days, lost={}):
     """As how many shifts days of Amara count."""
-    found = counted(ward, {("Amara", day): word for day, word in days.items()}, WORDS, {("Amara", day): one for day, one in lost.items()})
+    found = counted(
+        ward,
+        {("Amara", day): word for day, word in days.items()},
+        WORDS,
+        {("Amara", day): one for day, one in lost.items()},
+    )
     return found.shifts.get("Amara", 0)
 
 
@@ -39,9 +48,19 @@ class Days(unittest.TestCase):
 
     def test_leave_counts_from_monday_to_friday(self):
         # Twenty shifts are a full contract in four weeks, fifteen one of 75 %, ten one of 50 %.
-        for maximum, minimum, weekdays, week in ((20, 17, 5, 5), (22, 17, 5, 5), (15, 12, 4, 4), (10, 8, 3, 3), (18, 15, 5, 5)):
+        for maximum, minimum, weekdays, week in (
+            (20, 17, 5, 5),
+            (22, 17, 5, 5),
+            (15, 12, 4, 4),
+            (10, 8, 3, 3),
+            (18, 15, 5, 5),
+        ):
             ward = ward_with(maximum, minimum)
-            self.assertEqual((shifts(ward, row("leave", 7, 11)), shifts(ward, row("leave", 7, 13))), (weekdays, week), maximum)
+            self.assertEqual(
+                (shifts(ward, row("leave", 7, 11)), shifts(ward, row("leave", 7, 13))),
+                (weekdays, week),
+                maximum,
+            )
         # A whole period is the maximum.
         for maximum in (20, 15, 10):
             self.assertEqual(shifts(ward_with(maximum), row("leave", 0, 27)), maximum)
@@ -72,11 +91,16 @@ class Days(unittest.TestCase):
 
     def test_the_history_has_them_and_each_week_its_part(self):
         found = counted(ward_with(15), {("Amara", day): "leave" for day in (3, 4, 7)}, WORDS)
-        self.assertEqual([found.of_week(week) for week in (0, 1, 2)], [{"Amara": Fraction(3, 2)}, {"Amara": Fraction(3, 4)}, {}])
+        self.assertEqual(
+            [found.of_week(week) for week in (0, 1, 2)],
+            [{"Amara": Fraction(3, 2)}, {"Amara": Fraction(3, 4)}, {}],
+        )
         past = files.read_history(HISTORY, WARD)
         now = credited(past, Counted(shifts={"Amara": 3}, weekends={"Amara": 1})).nurses["Amara"]
         before = past.nurses["Amara"]
-        self.assertEqual((now.assignments, now.weekends), (before.assignments + 3, before.weekends + 1))
+        self.assertEqual(
+            (now.assignments, now.weekends), (before.assignments + 3, before.weekends + 1)
+        )
 
 
 if __name__ == "__main__":

@@ -16,9 +16,13 @@ class Histories(unittest.TestCase):
         past = replace(history.nurses["Chen"], days_off=9995, assignments=9999)
         nurses = {**history.nurses, "Chen": past}
         after = next_history(scenario, replace(history, nurses=nurses), ())
-        self.assertEqual((after.nurses["Chen"].days_off, after.nurses["Chen"].assignments), (9999, 9999))
+        self.assertEqual(
+            (after.nurses["Chen"].days_off, after.nurses["Chen"].assignments), (9999, 9999)
+        )
         row = records.Cell("Chen", 0, "Day", "Nurse")
-        with self.assertRaisesRegex(Misuse, "Chen would have more than 9999 assignments or weekends: correct her history"):
+        with self.assertRaisesRegex(
+            Misuse, "Chen would have more than 9999 assignments or weekends: correct her history"
+        ):
             next_history(scenario, replace(history, nurses=nurses), [row])
 
 

@@ -46,38 +46,67 @@ class Warnings(HelperTest):
         for letter, warnings in ((b"\xe4", 1), ("\u00e4".encode(), 0)):
             ward.write_bytes(SCENARIO.read_bytes().replace(b"Amara", b"Am" + letter + b"ra"))
             status, printed, said = run("roster", "check", "--sce", ward)
-            self.assertEqual((status, said, printed.count("warning: it is not saved as UTF-8")), (0, "", warnings))
+            self.assertEqual(
+                (status, said, printed.count("warning: it is not saved as UTF-8")),
+                (0, "", warnings),
+            )
 
     def test_each_odd_value_has_its_warnings(self):
         for path, old, new, option, warning in WARNINGS:
             with self.subTest(new=new):
                 changed = self.changed(path, old, new)
                 words = {"--sce": SCENARIO, option: changed}
-                said = "".join(f"{changed}: warning: {line}\n" for line in (warning or "").splitlines())
-                end = "No mistake found, but see the warnings." if "no roster can meet it" in said else "No mistake found."
-                self.assertEqual(run("roster", "check", *(word for pair in words.items() for word in pair)), (0, f"{said}{end}\n", ""))
+                said = "".join(
+                    f"{changed}: warning: {line}\n" for line in (warning or "").splitlines()
+                )
+                end = (
+                    "No mistake found, but see the warnings."
+                    if "no roster can meet it" in said
+                    else "No mistake found."
+                )
+                self.assertEqual(
+                    run("roster", "check", *(word for pair in words.items() for word in pair)),
+                    (0, f"{said}{end}\n", ""),
+                )
 
     def test_a_shift_type_that_is_closed(self):
         text, zeros = WEEK.read_text(), " ".join(["(0,0)"] * 7)
         closed = "".join(line for line in text.splitlines(True) if not line.startswith("Late "))
         week = self.folder / "week.txt"
-        for rows, warned in (([], True), ([f"Late Nurse {zeros}"], True), ([f"Late Nurse {zeros}", f"Late Charge {zeros}"], False)):
-            week.write_text(closed.replace("REQUIREMENTS\n", "\n".join(["REQUIREMENTS", *rows, ""]), 1))
+        for rows, warned in (
+            ([], True),
+            ([f"Late Nurse {zeros}"], True),
+            ([f"Late Nurse {zeros}", f"Late Charge {zeros}"], False),
+        ):
+            week.write_text(
+                closed.replace("REQUIREMENTS\n", "\n".join(["REQUIREMENTS", *rows, ""]), 1)
+            )
             _, printed, _ = run("roster", "check", "--sce", SCENARIO, "--week", week)
             self.assertEqual("nobody is asked for Late on any day" in printed, warned, printed)
 
     def test_the_examples_have_none(self):
         weeks = [
-            (EXAMPLES / name / "ward.txt", *EXAMPLES.glob(f"{name}/history-*"), *EXAMPLES.glob(f"{name}/week-*"))
+            (
+                EXAMPLES / name / "ward.txt",
+                *EXAMPLES.glob(f"{name}/history-*"),
+                *EXAMPLES.glob(f"{name}/week-*"),
+            )
             for name in ("eight", "n005w4", "thirty")
         ]
-        weeks += [(SCENARIO, WARD / f"history-{number}.txt", WARD / f"week-{number}.txt") for number in (0, 1)]
+        weeks += [
+            (SCENARIO, WARD / f"history-{number}.txt", WARD / f"week-{number}.txt")
+            for number in (0, 1)
+        ]
         month = EXAMPLES / "month"
-        weeks += [(month / "ward.txt", month / "history-0.txt", month / f"week-{number}.txt") for number in range(4)]
+        weeks += [
+            (month / "ward.txt", month / "history-0.txt", month / f"week-{number}.txt")
+            for number in range(4)
+        ]
         for scenario, history, week in weeks:
             with self.subTest(week):
                 self.assertEqual(
-                    run("roster", "check", "--sce", scenario, "--his", history, "--week", week), (0, "No mistake found.\n", "")
+                    run("roster", "check", "--sce", scenario, "--his", history, "--week", week),
+                    (0, "No mistake found.\n", ""),
                 )
 
 

@@ -32,7 +32,14 @@ class BrowserTest(FolderTest):
     def setUp(self):
         super().setUp()
         self.served = subprocess.Popen(
-            [sys.executable, str(HELPERS / "inrc2pb-plan"), str(self.ward), "serve", "--time", str(ENOUGH)],
+            [
+                sys.executable,
+                str(HELPERS / "inrc2pb-plan"),
+                str(self.ward),
+                "serve",
+                "--time",
+                str(ENOUGH),
+            ],
             stdout=subprocess.PIPE,
             text=True,
         )
@@ -42,7 +49,9 @@ class BrowserTest(FolderTest):
         options.binary_location = shutil.which("chromium")
         for word in ("--headless=new", "--no-sandbox", "--disable-dev-shm-usage", "--disable-gpu"):
             options.add_argument(word)
-        self.browser = webdriver.Chrome(service=Service(shutil.which("chromedriver")), options=options)
+        self.browser = webdriver.Chrome(
+            service=Service(shutil.which("chromedriver")), options=options
+        )
         self.addCleanup(self.browser.quit)
         size = {"width": self.width, "height": 900, "deviceScaleFactor": 1, "mobile": False}
         self.browser.execute_cdp_cmd("Emulation.setDeviceMetricsOverride", size)
@@ -69,7 +78,10 @@ class BrowserTest(FolderTest):
         while time.monotonic() < limit:
             try:
                 shown = self.text
-                if re.search(says, shown) and 'http-equiv="refresh"' not in self.browser.page_source:
+                if (
+                    re.search(says, shown)
+                    and 'http-equiv="refresh"' not in self.browser.page_source
+                ):
                     return shown
             except (StaleElementReferenceException, WebDriverException):
                 pass
@@ -80,7 +92,9 @@ class BrowserTest(FolderTest):
         """The first element of this path that is shown."""
         limit = time.monotonic() + _PATIENCE
         while time.monotonic() < limit:
-            shown = [one for one in self.browser.find_elements(By.XPATH, path) if one.is_displayed()]
+            shown = [
+                one for one in self.browser.find_elements(By.XPATH, path) if one.is_displayed()
+            ]
             if shown:
                 return shown[0]
             time.sleep(0.1)
@@ -116,7 +130,9 @@ class BrowserTest(FolderTest):
     def says_yes(self, question, says):
         """Answers the only question by its only Yes, and waits until the page says what was done."""
         self.waits_for(question)
-        buttons = [one for one in self.browser.find_elements(By.TAG_NAME, "button") if "Yes" in one.text]
+        buttons = [
+            one for one in self.browser.find_elements(By.TAG_NAME, "button") if "Yes" in one.text
+        ]
         self.assertEqual(len(buttons), 1)
         self.clicks += 1
         if self.by_keyboard:
@@ -141,7 +157,9 @@ class BrowserTest(FolderTest):
 
     def plans(self):
         """The verbs of the plans that hold, one after another."""
-        return [path.name.rpartition("-")[2] for path in sorted((self.ward / "plans").glob("[0-9]*"))]
+        return [
+            path.name.rpartition("-")[2] for path in sorted((self.ward / "plans").glob("[0-9]*"))
+        ]
 
     def fits(self):
         """The page is not wider than the screen: only its table is, and that can be moved."""

@@ -9,7 +9,9 @@ from browser import HAS_BROWSER, SCREEN, TELEPHONE, BrowserTest
 from ward import HAS_CBC
 
 
-@unittest.skipUnless(HAS_BROWSER and HAS_CBC, "chromium, its driver, selenium or cbc is not installed")
+@unittest.skipUnless(
+    HAS_BROWSER and HAS_CBC, "chromium, its driver, selenium or cbc is not installed"
+)
 class Mouse(BrowserTest):
     def test_a_period(self):
         self.opens()
@@ -26,15 +28,23 @@ class Mouse(BrowserTest):
         self.swaps()
         self.unfolds("The week is over")
         self.button("End the week")
-        self.says_yes("The week is over: ", "week 1 .calendar week 49. is over: the plan goes on from ")
+        self.says_yes(
+            "The week is over: ", "week 1 .calendar week 49. is over: the plan goes on from "
+        )
         self.button("Undo")
         self.says_yes("this takes back: over, ", "undone: over, ")
         self.assertEqual(self.plans(), ["plan", "page", "set", "ill", "swap"])
-        print(f"{type(self).__name__}: {self.clicks} clicks or keys Enter, {self.stops} stops of the key Tab")
+        print(
+            f"{type(self).__name__}: {self.clicks} clicks or keys Enter, {self.stops} stops of the key Tab"
+        )
 
     def sets(self):
         """Promises a day off that costs nothing but points."""
-        nurse, day = next(key for key, cell in sorted(self.cells().items()) if self.is_offered(*key, "off, promised"))
+        nurse, day = next(
+            key
+            for key, cell in sorted(self.cells().items())
+            if self.is_offered(*key, "off, promised")
+        )
         self.opens_cell(nurse, day)
         self.button("off, promised")
         self.says_yes("A nurse has another shift: ", "later plans keep it")

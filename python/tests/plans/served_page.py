@@ -47,7 +47,11 @@ class ServedPage(FolderTest):
         """The status and the text of an answer. Without a path the browser loads its page again; a form leads it to another one, which is
         the answer if it is a question."""
         path = path or (self.shown if method == "GET" else self.site.path)
-        form = f"{form}&stamp={self.stamp}" if form and form.startswith("verb=") and "stamp=" not in form else form
+        form = (
+            f"{form}&stamp={self.stamp}"
+            if form and form.startswith("verb=") and "stamp=" not in form
+            else form
+        )
         connection = http.client.HTTPConnection(self.site.netloc, timeout=ENOUGH)
         given = {name.replace("_", "-"): value for name, value in headers.items()}
         kind = {"Content-Type": "application/x-www-form-urlencoded"} if form is not None else {}
@@ -61,7 +65,9 @@ class ServedPage(FolderTest):
 
     def sends(self, **fields):
         """Sends a form, and says yes if it writes, waits for the end of its verb, and returns the page."""
-        form = urlencode({name.replace("_", " "): value for name, value in {**fields, "sure": "yes"}.items()})
+        form = urlencode(
+            {name.replace("_", " "): value for name, value in {**fields, "sure": "yes"}.items()}
+        )
         self.assertEqual(self.asks("POST", form=form)[0], 303)
         return self.ended()
 

@@ -18,7 +18,9 @@ from inrc2pb.week.records import Cell
 
 def _without_a_search(_, old, asked):
     """The old plan without the shifts of days away, as if a search had found it."""
-    return Found(old.with_cells(cell for cell in old.cells if (cell.nurse, cell.day) not in old.away))
+    return Found(
+        old.with_cells(cell for cell in old.cells if (cell.nurse, cell.day) not in old.away)
+    )
 
 
 class BackTest(FolderTest):
@@ -26,7 +28,11 @@ class BackTest(FolderTest):
 
     def setUp(self):
         super().setUp()
-        stand_ins = {"_found": _without_a_search, "penalties": lambda _: {}, "without_needless_changes": lambda _, new: new}
+        stand_ins = {
+            "_found": _without_a_search,
+            "penalties": lambda _: {},
+            "without_needless_changes": lambda _, new: new,
+        }
         for name, stand_in in stand_ins.items():
             patched = mock.patch.object(verbs, name, stand_in)
             patched.start()
@@ -47,7 +53,11 @@ class BackTest(FolderTest):
         """The days on which the plan that holds has Chen away, and why."""
         state = read_state(self.last())
         plan = continued(read_sheet(self.ward, None, state.absences), state)
-        return {day: word for (nurse, day), word in sorted(plan.away.items()) if nurse == "Chen" and word != "off"}
+        return {
+            day: word
+            for (nurse, day), word in sorted(plan.away.items())
+            if nurse == "Chen" and word != "off"
+        }
 
 
 def _days(first, last, word):
@@ -60,7 +70,13 @@ class Back(BackTest):
         self.lines("ill", "Chen", "Wed", "Sun")
         lines = self.lines("back", "Chen", "Sat")
         # Both lines come before the search.
-        self.assertEqual(lines[:2], ["Chen: back, Sat 5 Dec to Sun 6 Dec (ill)", "Chen stays away: leave, Mon 7 Dec to Fri 11 Dec"])
+        self.assertEqual(
+            lines[:2],
+            [
+                "Chen: back, Sat 5 Dec to Sun 6 Dec (ill)",
+                "Chen stays away: leave, Mon 7 Dec to Fri 11 Dec",
+            ],
+        )
         self.assertIn(", at most 30 s; ", lines[2])
         self.assertEqual(self.away(), {**_days(2, 4, "ill"), **_days(7, 11, "leave")})
 
@@ -78,7 +94,10 @@ class Back(BackTest):
                 self.begin_with()
                 self.lines("away", "Chen", "7.12.", "13.12.")
                 self.lines("ill", "Chen", "Fri", last)
-                self.assertIn("Chen stays away: away, Mon 7 Dec to Sun 13 Dec", self.lines("back", "Chen", "Sun"))
+                self.assertIn(
+                    "Chen stays away: away, Mon 7 Dec to Sun 13 Dec",
+                    self.lines("back", "Chen", "Sun"),
+                )
                 self.assertEqual(self.away(), {**_days(4, 5, "ill"), **_days(7, 13, "away")})
 
     def test_leave_below_an_illness_holds_again(self):
@@ -100,7 +119,9 @@ class Back(BackTest):
         self.assertEqual(lines[0], "Chen: back, Thu 3 Dec to Fri 4 Dec (leave)")
         self.assertIn("Chen stays away: leave, Mon 7 Dec to Tue 8 Dec", lines)
         self.assertEqual(self.away(), {**_days(0, 1, "ill"), 2: "leave", **_days(7, 8, "leave")})
-        self.assertEqual(self.lines("back", "Chen", "Mon")[0], "Chen: back, Mon 30 Nov to Tue 1 Dec (ill)")
+        self.assertEqual(
+            self.lines("back", "Chen", "Mon")[0], "Chen: back, Mon 30 Nov to Tue 1 Dec (ill)"
+        )
         self.lines("back", "Chen", "Wed")
         lines = self.lines("back", "Chen", "7.12.")
         self.assertEqual(([line for line in lines if "stays away" in line], self.away()), ([], {}))
@@ -111,13 +132,18 @@ class Back(BackTest):
         self.lines("ill", "Chen", "Thu", "Fri")
         self.assertEqual(self.lines("back", "Chen", "Fri")[0], "Chen: back, Fri 4 Dec (ill)")
         self.assertEqual(self.away(), {3: "ill", **_days(7, 11, "leave")})
-        self.assertEqual(self.lines("back", "Chen", "Sat"), ["inrc2pb-plan: Chen is not away on Sat 5 Dec: she is always off on it"])
+        self.assertEqual(
+            self.lines("back", "Chen", "Sat"),
+            ["inrc2pb-plan: Chen is not away on Sat 5 Dec: she is always off on it"],
+        )
 
     def test_a_reason_that_was_corrected_does_not_come_again(self):
         self.begin_with()
         self.lines("ill", "Chen", "Wed", "Fri")
         self.lines("leave", "Chen", "Wed", "Fri")
-        self.assertEqual(self.lines("back", "Chen", "Thu")[0], "Chen: back, Thu 3 Dec to Fri 4 Dec (leave)")
+        self.assertEqual(
+            self.lines("back", "Chen", "Thu")[0], "Chen: back, Thu 3 Dec to Fri 4 Dec (leave)"
+        )
         self.assertEqual(self.away(), {2: "leave"})
 
     def test_an_illness_that_the_spreadsheet_has_too_ends(self):
@@ -145,7 +171,9 @@ class Reasons(BackTest):
         """The rows of the list of changes of a page: nurse, day, before, now."""
         tree = ElementTree.fromstring((self.ward / page).read_text().partition("\n")[2])
         tables = [one for one in tree.iter("table") if "changes since" in "".join(one.itertext())]
-        rows = [["".join(cell.itertext()) for cell in row] for one in tables for row in one.iter("tr")]
+        rows = [
+            ["".join(cell.itertext()) for cell in row] for one in tables for row in one.iter("tr")
+        ]
         return [row for row in rows if row[0] == "Chen"]
 
     def test_a_change_to_an_illness_has_its_word(self):
@@ -175,7 +203,10 @@ class Reasons(BackTest):
     def test_a_nurse_who_worked_on_a_day_of_leave(self):
         self.begin_with("", "", "", "", "", "leave")
         self.lines("plan", "--free")
-        self.assertIn("Chen, Sat 5 Dec: Late Nurse instead of leave", self.lines("over", "Chen", "Sat", "Late"))
+        self.assertIn(
+            "Chen, Sat 5 Dec: Late Nurse instead of leave",
+            self.lines("over", "Chen", "Sat", "Late"),
+        )
 
 
 class Over(BackTest):
@@ -219,12 +250,17 @@ class Over(BackTest):
         self.assertEqual(self.worked("Bruno"), ["ill", "Day Nurse", *["Day Charge"] * 3, "", ""])
         self.assertEqual(self.worked("Chen")[:3], ["", "Late Nurse", "Late Nurse"])
         # The shift hung on the wall.
-        self.assertIn("DTSTART;VALUE=DATE:20261130\nSTATUS:CANCELLED\n", (self.ward / "calendars" / "Bruno.ics").read_text())
+        self.assertIn(
+            "DTSTART;VALUE=DATE:20261130\nSTATUS:CANCELLED\n",
+            (self.ward / "calendars" / "Bruno.ics").read_text(),
+        )
 
     def test_who_worked_on_a_day_away_was_back(self):
         self.begin_with("ill")
         lines = self.lines("over", "Chen", "Mon", "Late")
-        self.assertEqual(lines[:2], ["Chen: back, Mon 30 Nov", "Chen, Mon 30 Nov: Late Nurse instead of ill"])
+        self.assertEqual(
+            lines[:2], ["Chen: back, Mon 30 Nov", "Chen, Mon 30 Nov: Late Nurse instead of ill"]
+        )
         self.assertEqual(self.worked("Chen")[0], "Late Nurse")
         # Six days of work, each counted once.
         self.assertEqual(self.shifts_in_history("Chen"), 6)
@@ -253,15 +289,23 @@ class Over(BackTest):
         self.begin_with()
         self.lines("over", "Bruno", "Mon", "ill")
         # The shifts in all, those of them for days away, the limits of the contract, and the shifts left or missing.
-        self.assertEqual(self.rows_of("Bruno", "worked-2026-11-30.html")[1][:4], ["5", "1", "17 to 22", "12 to 17 left"])
-        self.assertEqual(self.rows_of("Bruno", "roster.html")[1][:4], ["10", "1", "17 to 22", "7 too few"])
+        self.assertEqual(
+            self.rows_of("Bruno", "worked-2026-11-30.html")[1][:4],
+            ["5", "1", "17 to 22", "12 to 17 left"],
+        )
+        self.assertEqual(
+            self.rows_of("Bruno", "roster.html")[1][:4], ["10", "1", "17 to 22", "7 too few"]
+        )
 
     def test_days_that_do_not_count_shorten_the_contract(self):
         for word in ("unpaid", "away"):
             with self.subTest(word):
                 self.begin_with()
                 part = "contract Full counts in proportion, at least 15 shifts in place of at least 17."
-                self.assertIn(f"Bruno is away or unpaid on 1 of 14 days: {part}", self.lines("over", "Bruno", "Mon", word))
+                self.assertIn(
+                    f"Bruno is away or unpaid on 1 of 14 days: {part}",
+                    self.lines("over", "Bruno", "Mon", word),
+                )
                 self.assertEqual(self.worked("Bruno")[:2], [word, "Day Nurse"])
 
     def test_a_day_without_a_shift_gets_only_its_reason(self):
@@ -269,12 +313,16 @@ class Over(BackTest):
         self.begin_with("", "leave")
         before = self.cells()
         # Chen is always off on Monday, and has leave on Tuesday.
-        lines = self.lines("over", "Chen", "Mon", "ill", "Chen", "Tue", "training", "Bruno", "Sun", "Away")
+        lines = self.lines(
+            "over", "Chen", "Mon", "ill", "Chen", "Tue", "training", "Bruno", "Sun", "Away"
+        )
         said = ["Chen: ill, Mon 30 Nov", "Chen: training, Tue 1 Dec", "Bruno: away, Sun 6 Dec"]
         self.assertEqual(lines[:3], said)
         self.assertEqual([line for line in lines if "instead of" in line], [])
         self.assertEqual((self.cells(), self.away()), (before, {}))
-        self.assertEqual((self.worked("Chen")[:2], self.worked("Bruno")[6]), (["ill", "training"], "away"))
+        self.assertEqual(
+            (self.worked("Chen")[:2], self.worked("Bruno")[6]), (["ill", "training"], "away")
+        )
 
     def test_an_illness_lifts_a_shift_that_the_spreadsheet_holds(self):
         self.rows["plan"][2][1] = "Day/Nurse"
@@ -286,22 +334,34 @@ class Over(BackTest):
     def test_the_last_correction_of_a_day_counts(self):
         for words, written, shift in (
             ("Bruno Mon ill, Bruno Mon Late", (), ("Late", "Nurse")),
-            ("Bruno Mon Late, Bruno Tue off, Bruno Mon ill", (DayWord("Bruno", 0, "ill", 1),), None),
+            (
+                "Bruno Mon Late, Bruno Tue off, Bruno Mon ill",
+                (DayWord("Bruno", 0, "ill", 1),),
+                None,
+            ),
             ("Bruno Mon leave, Bruno Mon training", (DayWord("Bruno", 0, "training"),), None),
         ):
             with self.subTest(words):
                 self.begin_with()
                 self.lines("over", *words.split())
-                self.assertEqual((read_state(self.last()).absences, self.own_cells("Bruno").get(0)), (written, shift))
+                self.assertEqual(
+                    (read_state(self.last()).absences, self.own_cells("Bruno").get(0)),
+                    (written, shift),
+                )
 
     def test_undo_takes_the_absence_back_with_the_week(self):
         self.begin_with()
         self.lines("ill", "Chen", "Fri")
         before, written = self.cells(), read_state(self.last()).absences
         self.lines("over", "Bruno", "Mon", "ill")
-        self.assertEqual(read_state(self.last()).absences, (*written, DayWord("Bruno", 0, "ill", 1)))
+        self.assertEqual(
+            read_state(self.last()).absences, (*written, DayWord("Bruno", 0, "ill", 1))
+        )
         self.assertEqual(self.lines("undo")[0][:26], "undone: over Bruno Mon ill")
-        self.assertEqual((self.cells(), read_state(self.last()).absences, self.away()), (before, written, {4: "ill"}))
+        self.assertEqual(
+            (self.cells(), read_state(self.last()).absences, self.away()),
+            (before, written, {4: "ill"}),
+        )
         self.assertFalse((self.ward / "worked-2026-11-30.html").exists())
 
     def test_the_last_week_of_a_period(self):
@@ -319,7 +379,9 @@ class Over(BackTest):
 
     def test_an_absence_after_the_week_that_ends(self):
         self.begin_with()
-        later = "Mon 7 Dec is after the week that ends now: the verb swap, or ill, changes later days"
+        later = (
+            "Mon 7 Dec is after the week that ends now: the verb swap, or ill, changes later days"
+        )
         self.assertEqual(self.lines("over", "Bruno", "7.12.", "ill"), [f"inrc2pb-plan: {later}"])
 
 
@@ -327,7 +389,10 @@ class Written(FolderTest):
     def test_what_verbs_wrote_below_an_illness_stays(self):
         leave, ill = with_days((), "Chen", [1, 2], "leave"), DayWord("Chen", 2, "ill")
         both = with_days(with_days(leave, "Chen", [2], "ill"), "Chen", [2], "ill")
-        self.assertEqual((both, words_of(both, "Chen"), words_of(both, "Grace")), ((*leave, ill), {1: "leave", 2: "ill"}, {}))
+        self.assertEqual(
+            (both, words_of(both, "Chen"), words_of(both, "Grace")),
+            ((*leave, ill), {1: "leave", 2: "ill"}, {}),
+        )
         self.assertEqual(set(without_last(both, "Chen", [2])), set(leave))
         self.assertEqual(without_last([ill], "Chen", [2]), (DayWord("Chen", 2, "sheet"),))
         self.assertEqual(without_last([ill], "Grace", []), (ill,))
@@ -346,11 +411,15 @@ class Asked(ServedPage):
     def test_a_week_ends_with_an_absence(self):
         self.write_plan()
         question = self.asks("POST", form="verb=over&corrections=Bruno+Mon+ill,+Chen+Tue+Late")[1]
-        self.assertIn("<h2>The week is over: Mon 30 Nov to Sun 6 Dec, corrections Bruno Mon ill, Chen Tue Late?</h2>", question)
+        self.assertIn(
+            "<h2>The week is over: Mon 30 Nov to Sun 6 Dec, corrections Bruno Mon ill, Chen Tue Late?</h2>",
+            question,
+        )
         self.assertEqual(len(list((self.ward / "plans").glob("0*"))), 1)
         page = self.sends(verb="over", corrections="Bruno Mon ill, Chen Tue Late")
         self.assertIn(
-            "Bruno: ill, Mon 30 Nov\nBruno, Mon 30 Nov: ill instead of Day Nurse\nChen, Tue 1 Dec: Late Nurse instead of off\n", page
+            "Bruno: ill, Mon 30 Nov\nBruno, Mon 30 Nov: ill instead of Day Nurse\nChen, Tue 1 Dec: Late Nurse instead of off\n",
+            page,
         )
         self.assertIn("week 1 (calendar week 49) is over: the plan goes on from Mon 7 Dec", page)
         self.assertIn(">ill<", (self.ward / "worked-2026-11-30.html").read_text())

@@ -53,7 +53,15 @@ class Lines(ExceededTest):
             self.days(*[""] * 5, word, word)
             self.assertEqual(list(days_away_lines(self.read())), [f"{TWELVE}: {TAKES_TWO}"], word)
             self.assertEqual(list(exceeded_lines(self.read())), [f"{TWELVE}: {TAKES_TWO}"], word)
-            self.assertEqual([line for line in unkept_lines(self.read(), unkept(self.read())) if "Grace" in line], [], word)
+            self.assertEqual(
+                [
+                    line
+                    for line in unkept_lines(self.read(), unkept(self.read()))
+                    if "Grace" in line
+                ],
+                [],
+                word,
+            )
 
     def test_days_away_within_a_limit(self):
         # A maximum without `!` may be exceeded, and 12 of 12 are not too many.
@@ -72,7 +80,9 @@ class Lines(ExceededTest):
         self.days(*[""] * 5, "ill", "ill")
         cells = [cell for cell in self.plan.cells if cell.nurse != "Grace" or cell.day < 7]
         says = f"Grace has 6 shifts, 1 of them for days away, of at most 5 {HOLDS}"
-        over = "no plan takes so many away, since the others were worked or are held: allow her more"
+        over = (
+            "no plan takes so many away, since the others were worked or are held: allow her more"
+        )
         earlier = f"plan from Fri 4 Dec on, or from an earlier day, takes 1 away {NEEDS}"
         for first, cure in ((0, earlier), (1, over)):
             plan = self.read(cells)
@@ -80,7 +90,11 @@ class Lines(ExceededTest):
             self.assertEqual(list(days_away_lines(plan)), [f"{says}: {cure}"], first)
         # The spreadsheet holds her shifts.
         own = [cell for cell in cells if cell.nurse == "Grace"]
-        self.days(*[f"{cell.shift}/{cell.skill}" for cell in sorted(own, key=lambda cell: cell.day)], "ill", "ill")
+        self.days(
+            *[f"{cell.shift}/{cell.skill}" for cell in sorted(own, key=lambda cell: cell.day)],
+            "ill",
+            "ill",
+        )
         self.assertEqual(list(days_away_lines(self.read(cells))), [f"{says}: {over}"])
 
     def test_who_leaves_after_training(self):
@@ -96,7 +110,9 @@ class Lines(ExceededTest):
         # Nobody is away, so a search never left it so; Ewa and Finn have other contracts.
         self.limits("8", "9!")
         lines = list(exceeded_lines(self.read()))
-        self.assertEqual([line.split(" ")[0] for line in lines], ["Amara", "Bruno", "Chen", "Dilek", "Grace"])
+        self.assertEqual(
+            [line.split(" ")[0] for line in lines], ["Amara", "Bruno", "Chen", "Dilek", "Grace"]
+        )
         cure = f"plan from Fri 11 Dec on, or from an earlier day, takes 1 away {NEEDS}"
         self.assertIn(f"Grace has 10 shifts of at most 9 {HOLDS}: {cure}", lines)
         self.assertEqual(list(days_away_lines(self.read())), [])
@@ -106,7 +122,10 @@ class Lines(ExceededTest):
         self.rows["contracts"][1][4] = "4!"
         self.write()
         says = [line for line in exceeded_lines(self.read()) if "Grace" in line]
-        rows = (("1 (calendar week 49)", "Mon 30 Nov to Fri 4 Dec"), ("2 (calendar week 50)", "Mon 7 Dec to Fri 11 Dec"))
+        rows = (
+            ("1 (calendar week 49)", "Mon 30 Nov to Fri 4 Dec"),
+            ("2 (calendar week 50)", "Mon 7 Dec to Fri 11 Dec"),
+        )
         run_of = "week {} exceeds a limit that holds: Grace has 5 days of work in a row, {}, of at most 4: plan again, or allow her more"
         self.assertEqual(says, [run_of.format(*row) for row in rows])
 
@@ -120,7 +139,11 @@ class Lines(ExceededTest):
         for name in (*vars(type(plain)), "data"):
             if isinstance(vars(type(plain)).get(name), (property, cached_property)):
                 getattr(looked, name)
-        for other in (lambda plan: plan, lambda plan: plan.with_cells(moved), lambda plan: plan_of(plan.ward, plan.state.with_open(moved))):
+        for other in (
+            lambda plan: plan,
+            lambda plan: plan.with_cells(moved),
+            lambda plan: plan_of(plan.ward, plan.state.with_open(moved)),
+        ):
             one, two = other(plain), other(looked)
             self.assertEqual((one.limits, one.data), (two.limits, two.data))
         # A changed plan is judged by the limits of the plan that it was made from.
@@ -132,10 +155,19 @@ class Lines(ExceededTest):
         for first, kept in ((0, 0), (7, 0), (10, 0), (11, 1), (12, 2)):
             plan = self.read()
             kept_plan = replace(plan, limits=limits_of(plan.ward, plan.state, first))
-            limits = {fact.nurse: fact.most for fact, _ in kept_plan.limits if getattr(fact, "kind", "") == "SHIFTS"}
+            limits = {
+                fact.nurse: fact.most
+                for fact, _ in kept_plan.limits
+                if getattr(fact, "kind", "") == "SHIFTS"
+            }
             self.assertEqual(limits["Grace"], kept, first)
-            named = any("Grace has 12 shifts of at most 10" in line for line in unkept_lines(kept_plan, unkept(kept_plan)))
-            self.assertEqual((named, bool(list(days_away_lines(kept_plan)))), (kept < 2, kept == 2), first)
+            named = any(
+                "Grace has 12 shifts of at most 10" in line
+                for line in unkept_lines(kept_plan, unkept(kept_plan))
+            )
+            self.assertEqual(
+                (named, bool(list(days_away_lines(kept_plan)))), (kept < 2, kept == 2), first
+            )
 
 
 class DaysAwayOfAWard(ExceededTest):
@@ -173,12 +205,22 @@ class DaysAwayOfAWard(ExceededTest):
     def test_what_an_illness_counts_is_kept(self):
         plan = self.read().with_state(replace(self.plan.state, published=True))
         ill = self.with_ill(plan, 2, 4)
-        gone = ill.with_cells(cell for cell in ill.cells if NurseDay(cell.nurse, cell.day) not in ill.away)
+        gone = ill.with_cells(
+            cell for cell in ill.cells if NurseDay(cell.nurse, cell.day) not in ill.away
+        )
         # She is ill for longer, and then once more for the same days.
         longer = self.with_ill(gone, 4, 8)
         self.assertEqual(longer.ward.credit["Grace"], 3 + 2)
-        state = replace(longer.state, cells=tuple(cell for cell in longer.cells if NurseDay(cell.nurse, cell.day) not in longer.away))
-        self.assertEqual(lost_shifts(state.absences), {("Grace", day): int(day not in (5, 6)) for day in range(2, 9)})
+        state = replace(
+            longer.state,
+            cells=tuple(
+                cell for cell in longer.cells if NurseDay(cell.nurse, cell.day) not in longer.away
+            ),
+        )
+        self.assertEqual(
+            lost_shifts(state.absences),
+            {("Grace", day): int(day not in (5, 6)) for day in range(2, 9)},
+        )
         again = continued(read_sheet(self.ward, None, state.absences), state)
         self.assertEqual((again.ward.credit["Grace"], again.shifts_of("Grace")), (5, 10))
         record = state.record("ill", MOMENT)
@@ -190,11 +232,20 @@ class DaysAwayOfAWard(ExceededTest):
         state = replace(self.plan.state, published=True)
         plan = continued(read_sheet(self.ward, None, ()), state)
         self.assertEqual(plan.ward.credit["Grace"], 3)
-        gone = plan.with_cells(cell for cell in plan.cells if NurseDay(cell.nurse, cell.day) not in plan.away)
+        gone = plan.with_cells(
+            cell for cell in plan.cells if NurseDay(cell.nurse, cell.day) not in plan.away
+        )
         # The shifts are known when they are gone, and not any more when she is well again.
-        self.assertEqual(continued(read_sheet(self.ward, None, gone.state.absences), gone.state).ward.credit["Grace"], 3)
+        self.assertEqual(
+            continued(read_sheet(self.ward, None, gone.state.absences), gone.state).ward.credit[
+                "Grace"
+            ],
+            3,
+        )
         self.days()
-        self.assertEqual(continued(read_sheet(self.ward, None, gone.state.absences), gone.state).ward.credit, {})
+        self.assertEqual(
+            continued(read_sheet(self.ward, None, gone.state.absences), gone.state).ward.credit, {}
+        )
 
     def test_training_is_a_shift_and_a_weekend(self):
         for words, found in (
@@ -207,9 +258,15 @@ class DaysAwayOfAWard(ExceededTest):
 
     def test_who_leaves_has_no_maximum_of_days_off(self):
         # Her contract has at most three days off in a row: the weekend before she leaves and her two last days are four.
-        for words, free in (([""] * 12 + ["away", "away"], True), (["", "away", "away", ""], False), (["unpaid"], False)):
+        for words, free in (
+            ([""] * 12 + ["away", "away"], True),
+            (["", "away", "away", ""], False),
+            (["unpaid"], False),
+        ):
             self.days(*words)
-            self.assertEqual(self.read().scenario.contract_of("Grace").days_off.maximum > 14, free, words)
+            self.assertEqual(
+                self.read().scenario.contract_of("Grace").days_off.maximum > 14, free, words
+            )
 
 
 class SwapsBesideTraining(ExceededTest):
@@ -228,7 +285,9 @@ class SwapsBesideTraining(ExceededTest):
         words for her."""
         self.days(*words)
         swaps, swap = Swaps(self.read()), Swap(nurse, "Grace", (day,))
-        return [fault_text(swaps.plan, fault) for fault in swaps.faults(swap)], swap in [offer.swap for offer in swaps.offers(nurse, day)]
+        return [fault_text(swaps.plan, fault) for fault in swaps.faults(swap)], swap in [
+            offer.swap for offer in swaps.offers(nurse, day)
+        ]
 
     def test_too_many_days_in_a_row_with_training(self):
         # With Sunday she works eleven days, in rows of five and of six, and with training on Saturday twelve in a row.
@@ -252,7 +311,10 @@ class SwapsBesideTraining(ExceededTest):
         self.days(*[""] * 5, "training")
         before = self.last()
         status, printed, _ = run("plan", self.ward, "swap", "Dilek", "2026-12-06", "Grace", "--do")
-        self.assertEqual((status, printed.splitlines()[:2]), (6, [f"not possible: {self.LONG}", "nothing is written"]))
+        self.assertEqual(
+            (status, printed.splitlines()[:2]),
+            (6, [f"not possible: {self.LONG}", "nothing is written"]),
+        )
         self.assertEqual(self.last(), before)
         self.assertNotIn("Grace takes it", printed)
 
@@ -279,7 +341,9 @@ class Questions(ExceededTest):
     def test_an_illness_of_a_plan_on_the_wall_exceeds_nothing(self):
         self.does("page")
         plan = continued(read_sheet(self.ward, None, ()), read_state(self.last()))
-        self.assertFalse(newly_exceeded(plan, absence(plan, Event("ill", ("Grace", "Wed", "Sun"))).there))
+        self.assertFalse(
+            newly_exceeded(plan, absence(plan, Event("ill", ("Grace", "Wed", "Sun"))).there)
+        )
 
     def test_training_that_makes_days_in_a_row_too_many(self):
         self.rows["contracts"][1][1:5] = ["8", "20", "3", "6!"]
@@ -290,19 +354,28 @@ class Questions(ExceededTest):
             self.assertEqual(newly_exceeded(plan, found.there), exceeds, word)
         # The week before was so already: a day without a change is not new.
         self.assertFalse(newly_exceeded(plan, plan))
-        self.assertTrue(newly_exceeded(None, absence(plan, Event("training", ("Grace", "Sat", "Sun"))).there))
+        self.assertTrue(
+            newly_exceeded(None, absence(plan, Event("training", ("Grace", "Sat", "Sun"))).there)
+        )
 
     def test_the_end_of_a_week_with_corrections(self):
         # Bruno has ten shifts of ten at most, and worked on Saturday too.
         printed = self.asks("over", "Bruno", "Sat", "Late")
-        self.assertIn("Bruno has 11 shifts of at most 10 in the period, and this limit holds", printed)
-        self.assertIn("week 1 (calendar week 49) is over", self.does("over", "Bruno", "Sat", "Late", "--do"))
+        self.assertIn(
+            "Bruno has 11 shifts of at most 10 in the period, and this limit holds", printed
+        )
+        self.assertIn(
+            "week 1 (calendar week 49) is over", self.does("over", "Bruno", "Sat", "Late", "--do")
+        )
 
     def test_swaps_and_days_that_are_set_are_refused_with_do_too(self):
         self.rows["contracts"][1][1:5] = ["8", "20", "3", "6!"]
         self.days(*[""] * 5, "training")
         before = self.texts()
-        for words in (("swap", "Dilek", "2026-12-06", "Grace", "--do"), ("set", "Grace", "2026-12-06", "Day", "--do")):
+        for words in (
+            ("swap", "Dilek", "2026-12-06", "Grace", "--do"),
+            ("set", "Grace", "2026-12-06", "Day", "--do"),
+        ):
             status, printed, _ = run("plan", self.ward, *words)
             self.assertEqual((status, self.texts()), (6, before))
             self.assertIn(f"not possible: {SwapsBesideTraining.LONG}\n", printed)
@@ -322,7 +395,9 @@ class Verbs(ExceededTest):
         self.assertTrue(printed.endswith(Questions.ASKS), printed)
         status, printed, said = self.runs("plan", "--do")
         self.assertEqual((status, bool(self.texts())), (6, True), said)
-        self.assertIn("this plan is written, but it does not keep what the first lines say", printed)
+        self.assertIn(
+            "this plan is written, but it does not keep what the first lines say", printed
+        )
 
     def named(self, *words):
         """The lines that the verb prints on maxima of shifts."""
@@ -366,8 +441,15 @@ class Verbs(ExceededTest):
         self.assertTrue(self.page_has(line))
         state = read_state(self.last())
         plan = continued(read_sheet(self.ward, None, state.absences), state)
-        offers = [one.swap for day in range(7) if plan.works.get(("Finn", day)) for one in Swaps(plan).offers("Finn", day)]
-        one, other, days = next(swap for swap in offers if swap.other not in ("Bruno", "Finn") and len(swap.days) == 1)
+        offers = [
+            one.swap
+            for day in range(7)
+            if plan.works.get(("Finn", day))
+            for one in Swaps(plan).offers("Finn", day)
+        ]
+        one, other, days = next(
+            swap for swap in offers if swap.other not in ("Bruno", "Finn") and len(swap.days) == 1
+        )
         self.assertEqual(self.named("swap", one, plan.days.head(days[0]), other, "--do"), [line])
 
     def test_a_plan_after_a_limit_was_lowered_keeps_it(self):

@@ -11,7 +11,15 @@ from ward import HAS_CBC
 from inrc2pb.plans import exchanges, verbs
 from inrc2pb.plans.exchanges import more_even
 from inrc2pb.plans.facts import beside_days_away, unkept
-from inrc2pb.plans.fairness import Evenness, Share, Spread, evenness, may_work_nights, may_work_weekends, shares
+from inrc2pb.plans.fairness import (
+    Evenness,
+    Share,
+    Spread,
+    evenness,
+    may_work_nights,
+    may_work_weekends,
+    shares,
+)
 from inrc2pb.plans.outcome import Asked
 from inrc2pb.plans.searching import Found
 from inrc2pb.plans.sentences import evenness_lines
@@ -27,26 +35,40 @@ class Shares(KeptTest):
     def test_nights_and_weekends_of_the_period(self):
         # In the stored roster, twice: Chen has Night from Friday to Sunday, Dilek on Monday, Ewa from Tuesday to Thursday.
         found = shares(self.read())
-        self.assertEqual({nurse: one.nights for nurse, one in found.items() if one.nights}, {"Chen": 6, "Dilek": 2, "Ewa": 6})
         self.assertEqual(
-            {nurse: one.weekends for nurse, one in found.items() if one.weekends}, dict.fromkeys(("Amara", "Chen", "Dilek", "Finn"), 2)
+            {nurse: one.nights for nurse, one in found.items() if one.nights},
+            {"Chen": 6, "Dilek": 2, "Ewa": 6},
+        )
+        self.assertEqual(
+            {nurse: one.weekends for nurse, one in found.items() if one.weekends},
+            dict.fromkeys(("Amara", "Chen", "Dilek", "Finn"), 2),
         )
         # Weeks that are over count too.
         plan = self.read()
-        self.assertEqual(shares(plan.with_state(replace(plan.state, open_week=1)))["Chen"], Share(6, 2))
+        self.assertEqual(
+            shares(plan.with_state(replace(plan.state, open_week=1)))["Chen"], Share(6, 2)
+        )
 
     def test_who_may_work_them(self):
         self.rows["nurses"][7][4] = "Sat, Sun"
         self.rows["contracts"][2][7] = "0"
         self.write()
         plan = self.read()
-        self.assertEqual([nurse for nurse in plan.scenario.nurses if not may_work_nights(plan, nurse)], ["Finn"])
-        self.assertEqual([nurse for nurse in plan.scenario.nurses if not may_work_weekends(plan, nurse)], ["Ewa", "Finn", "Grace"])
+        self.assertEqual(
+            [nurse for nurse in plan.scenario.nurses if not may_work_nights(plan, nurse)], ["Finn"]
+        )
+        self.assertEqual(
+            [nurse for nurse in plan.scenario.nurses if not may_work_weekends(plan, nurse)],
+            ["Ewa", "Finn", "Grace"],
+        )
 
     def test_how_even_they_are(self):
         plan = self.read()
         # Finn never works Night, so nobody is beside Ewa.
-        self.assertEqual(evenness(plan), Evenness((Spread("Full", 0, 6),), (Spread("Full", 0, 2), Spread("Half", 0, 2))))
+        self.assertEqual(
+            evenness(plan),
+            Evenness((Spread("Full", 0, 6),), (Spread("Full", 0, 2), Spread("Half", 0, 2))),
+        )
         self.assertEqual(evenness_lines(plan), [
             "nights of each nurse who may work them, by contract: Full 0 to 6",
             "weekends of each nurse who may work them, by contract: Full 0 to 2, Half 0 to 2",
@@ -78,7 +100,9 @@ class Exchanges(KeptTest):
         (weekends,) = [one for one in evenness(even).weekends if one.contract == "Full"]
         self.assertLessEqual(weekends.most - weekends.fewest, 2)
         # Each place has as many nurses as before, and the program charges the same.
-        self.assertEqual(sorted(cell[1:] for cell in even.cells), sorted(cell[1:] for cell in plan.cells))
+        self.assertEqual(
+            sorted(cell[1:] for cell in even.cells), sorted(cell[1:] for cell in plan.cells)
+        )
         self.assertEqual(sum(penalties(even).values()), sum(penalties(plan).values()))
 
     def test_nothing_that_holds_is_broken(self):
@@ -99,10 +123,12 @@ class Exchanges(KeptTest):
         plan = plan.with_state(replace(plan.state, set_days=(SetDay("Chen", 5),)))
         even = more_even(plan, 3, STEPS)
         self.assertEqual(
-            {one: cell for one, cell in even.works.items() if one.day < 3}, {one: cell for one, cell in plan.works.items() if one.day < 3}
+            {one: cell for one, cell in even.works.items() if one.day < 3},
+            {one: cell for one, cell in plan.works.items() if one.day < 3},
         )
         self.assertEqual(
-            [even.works.get(("Chen", day)) for day in (5, 6)], [Cell("Chen", 5, "Night", "Nurse"), Cell("Chen", 6, "Night", "Nurse")]
+            [even.works.get(("Chen", day)) for day in (5, 6)],
+            [Cell("Chen", 5, "Night", "Nurse"), Cell("Chen", 6, "Night", "Nurse")],
         )
 
     def test_an_exchange_that_would_cost_a_wish_is_not_made(self):
@@ -123,17 +149,31 @@ class Exchanges(KeptTest):
         self.rows["needs"].append(["", "Day", "Tutor", *["0+1"] * 7])
         self.write()
         given = {"Chen": ("Night", "Nurse"), "Dilek": ("Day", "Charge"), "Grace": ("Day", "Tutor")}
-        plan = self.read([Cell(nurse, day, *shift) for nurse, shift in given.items() for day in range(4)])
+        plan = self.read(
+            [Cell(nurse, day, *shift) for nurse, shift in given.items() for day in range(4)]
+        )
         even = more_even(plan, 0, STEPS)
-        self.assertEqual({nurse: shares(even)[nurse].nights for nurse in skills}, {"Chen": 2, "Dilek": 0, "Grace": 2})
-        self.assertEqual(sorted(cell[1:] for cell in even.cells), sorted(cell[1:] for cell in plan.cells))
+        self.assertEqual(
+            {nurse: shares(even)[nurse].nights for nurse in skills},
+            {"Chen": 2, "Dilek": 0, "Grace": 2},
+        )
+        self.assertEqual(
+            sorted(cell[1:] for cell in even.cells), sorted(cell[1:] for cell in plan.cells)
+        )
         self.assertEqual(even.view().penalty, plan.view().penalty)
-        self.assertTrue(all(cell.skill in plan.scenario.nurses[cell.nurse].skills for cell in even.cells))
+        self.assertTrue(
+            all(cell.skill in plan.scenario.nurses[cell.nurse].skills for cell in even.cells)
+        )
 
     def test_its_work_is_limited(self):
         plan = self.read()
         for steps in (1, 20, 1000):
-            with mock.patch.object(exchanges._Exchanges, "_squares", autospec=True, side_effect=exchanges._Exchanges._squares) as tried:
+            with mock.patch.object(
+                exchanges._Exchanges,
+                "_squares",
+                autospec=True,
+                side_effect=exchanges._Exchanges._squares,
+            ) as tried:
                 self.assertEqual(len(more_even(plan, 0, steps).cells), len(plan.cells))
             self.assertLessEqual(tried.call_count, steps)
         self.assertEqual(more_even(plan, 0, 0).works, plan.works)
@@ -143,7 +183,10 @@ class Exchanges(KeptTest):
         before = plan
         for steps in (100, 1000, 10_000):
             even = more_even(plan, 0, steps)
-            older, now = (sum(share.nights**2 + share.weekends**2 for share in shares(one).values()) for one in (before, even))
+            older, now = (
+                sum(share.nights**2 + share.weekends**2 for share in shares(one).values())
+                for one in (before, even)
+            )
             self.assertLessEqual(now, older)
             before = even
         self.assertNotEqual(before.works, plan.works)
@@ -152,7 +195,10 @@ class Exchanges(KeptTest):
         # Each look at a clock says that an hour has passed.
         plan, asked, hours = self.read(), Asked(0, False, 1.0), iter(range(0, 10**9, 3600))
         quiet = verbs._evened(Found(plan), asked)
-        clocks = {name: lambda: float(next(hours)) for name in ("monotonic", "perf_counter", "process_time", "thread_time", "time")}
+        clocks = {
+            name: lambda: float(next(hours))
+            for name in ("monotonic", "perf_counter", "process_time", "thread_time", "time")
+        }
         with mock.patch.multiple(time, **clocks):
             busy = more_even(plan, 0, round(exchanges.STEPS_A_SECOND * verbs.EVENING_SHARE))
         self.assertEqual(busy.cells, quiet.cells)
@@ -161,7 +207,10 @@ class Exchanges(KeptTest):
     @unittest.skipUnless(HAS_CBC, "cbc is not installed")
     def test_the_verb_says_how_even_it_is(self):
         printed = self.does("plan")
-        self.assertRegex(printed, "(?m)^nights of each nurse who may work them, by contract: Full [0-9]+( to [0-9]+)?$")
+        self.assertRegex(
+            printed,
+            "(?m)^nights of each nurse who may work them, by contract: Full [0-9]+( to [0-9]+)?$",
+        )
 
 
 if __name__ == "__main__":

@@ -35,7 +35,11 @@ SHIFT, CHANGED = "(Day|Late|Night) (Charge|Nurse)", "\u0394"
 
 def shifts_from(monday):
     """The stored roster in both weeks of a period."""
-    return frozenset((cell.nurse, monday + (7 * week + cell.day) * DAY, cell.shift, cell.skill) for week in (0, 1) for cell in STORED)
+    return frozenset(
+        (cell.nurse, monday + (7 * week + cell.day) * DAY, cell.shift, cell.skill)
+        for week in (0, 1)
+        for cell in STORED
+    )
 
 
 @dataclass(frozen=True)
@@ -69,7 +73,9 @@ class FolderPages(KeptTest):
         self.states = [State(), State(shifts=shifts_from(MONDAY))]
         self.sheet_monday = MONDAY
         means = Means(read_sheet, Progress(sys.stderr), lambda line: None)
-        self.verbs, self.store = Verbs(WardFolder(self.ward), means), PlanStore(WardFolder(self.ward), means)
+        self.verbs, self.store = Verbs(WardFolder(self.ward), means), PlanStore(
+            WardFolder(self.ward), means
+        )
 
     def said(self, verb, *words):
         """What the verb says."""
@@ -84,7 +90,10 @@ class FolderPages(KeptTest):
         """The sheet plan has the two weeks from this Monday on."""
         if monday != self.sheet_monday:
             self.sheet_monday = monday
-            self.rows["plan"] = [["nurse", *(f"{monday + day * DAY}" for day in range(14))], *([row[0]] for row in self.rows["plan"][1:])]
+            self.rows["plan"] = [
+                ["nurse", *(f"{monday + day * DAY}" for day in range(14))],
+                *([row[0]] for row in self.rows["plan"][1:]),
+            ]
             self.write()
 
     # ---- the steps of a user, and their right results
@@ -98,10 +107,16 @@ class FolderPages(KeptTest):
         state = self.state
         taken = chooses.choice(sorted(state.planned))
         old = self.store.current()
-        cells = [cell for cell in old.cells if (cell.nurse, state.monday + cell.day * DAY) != taken[:2]]
+        cells = [
+            cell for cell in old.cells if (cell.nurse, state.monday + cell.day * DAY) != taken[:2]
+        ]
         self.store.save("plan", old.with_cells(cells))
         shifts = state.shifts - {taken}
-        self.states.append(replace(state, shifts=shifts, calendars=shifts if state.is_published else state.calendars))
+        self.states.append(
+            replace(
+                state, shifts=shifts, calendars=shifts if state.is_published else state.calendars
+            )
+        )
 
     def over(self, chooses):
         """Ends a week in which a nurse has not worked a shift."""
@@ -111,7 +126,10 @@ class FolderPages(KeptTest):
         self.said("over", taken[0], f"{taken[1]}", "off")
         shifts = state.shifts - {taken}
         calendars = shifts if state.is_published else state.calendars
-        worked = {**state.worked, state.monday: frozenset(shift for shift in shifts if shift[1] < last)}
+        worked = {
+            **state.worked,
+            state.monday: frozenset(shift for shift in shifts if shift[1] < last),
+        }
         ended = State(state.monday, 1, shifts, state.is_published, calendars, worked)
         self.states.append(State(last, calendars=calendars, worked=worked) if state.over else ended)
 
@@ -135,15 +153,27 @@ class FolderPages(KeptTest):
         for table in ElementTree.parse(self.ward / name).iter("table"):
             caption, head, body = table
             if caption.text == "Shifts of each nurse":
-                dates = [" ".join("".join(day.itertext()).split()[-2:]) for day in list(head.iter("tr"))[-1]][1:]
-                cells = ((row[0].text, date, "".join(cell.itertext())) for row in body for cell, date in zip(row[1:], dates))
-                words = ((nurse, date, re.search(SHIFT, text.split(CHANGED)[0])) for nurse, date, text in cells)
+                dates = [
+                    " ".join("".join(day.itertext()).split()[-2:])
+                    for day in list(head.iter("tr"))[-1]
+                ][1:]
+                cells = (
+                    (row[0].text, date, "".join(cell.itertext()))
+                    for row in body
+                    for cell, date in zip(row[1:], dates)
+                )
+                words = (
+                    (nurse, date, re.search(SHIFT, text.split(CHANGED)[0]))
+                    for nurse, date, text in cells
+                )
                 found |= {(nurse, date, *shift.groups()) for nurse, date, shift in words if shift}
         return found
 
     def worded(self, shifts):
         """Shifts as pages name their days."""
-        return {(nurse, f"{date.day} {date:%b}", shift, skill) for nurse, date, shift, skill in shifts}
+        return {
+            (nurse, f"{date.day} {date:%b}", shift, skill) for nurse, date, shift, skill in shifts
+        }
 
     def in_calendars(self):
         """The shifts of all calendars that are not cancelled."""
@@ -153,7 +183,13 @@ class FolderPages(KeptTest):
                 words = re.search(f"SUMMARY:{SHIFT}", event)
                 date = re.search("DTSTART[^:]*:([0-9]{8})", event)[1]
                 if words and "STATUS" not in event:
-                    found.add((path.stem, datetime.datetime.strptime(date, "%Y%m%d").date(), *words.groups()))
+                    found.add(
+                        (
+                            path.stem,
+                            datetime.datetime.strptime(date, "%Y%m%d").date(),
+                            *words.groups(),
+                        )
+                    )
         return found
 
     def assert_pages(self, done):
@@ -162,14 +198,22 @@ class FolderPages(KeptTest):
         is_known = state.shifts is None or self.sheet_monday == state.monday
         wanted = {f"worked-{monday}.html": shifts for monday, shifts in state.worked.items()}
         if is_known and state.planned:
-            wanted.update({"roster.html": state.planned, **({"wall.html": state.planned} if state.is_published else {})})
+            wanted.update(
+                {
+                    "roster.html": state.planned,
+                    **({"wall.html": state.planned} if state.is_published else {}),
+                }
+            )
         self.assertLessEqual(there, set(wanted), done)
         # Without the days of the plan in the sheet its pages cannot be written.
         self.assertTrue(there == set(wanted) or not is_known, (done, there))
         for name in there:
             self.assertEqual(self.shown(name), self.worded(wanted[name]), (done, name))
         found = self.in_calendars()
-        self.assertTrue(found == state.calendars or not found and not (state.is_published and is_known), (done, found ^ state.calendars))
+        self.assertTrue(
+            found == state.calendars or not found and not (state.is_published and is_known),
+            (done, found ^ state.calendars),
+        )
 
 
 class Sequences(FolderPages):
@@ -186,8 +230,14 @@ class Sequences(FolderPages):
             state, has_plan = self.state, self.state.shifts is not None
             if has_plan and self.sheet_monday != state.monday:
                 self.days(state.monday)
-            some = ["page", "change", "over", "over", "undo"] if has_plan else ["plan_again", "plan_again", "undo"]
-            verb = chooses.choice(some if len(self.states) > 2 else [one for one in some if one != "undo"])
+            some = (
+                ["page", "change", "over", "over", "undo"]
+                if has_plan
+                else ["plan_again", "plan_again", "undo"]
+            )
+            verb = chooses.choice(
+                some if len(self.states) > 2 else [one for one in some if one != "undo"]
+            )
             done.append(verb)
             if verb in ("change", "over"):
                 getattr(self, verb)(chooses)
@@ -265,22 +315,33 @@ class Undone(FolderPages):
     def test_undo_beside_a_sheet_that_cannot_be_read(self):
         self.page()
         reader = mock.Mock(side_effect=PermissionError(13, "Permission denied", "ward.ods"))
-        said = lines(Verbs(WardFolder(self.ward), Means(reader, Progress(sys.stderr), print)).done(Event("undo")))
+        said = lines(
+            Verbs(WardFolder(self.ward), Means(reader, Progress(sys.stderr), print)).done(
+                Event("undo")
+            )
+        )
         self.assertIn("its pages are not written: ward.ods: Permission denied", said[-1])
         self.assertEqual([path.name for path in self.ward.glob("*.html")], [])
 
     def test_a_page_that_cannot_be_taken_away(self):
         self.over(random.Random(1))
-        with mock.patch.object(pages.Path, "unlink", side_effect=PermissionError(13, "Permission denied", "worked")):
+        with mock.patch.object(
+            pages.Path, "unlink", side_effect=PermissionError(13, "Permission denied", "worked")
+        ):
             found = self.verbs.done(Event("undo"))
-        self.assertIn("the plan holds, but its pages are not written: worked: Permission denied", lines(found)[-1])
+        self.assertIn(
+            "the plan holds, but its pages are not written: worked: Permission denied",
+            lines(found)[-1],
+        )
         self.assertEqual(found.status, Status.PAGES_NOT_WRITTEN)
 
     def test_pages_of_a_run_that_was_killed_are_told(self):
         self.page()
         self.assertNotIn("another plan", "".join(self.said("check")))
         # The plan is written, and its pages are not.
-        with mock.patch.object(pages, "write_pages", side_effect=KeyboardInterrupt), self.assertRaises(KeyboardInterrupt):
+        with mock.patch.object(
+            pages, "write_pages", side_effect=KeyboardInterrupt
+        ), self.assertRaises(KeyboardInterrupt):
             self.said("over")
         warnings = [line for line in self.said("check") if line.startswith("warning: ")]
         for line, name in zip(warnings, ("roster.html", "wall.html")):
@@ -319,7 +380,9 @@ class Links(FolderPages):
         self.over(random.Random(1))
         self.assertEqual(self.outside.read_text(), "mine")
         for name in names:
-            self.assertTrue((self.ward / name).is_file() and not (self.ward / name).is_symlink(), name)
+            self.assertTrue(
+                (self.ward / name).is_file() and not (self.ward / name).is_symlink(), name
+            )
         self.assert_pages("page and over")
 
     def test_a_folder_of_calendars_that_is_a_link(self):
@@ -341,14 +404,19 @@ class Links(FolderPages):
         (self.ward / "worked-2026-11-30.html").symlink_to(self.outside)
         self.over(random.Random(1))
         self.undo()
-        self.assertEqual((self.outside.read_text(), (self.ward / "wall.html").is_symlink()), ("mine", False))
+        self.assertEqual(
+            (self.outside.read_text(), (self.ward / "wall.html").is_symlink()), ("mine", False)
+        )
 
 
 class Calendars(FolderPages):
     def events(self, nurse):
         """The events of a nurse's calendar by their dates."""
         text = (self.ward / "calendars" / f"{nurse}.ics").read_text()
-        return {re.search("DTSTART[^:]*:([0-9]{8})", event)[1]: event for event in text.split("BEGIN:VEVENT")[1:]}
+        return {
+            re.search("DTSTART[^:]*:([0-9]{8})", event)[1]: event
+            for event in text.split("BEGIN:VEVENT")[1:]
+        }
 
     def test_a_correction_of_a_worked_day_is_cancelled(self):
         # Finn works late on Thursday and Friday of both weeks.
@@ -360,10 +428,14 @@ class Calendars(FolderPages):
         self.assertEqual(set(now), set(before))
         numbers = [int(re.search("SEQUENCE:([0-9]+)", one["20261204"])[1]) for one in (before, now)]
         self.assertLess(*numbers)
-        self.assertEqual([date for date, event in now.items() if "STATUS:CANCELLED" in event], ["20261204"])
+        self.assertEqual(
+            [date for date, event in now.items() if "STATUS:CANCELLED" in event], ["20261204"]
+        )
         # Later verbs keep the days that were worked, and the cancelled one.
         self.said("over")
-        self.assertEqual(["STATUS:CANCELLED" in event for event in self.events("Finn").values()].count(True), 1)
+        self.assertEqual(
+            ["STATUS:CANCELLED" in event for event in self.events("Finn").values()].count(True), 1
+        )
         self.assertEqual(set(self.events("Finn")), set(before))
 
     def test_a_calendar_without_shifts_has_nothing_to_take_back_later(self):

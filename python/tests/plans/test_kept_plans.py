@@ -12,12 +12,24 @@ from inrc2pb.commands.plan import read_sheet
 from inrc2pb.judging.limits import limits_way_out
 from inrc2pb.judging.rules import Charge
 from inrc2pb.plans import pages
-from inrc2pb.plans.changes import days_off_beside_absences, shift_changes, with_few_changes, without_needless_changes
+from inrc2pb.plans.changes import (
+    days_off_beside_absences,
+    shift_changes,
+    with_few_changes,
+    without_needless_changes,
+)
 from inrc2pb.plans.facts import unkept
 from inrc2pb.plans.outcome import Asked, Planned
 from inrc2pb.plans.search_sentences import bound_text, part_lines, planned_lines
 from inrc2pb.plans.searching import known_bound
-from inrc2pb.plans.sentences import beside_lines, call_lines, change_lines, due_lines, unkept_lines, wish_lines
+from inrc2pb.plans.sentences import (
+    beside_lines,
+    call_lines,
+    change_lines,
+    due_lines,
+    unkept_lines,
+    wish_lines,
+)
 from inrc2pb.plans.state import DayWord, Record, read_record, read_state, record_text
 from inrc2pb.plans.ward import limits_for_leavers, plan_of
 from inrc2pb.search.bounds import PLAIN, PROVER, Bound
@@ -45,7 +57,9 @@ class KeptTest(FolderTest):
     def with_wishes(self, plan, *weeks):
         """The plan with these wishes in its weeks."""
         asked = [replace(week, requests=wishes) for week, wishes in zip(plan.ward.weeks, weeks)]
-        return replace(plan, ward=replace(plan.ward, weeks=(*asked, *plan.ward.weeks[len(weeks) :])))
+        return replace(
+            plan, ward=replace(plan.ward, weeks=(*asked, *plan.ward.weeks[len(weeks) :]))
+        )
 
     def agreed(self):
         """The nurses and days on which the plan that holds has a swap."""
@@ -56,19 +70,38 @@ class Words(KeptTest):
     def test_a_change_of_skill_is_told_and_the_nurse_is_called(self):
         old, new = [Cell("Amara", 0, "Day", "Nurse")], [Cell("Amara", 0, "Day", "Charge")]
         changes = shift_changes(old, new)
-        self.assertEqual(change_lines(changes, BARE), ["Amara, Mon of week 1: Day Charge instead of Day Nurse"])
+        self.assertEqual(
+            change_lines(changes, BARE), ["Amara, Mon of week 1: Day Charge instead of Day Nurse"]
+        )
         self.assertEqual(call_lines(changes), ["1 nurse to call: Amara"])
 
     def test_who_is_away_on_a_changed_day_is_not_called(self):
         old, new = [Cell("Amara", 0, "Day", "Nurse")], [Cell("Bruno", 0, "Day", "Nurse")]
         changes, away = shift_changes(old, new), {("Amara", 0): "ill"}
-        says = ["Amara, Mon of week 1: ill instead of Day Nurse", "Bruno, Mon of week 1: Day Nurse instead of off"]
-        self.assertEqual((change_lines(changes, BARE, away), call_lines(changes, away)), (says, ["1 nurse to call: Bruno"]))
+        says = [
+            "Amara, Mon of week 1: ill instead of Day Nurse",
+            "Bruno, Mon of week 1: Day Nurse instead of off",
+        ]
+        self.assertEqual(
+            (change_lines(changes, BARE, away), call_lines(changes, away)),
+            (says, ["1 nurse to call: Bruno"]),
+        )
 
     def test_how_many_shifts_differ_from_a_plan_that_nobody_has_seen(self):
-        for number, says in ((1, "1 shift differs from the last plan"), (2, "2 shifts differ from the last plan")):
+        for number, says in (
+            (1, "1 shift differs from the last plan"),
+            (2, "2 shifts differ from the last plan"),
+        ):
             new = self.plan.with_cells(self.plan.cells[number:])
-            planned = Planned(self.plan, self.plan, Asked(0, False, 1.0), new, penalties={}, bound=None, is_stopped=False)
+            planned = Planned(
+                self.plan,
+                self.plan,
+                Asked(0, False, 1.0),
+                new,
+                penalties={},
+                bound=None,
+                is_stopped=False,
+            )
             self.assertIn(says, planned_lines(planned, ""))
 
     def test_who_works_though_she_is_away_is_told(self):
@@ -86,8 +119,15 @@ class Words(KeptTest):
         self.assertEqual(unkept_lines(self.plan, unkept(self.plan)), [])
 
     def test_lost_wishes(self):
-        plan = self.with_wishes(self.plan, (Request("Grace", None, 4), Request("Chen", "Night", 4), Request("Ewa", None, 0)), ())
-        refused = ["wish not granted: Grace, off on Fri 4 Dec", "wish not granted: Chen, no Night on Fri 4 Dec"]
+        plan = self.with_wishes(
+            self.plan,
+            (Request("Grace", None, 4), Request("Chen", "Night", 4), Request("Ewa", None, 0)),
+            (),
+        )
+        refused = [
+            "wish not granted: Grace, off on Fri 4 Dec",
+            "wish not granted: Chen, no Night on Fri 4 Dec",
+        ]
         self.assertEqual(wish_lines(None, plan), refused)
         # Grace is off, so her wish is granted; Ewa works on Monday.
         cells = [cell for cell in plan.cells if (cell.nurse, cell.day) != ("Grace", 4)]
@@ -101,8 +141,14 @@ class Words(KeptTest):
             row[3] = "" if row[0] == "Dilek" else "Night"
         self.write()
         fixed = "the sheet plan fixes it for Grace: empty her cell of this day, save the sheet, and look again"
-        self.assertEqual(self.does("swap", "Grace", "Mon"), f"nobody can take Grace's Day on Mon 30 Nov: {fixed}\n")
-        self.assertIn("nobody can take Dilek's Night on Mon 30 Nov: each swap would break a hard rule, ", self.does("swap", "Dilek", "Mon"))
+        self.assertEqual(
+            self.does("swap", "Grace", "Mon"),
+            f"nobody can take Grace's Day on Mon 30 Nov: {fixed}\n",
+        )
+        self.assertIn(
+            "nobody can take Dilek's Night on Mon 30 Nov: each swap would break a hard rule, ",
+            self.does("swap", "Dilek", "Mon"),
+        )
         self.rows["plan"][7][1] = ""
         self.write()
         self.assertIn("who could take Grace's Day on Mon 30 Nov", self.does("swap", "Grace", "Mon"))
@@ -122,7 +168,10 @@ class Words(KeptTest):
             self.write()
             away = self.read()
             self.assertEqual(part_lines(begun, away, "Grace"), says)
-            self.assertEqual(part_lines(away, begun, "Grace"), ["Grace: contract Full counts as a whole again."] * bool(says))
+            self.assertEqual(
+                part_lines(away, begun, "Grace"),
+                ["Grace: contract Full counts as a whole again."] * bool(says),
+            )
             self.assertEqual(part_lines(begun, away, "Chen"), [])
 
     def test_shifts_are_left_for_nobody_who_is_away(self):
@@ -131,9 +180,15 @@ class Words(KeptTest):
         charge = Charge("S2", "work above", "Chen", 30, days=(0, 5), number=6, limit=5)
         names = list(week.scenario.nurses)
         for away in (["Grace", "Finn"], []):
-            data = replace(week.data, absences=frozenset(Absence(nurse, day, None) for nurse in away for day in range(6)))
+            data = replace(
+                week.data,
+                absences=frozenset(Absence(nurse, day, None) for nurse in away for day in range(6)),
+            )
             said = limits_way_out(replace(week, data=data), [charge], cells)
-            self.assertEqual([name for name in names if f"{name} (" in said], [name for name in names if name not in ("Chen", *away)])
+            self.assertEqual(
+                [name for name in names if f"{name} (" in said],
+                [name for name in names if name not in ("Chen", *away)],
+            )
 
     def test_changes_that_save_nothing_are_taken_back(self):
         # The roster has nobody too many but Grace on Monday to Friday: without her shifts Day Nurse has fewer than best, or none.
@@ -150,24 +205,35 @@ class Words(KeptTest):
 
     def test_changes_cost_as_much_as_in_a_search(self):
         # Finn works late on Saturday, and Grace is off: her new shift costs 20 points, and 40 to call both, but his day off costs nothing.
-        cells = [cell for cell in self.plan.cells if (cell.nurse, cell.day) != ("Finn", 5)] + [Cell("Grace", 5, "Late", "Nurse")]
+        cells = [cell for cell in self.plan.cells if (cell.nurse, cell.day) != ("Finn", 5)] + [
+            Cell("Grace", 5, "Late", "Nurse")
+        ]
         plan = self.with_wishes(self.plan, ())
         more = plan.with_cells(cells).view().penalty - plan.view().penalty
         for saved, is_taken_back in ((55, True), (65, False)):
             old = self.with_wishes(plan, (Request("Finn", None, 5),) * ((more + saved) // 10))
             new = old.with_cells(cells)
             self.assertEqual(old.view().penalty - new.view().penalty, saved)
-            self.assertEqual(("Finn", 5) in without_needless_changes(old, new).works, is_taken_back, saved)
+            self.assertEqual(
+                ("Finn", 5) in without_needless_changes(old, new).works, is_taken_back, saved
+            )
 
     def test_one_nurse_is_called_in_place_of_two(self):
         # Finn works late on the weekend, Ewa and Grace are off, and Ewa is off on Monday, too.
         self.rows["plan"][6][6:8] = ["ill", "ill"]
         self.write()
         old = self.read()
-        cells = [cell for cell in old.cells if (cell.nurse, cell.day) not in (("Finn", 5), ("Finn", 6))]
-        new = old.with_cells([*cells, Cell("Grace", 5, "Late", "Nurse"), Cell("Ewa", 6, "Late", "Nurse")])
+        cells = [
+            cell for cell in old.cells if (cell.nurse, cell.day) not in (("Finn", 5), ("Finn", 6))
+        ]
+        new = old.with_cells(
+            [*cells, Cell("Grace", 5, "Late", "Nurse"), Cell("Ewa", 6, "Late", "Nurse")]
+        )
         changes = shift_changes(old.cells, without_needless_changes(old, new).cells)
-        self.assertEqual([(one.nurse, one.day) for one in changes], [("Ewa", 5), ("Finn", 5), ("Ewa", 6), ("Finn", 6)])
+        self.assertEqual(
+            [(one.nurse, one.day) for one in changes],
+            [("Ewa", 5), ("Finn", 5), ("Ewa", 6), ("Finn", 6)],
+        )
         self.assertEqual(call_lines(changes, old.away), ["1 nurse to call: Ewa"])
 
     def test_training_between_days_of_work_is_told(self):
@@ -183,18 +249,27 @@ class Words(KeptTest):
         # Dilek has worked Night on Sunday, and does so on Monday and Tuesday.
         self.rows["plan"][4][1] = self.rows["plan"][4][4] = "leave"
         self.write()
-        nurse, night = next((cell.nurse, cell.day) for cell in self.plan.cells if cell.shift == "Night" and cell.day < 13)
+        nurse, night = next(
+            (cell.nurse, cell.day)
+            for cell in self.plan.cells
+            if cell.shift == "Night" and cell.day < 13
+        )
         row = next(row for row in self.rows["plan"] if row[0] == nurse)
         row[night + 2] = "training"
         self.write()
         says = f"{nurse} works Night on {BARE_DATES[night]}, and has training on {BARE_DATES[night + 1]}"
         printed = run("plan", self.ward, "check")[1]
         self.assertIn(f"warning: {says}\n", printed)
-        self.assertIn("warning: Dilek works Night on the Sunday before, and has leave on Mon 30 Nov\n", printed)
+        self.assertIn(
+            "warning: Dilek works Night on the Sunday before, and has leave on Mon 30 Nov\n",
+            printed,
+        )
         plan = self.read()
         # The page has the line, but not the one for the wall.
         self.assertIn(f"<p>{says}</p>", page_text(pages.roster_content(self.ward, plan)))
-        self.assertNotIn(says, page_text(replace(pages.roster_content(self.ward, plan), only_table=True)))
+        self.assertNotIn(
+            says, page_text(replace(pages.roster_content(self.ward, plan), only_table=True))
+        )
 
     def test_days_away_that_count_as_days_off_are_told(self):
         # Grace is off on both weekends. Her contract has at most four days off in a row; she has leave on the three days after the first one.
@@ -202,31 +277,51 @@ class Words(KeptTest):
         self.rows["plan"][7][8:11] = ["leave"] * 3
         self.write()
         plan = self.read()
-        plan = plan.with_cells(cell for cell in plan.cells if cell.nurse != "Grace" or cell.day not in (7, 8, 9))
+        plan = plan.with_cells(
+            cell for cell in plan.cells if cell.nurse != "Grace" or cell.day not in (7, 8, 9)
+        )
         says = "Mon 7 Dec to Wed 9 Dec: 5 days off in a row (2 before Mon 7 Dec), at most 4: her days away (leave) count as days off"
         # Then she works two days in a row, of three at least.
         short = "Thu 10 Dec to Fri 11 Dec: only 2 days with work in a row, at least 3: the days in a row end at her days away (leave)"
         due = "60 of the points are due to days away"
-        self.assertEqual(due_lines(plan), [f"30 points: Grace, {short}", f"30 points: Grace, {says}", due])
+        self.assertEqual(
+            due_lines(plan), [f"30 points: Grace, {short}", f"30 points: Grace, {says}", due]
+        )
         self.assertEqual(due_lines(self.plan), [])
 
-    def test_the_limit_of_a_nurse_who_leaves_is_told_and_keeps_her_shifts_of_days_before_a_search(self):
+    def test_the_limit_of_a_nurse_who_leaves_is_told_and_keeps_her_shifts_of_days_before_a_search(
+        self,
+    ):
         # Grace has five shifts from Monday to Friday. Her limit is that of the part of the plan before she leaves, rounded up.
         self.rows["contracts"][1][1:3] = ["0", "8!"]
         for first, most in ((8, 4), (6, 3), (3, 2)):
             self.rows["plan"][7][1:] = [""] * (first - 1) + ["away"] * (15 - first)
             self.write()
             plan = self.read()
-            gone = plan.with_cells(cell for cell in plan.cells if cell.nurse != "Grace" or cell.day < first - 1)
+            gone = plan.with_cells(
+                cell for cell in plan.cells if cell.nurse != "Grace" or cell.day < first - 1
+            )
             shifts = min(first - 1, 5)
             for day, above in ((0, 0), (3, max(0, 3 - most)), (first - 1, shifts - most)):
                 limits = limits_for_leavers(gone.ward, gone.state, gone.limits, day)
-                limit = next(fact.most for fact, _ in limits if isinstance(fact, Charged) and fact.nurse == "Grace")
+                limit = next(
+                    fact.most
+                    for fact, _ in limits
+                    if isinstance(fact, Charged) and fact.nurse == "Grace"
+                )
                 self.assertEqual(limit, min(above, max(0, shifts - most)), (first, day))
-            says = [line for line in unkept_lines(gone, unkept(gone)) if f"Grace has {shifts} shifts of at most {most}" in line]
+            says = [
+                line
+                for line in unkept_lines(gone, unkept(gone))
+                if f"Grace has {shifts} shifts of at most {most}" in line
+            ]
             self.assertEqual(bool(says), shifts > most, first)
-            allowed = replace(gone, limits=limits_for_leavers(gone.ward, gone.state, gone.limits, first - 1))
-            self.assertFalse([line for line in unkept_lines(allowed, unkept(allowed)) if "Grace has" in line])
+            allowed = replace(
+                gone, limits=limits_for_leavers(gone.ward, gone.state, gone.limits, first - 1)
+            )
+            self.assertFalse(
+                [line for line in unkept_lines(allowed, unkept(allowed)) if "Grace has" in line]
+            )
 
     @unittest.skipUnless(HAS_CBC, "cbc is not installed")
     def test_who_leaves_with_too_many_shifts_is_named_and_an_earlier_day_takes_one(self):
@@ -234,7 +329,9 @@ class Words(KeptTest):
         self.write()
         status, out, _ = self.runs("away", "Grace", "Sat", "Sun", "2")
         self.assertIn("Grace has 5 shifts of at most 3, above on Thu 3 Dec and Fri 4 Dec", out)
-        self.assertIn("shifts before Sat 5 Dec stay: plan from an earlier day can take some of them away", out)
+        self.assertIn(
+            "shifts before Sat 5 Dec stay: plan from an earlier day can take some of them away", out
+        )
         self.assertEqual(status, 6)
         # The page with costs says it also later, and that for the wall does not.
         self.does("page")
@@ -254,10 +351,17 @@ class Words(KeptTest):
         fewer = [one for one in cells if (one.nurse, one.day) != ("Grace", 0)]
         for rosters, most in ((cells, 2), (fewer, 1), ([*cells, more], 2), ([], 0)):
             plan = self.read(rosters)
-            limit = next(fact.most for fact, _ in plan.limits if isinstance(fact, Charged) and fact.nurse == "Grace")
+            limit = next(
+                fact.most
+                for fact, _ in plan.limits
+                if isinstance(fact, Charged) and fact.nurse == "Grace"
+            )
             self.assertEqual(limit, most)
             # Only an eleventh shift is above the limit.
-            self.assertEqual(bool([line for line in unkept_lines(plan, unkept(plan)) if "Grace has" in line]), more in rosters)
+            self.assertEqual(
+                bool([line for line in unkept_lines(plan, unkept(plan)) if "Grace has" in line]),
+                more in rosters,
+            )
 
     def test_days_off_beside_days_away_cost_more(self):
         # Grace is off on both weekends, and ill on Friday: her weekend costs more, and days on which she is always off do not count.
@@ -265,33 +369,66 @@ class Words(KeptTest):
         self.write()
         plan = self.read()
         self.assertEqual(days_off_beside_absences(plan), {("Grace", 5)})
-        asked = with_few_changes(plan.scenario, replace(plan.data[0], requests=()), [], [5], beside=[("Grace", 5), ("Grace", 6)])
-        self.assertEqual({nurse: asked.requests.count(Request(nurse, None, 5)) for nurse in ("Ewa", "Grace")}, {"Ewa": 2, "Grace": 8})
+        asked = with_few_changes(
+            plan.scenario,
+            replace(plan.data[0], requests=()),
+            [],
+            [5],
+            beside=[("Grace", 5), ("Grace", 6)],
+        )
+        self.assertEqual(
+            {nurse: asked.requests.count(Request(nurse, None, 5)) for nurse in ("Ewa", "Grace")},
+            {"Ewa": 2, "Grace": 8},
+        )
         # A nurse who is back earlier can be called.
         back = plan.with_state(replace(plan.state, absences=(DayWord("Grace", 5, "back"),)))
         self.assertEqual(days_off_beside_absences(back), set())
 
     def test_a_swap_is_marked_but_not_on_the_wall(self):
-        plan = self.plan.with_state(replace(self.plan.state, agreed=(NurseDay("Grace", 7), NurseDay("Chen", 7))))
+        plan = self.plan.with_state(
+            replace(self.plan.state, agreed=(NurseDay("Grace", 7), NurseDay("Chen", 7)))
+        )
         content = pages.roster_content(self.ward, plan)
         table = ElementTree.fromstring(page_text(content).partition("\n")[2])
         marked = {row[0].text: [cell for cell, part in enumerate(row) if "a swap that was written" in "".join(part.itertext())]
                   for row in next(table.iter("table")).iter("tr") if len(row)}  # fmt: skip
-        self.assertEqual({nurse: cells for nurse, cells in marked.items() if cells}, {"Grace": [8], "Chen": [8]})
+        self.assertEqual(
+            {nurse: cells for nurse, cells in marked.items() if cells}, {"Grace": [8], "Chen": [8]}
+        )
         self.assertIn("<li>\u21c4 = a swap that was written</li>", page_text(content))
-        self.assertNotIn("\u21c4", page_text(replace(content, only_table=True)) + page_text(pages.roster_content(self.ward, self.plan)))
+        self.assertNotIn(
+            "\u21c4",
+            page_text(replace(content, only_table=True))
+            + page_text(pages.roster_content(self.ward, self.plan)),
+        )
 
     def test_agreed_days_cost_much(self):
         old = [Cell("Chen", 4, "Late", "Nurse")]
-        asked = with_few_changes(self.plan.scenario, replace(self.plan.data[0], requests=()), old, [], agreed=[("Chen", 4), ("Grace", 4)])
+        asked = with_few_changes(
+            self.plan.scenario,
+            replace(self.plan.data[0], requests=()),
+            old,
+            [],
+            agreed=[("Chen", 4), ("Grace", 4)],
+        )
         counts = {request: asked.requests.count(request) for request in asked.requests}
-        wanted = {Request("Chen", "Day", 4): 25, Request("Chen", "Night", 4): 25, Request("Grace", None, 4): 25}
+        wanted = {
+            Request("Chen", "Day", 4): 25,
+            Request("Chen", "Night", 4): 25,
+            Request("Grace", None, 4): 25,
+        }
         self.assertEqual(counts, wanted)
 
     def test_the_file_of_a_plan(self):
-        days = (DayWord("Chen", 4, "ill"), DayWord("Zoë_B", 13, "back")), (NurseDay("Chen", 4), NurseDay("Ida_B", 11))
+        days = (DayWord("Chen", 4, "ill"), DayWord("Zoë_B", 13, "back")), (
+            NurseDay("Chen", 4),
+            NurseDay("Ida_B", 11),
+        )
         time = datetime.datetime(2026, 11, 28, 12, 0)
-        for record in (Record("swap Chen Zoë_B 4", time, BARE, 1, True, *days), Record("over period", time, PlanDays(MONDAY, 0))):
+        for record in (
+            Record("swap Chen Zoë_B 4", time, BARE, 1, True, *days),
+            Record("over period", time, PlanDays(MONDAY, 0)),
+        ):
             folder = self.folder / "kept"
             folder.mkdir(exist_ok=True)
             (folder / "plan.json").write_text(record_text(record))
@@ -301,13 +438,18 @@ class Words(KeptTest):
 class Weeks(KeptTest):
     def test_a_week_after_which_the_plan_breaks_a_rule(self):
         printed = self.does("over", "Bruno", "Sun", "Night,", "Finn", "Fri", "off,")
-        cure = "after these corrections the plan does not fit any more: plan again, from Mon 7 Dec on"
+        cure = (
+            "after these corrections the plan does not fit any more: plan again, from Mon 7 Dec on"
+        )
         self.assertIn(
             "week 2 (calendar week 50), not allowed on the day after: Bruno may not work Day on Mon after Night on the Sunday before\n",
             printed,
         )
         self.assertIn(f"{cure}\n", printed)
-        self.assertIn("week 1 (calendar week 49), below the minimum number: Fri Late Nurse has 0 nurses and needs at least 1\n", printed)
+        self.assertIn(
+            "week 1 (calendar week 49), below the minimum number: Fri Late Nurse has 0 nurses and needs at least 1\n",
+            printed,
+        )
         self.assertIn("if it was not worked so: undo, then over with other corrections", printed)
         self.assertNotIn("to call", printed)
         cells = files.read_solution(self.last() / "roster-0.txt").cells
@@ -319,16 +461,23 @@ class Weeks(KeptTest):
         self.write()
         printed = run("plan", self.ward, "check")[1]
         for week in ("week 1 (calendar week 49)", "week 2 (calendar week 50)"):
-            self.assertIn(f"{week}: below the minimum number: Fri Late Nurse has 1 nurse and needs at least 2\n", printed)
+            self.assertIn(
+                f"{week}: below the minimum number: Fri Late Nurse has 1 nurse and needs at least 2\n",
+                printed,
+            )
 
     def test_a_week_after_which_a_limit_is_exceeded(self):
         # Grace works from Monday to Friday, and so she does in the week before.
         self.rows["contracts"][1][4] = "5!"
         self.write()
         printed = self.does("over", "Grace", "Sat", "Day", "Grace", "Sun", "Day", "--do")
-        self.assertIn("week 1 (calendar week 49) exceeds a limit that holds: Grace has 7 days of work in a row", printed)
         self.assertIn(
-            "week 2 (calendar week 50) exceeds a limit that holds: Grace has 12 days of work in a row, to Fri 11 Dec, of at most 5", printed
+            "week 1 (calendar week 49) exceeds a limit that holds: Grace has 7 days of work in a row",
+            printed,
+        )
+        self.assertIn(
+            "week 2 (calendar week 50) exceeds a limit that holds: Grace has 12 days of work in a row, to Fri 11 Dec, of at most 5",
+            printed,
         )
         self.assertIn("plan again, from Mon 7 Dec on", printed)
 
@@ -343,12 +492,17 @@ class Weeks(KeptTest):
         marked = [text for text in words if "as on a bank holiday" in text]
         self.assertEqual([(text[:3], text[-6:]) for text in marked], [("Fri", "11 Dec")])
         self.assertIn("week 2, calendar week 50", words)
-        self.assertRegex("".join(next(page.iter("p")).itertext()), "^weeks 1 to 2: 7 nurses, 66 shifts; as of [A-Z][a-z]+day, [0-9]+ ")
+        self.assertRegex(
+            "".join(next(page.iter("p")).itertext()),
+            "^weeks 1 to 2: 7 nurses, 66 shifts; as of [A-Z][a-z]+day, [0-9]+ ",
+        )
         finn = next(row for row in page.iter("tr") if "".join(row[0].itertext()) == "Finn")
         # A day on which she never works is off, and not away.
         self.assertEqual("".join(finn[3].itertext()), "")
         # In both weeks five late shifts of eight and a half hours, and one weekend; a wish is granted.
-        self.assertEqual(["".join(cell.itertext()) for cell in finn[-5:]], ["10", "85", "0", "2", "1/1"])
+        self.assertEqual(
+            ["".join(cell.itertext()) for cell in finn[-5:]], ["10", "85", "0", "2", "1/1"]
+        )
 
     def test_a_wall_that_is_undone(self):
         self.does("page")
@@ -362,10 +516,15 @@ class Weeks(KeptTest):
         wall = (self.ward / "wall.html").read_text().split("<table")[1:]
         self.does("page")
         printed = self.does("undo")
-        self.assertRegex(printed, "^undone: page, [0-9: -]+\nthe plan of over, [0-9: -]+ holds again, with the same shifts\n")
+        self.assertRegex(
+            printed,
+            "^undone: page, [0-9: -]+\nthe plan of over, [0-9: -]+ holds again, with the same shifts\n",
+        )
         self.assertEqual(self.cells(), cells)
         self.assertEqual((self.ward / "wall.html").read_text().split("<table")[1:], wall)
-        self.assertRegex(self.does("undo"), "^undone: over, [0-9: -]+\nthe plan of page, [0-9: -]+ holds again\n")
+        self.assertRegex(
+            self.does("undo"), "^undone: over, [0-9: -]+\nthe plan of page, [0-9: -]+ holds again\n"
+        )
 
     def test_undo_writes_no_page_of_a_plan_that_has_other_names(self):
         self.does("page")
@@ -375,7 +534,8 @@ class Weeks(KeptTest):
         self.assertTrue((self.ward / "wall.html").exists())
         printed = self.does("undo")
         self.assertIn(
-            "its pages are not written: the plan has 'Grcae Mon Day Nurse', and the spreadsheet has not all of these names", printed
+            "its pages are not written: the plan has 'Grcae Mon Day Nurse', and the spreadsheet has not all of these names",
+            printed,
         )
         # The pages of the plan that was undone are not left.
         self.assertEqual(list(self.ward.glob("*.html")), [])
@@ -384,7 +544,10 @@ class Weeks(KeptTest):
         self.does("over", "Finn", "Fri", "off")
         page = ElementTree.parse(self.ward / "worked-2026-11-30.html")
         finn = next(row for row in page.iter("tr") if "".join(row[0].itertext()) == "Finn")
-        self.assertEqual(["".join(cell.itertext()) for cell in finn[1:8]], ["Late Nurse"] * 2 + [""] * 3 + ["Late Nurse"] * 2)
+        self.assertEqual(
+            ["".join(cell.itertext()) for cell in finn[1:8]],
+            ["Late Nurse"] * 2 + [""] * 3 + ["Late Nurse"] * 2,
+        )
 
         # Late Nurse has nobody on Friday, so the week has no cost.
         text = "".join(page.getroot().itertext())
@@ -392,15 +555,23 @@ class Weeks(KeptTest):
         self.assertNotIn("Nothing is charged", text)
         self.does("over")
         text = (self.ward / "worked-2026-11-30.html").read_text()
-        self.assertIn("<p>Week 1 (calendar week 49) has no cost, since it breaks rule H2: the sums on this page are without it.</p>", text)
+        self.assertIn(
+            "<p>Week 1 (calendar week 49) has no cost, since it breaks rule H2: the sums on this page are without it.</p>",
+            text,
+        )
         self.assertNotIn("Week 2 (calendar week 50) has no cost", text)
 
     def test_a_correction_with_its_skill(self):
         self.does("over", "Amara", "Thu", "Day/Nurse")
-        self.assertIn(Cell("Amara", 3, "Day", "Nurse"), files.read_solution(self.last() / "roster-0.txt").cells)
+        self.assertIn(
+            Cell("Amara", 3, "Day", "Nurse"),
+            files.read_solution(self.last() / "roster-0.txt").cells,
+        )
         self.does("undo")
         status, _, said = run("plan", self.ward, "over", "Grace", "Thu", "Day/Charge")
-        self.assertEqual((status, said), (1, "inrc2pb-plan: 'Charge' is no skill of hers: write one of Nurse\n"))
+        self.assertEqual(
+            (status, said), (1, "inrc2pb-plan: 'Charge' is no skill of hers: write one of Nurse\n")
+        )
 
 
 @unittest.skipUnless(HAS_CBC, "cbc is not installed")
@@ -416,9 +587,12 @@ class NotKept(KeptTest):
             "(?m)^week 2 \\(calendar week 50\\): no plan was found that keeps every limit: .* has [0-9]+ shifts of at most 2, above on ",
         )
         self.assertRegex(
-            printed, "(?m)^week 2 \\(calendar week 50\\): lower minimum numbers, hold fewer shifts, or allow these nurses more; "
+            printed,
+            "(?m)^week 2 \\(calendar week 50\\): lower minimum numbers, hold fewer shifts, or allow these nurses more; ",
         )
-        self.assertIn("\nthis plan is written, but it does not keep what the first lines say: ", printed)
+        self.assertIn(
+            "\nthis plan is written, but it does not keep what the first lines say: ", printed
+        )
         self.assertNotIn("costs less", printed)
 
 
@@ -433,7 +607,9 @@ class Training(KeptTest):
         printed = self.does("plan")
         self.assertNotIn("with work or training", printed)
         row = [day in range(5, 8) or ("Grace", day) in self.cells() for day in range(14)]
-        self.assertLessEqual(max(len(run) for run in "".join(".x"[is_on] for is_on in row).split(".")), 5)
+        self.assertLessEqual(
+            max(len(run) for run in "".join(".x"[is_on] for is_on in row).split(".")), 5
+        )
 
     def test_the_bound_in_words(self):
         search = mock.Mock(penalty=1170)
@@ -445,16 +621,31 @@ class Training(KeptTest):
             (1080, PROVER, None, f"{proved} {ends}"),
             (1080, PROVER, 1080, f"{proved} {ends}"),
             (1080, PLAIN, None, f"{least} (not proved). {ends}"),
-            (1170, PROVER, None, f"This plan costs 1170 points, and no {kept} costs less (proved by inrc2pb-bound)."),
-            (1080, PROVER, 1100, f"{proved} At least 1100 cannot be avoided by a {beside} (not proved). {ends}"),
+            (
+                1170,
+                PROVER,
+                None,
+                f"This plan costs 1170 points, and no {kept} costs less (proved by inrc2pb-bound).",
+            ),
+            (
+                1080,
+                PROVER,
+                1100,
+                f"{proved} At least 1100 cannot be avoided by a {beside} (not proved). {ends}",
+            ),
             (1080, PROVER, 1170, f"{proved} No {beside}, costs less (not proved)."),
         ):
             search.bound, search.bound_beside = Bound(points, by, "absences and limits"), above
             self.assertEqual(bound_text(known_bound(search)), says)
         search.bound, search.bound_beside = Bound(1170, PROVER), None
-        self.assertEqual(bound_text(known_bound(search)), "This plan costs 1170 points, and no plan costs less (proved by inrc2pb-bound).")
+        self.assertEqual(
+            bound_text(known_bound(search)),
+            "This plan costs 1170 points, and no plan costs less (proved by inrc2pb-bound).",
+        )
         search.bound = None
-        self.assertEqual(bound_text(known_bound(search)), "how much less another plan can cost is not known")
+        self.assertEqual(
+            bound_text(known_bound(search)), "how much less another plan can cost is not known"
+        )
 
     def test_what_no_plan_can_keep_is_told(self):
         # Only Dilek works nights, one is needed on Monday, and she has training on Tuesday.
@@ -480,7 +671,10 @@ class Agreed(KeptTest):
     def test_an_absence_that_lifts_a_held_shift(self):
         self.rows["plan"][1][8] = "Day/Charge"
         self.write()
-        self.assertIn("Amara, Mon 7 Dec: leave lifts Day, which the spreadsheet holds\n", self.does("leave", "Amara", "Mon 2"))
+        self.assertIn(
+            "Amara, Mon 7 Dec: leave lifts Day, which the spreadsheet holds\n",
+            self.does("leave", "Amara", "Mon 2"),
+        )
 
     def test_later_verbs_keep_a_swap(self):
         self.assertEqual(self.agreed(), self.days)
@@ -500,23 +694,35 @@ class Agreed(KeptTest):
             (("Chen", "Mon", "Grace"), tuesday),
         ):
             printed = self.does("swap", *words, "--do")
-            self.assertEqual((says in printed, "later plans keep this swap\n" in printed), (agreed == tuesday, agreed != tuesday))
+            self.assertEqual(
+                (says in printed, "later plans keep this swap\n" in printed),
+                (agreed == tuesday, agreed != tuesday),
+            )
             self.assertEqual(self.agreed(), agreed)
             self.assertEqual(self.cells() == swapped, agreed != tuesday)
         # After swaps with another nurse theirs gives them other shifts than they had before it.
-        for words in (("Grace", "Mon", "Chen"), ("Grace", "Mon", "Bruno"), ("Bruno", "Mon", "Chen"), ("Grace", "Mon", "Chen")):
+        for words in (
+            ("Grace", "Mon", "Chen"),
+            ("Grace", "Mon", "Bruno"),
+            ("Bruno", "Mon", "Chen"),
+            ("Grace", "Mon", "Chen"),
+        ):
             self.assertIn("later plans keep this swap\n", self.does("swap", *words, "--do"))
 
     def test_an_older_swap_holds_again(self):
         # Grace has agreed on Monday with Chen, and then with Bruno.
         self.does("swap", "Grace", "Mon", "Bruno", "--do")
         self.assertEqual(self.agreed(), {*self.days, ("Bruno", 0)})
-        self.assertIn("this takes their swap back", self.does("swap", "Grace", "Mon", "Bruno", "--do"))
+        self.assertIn(
+            "this takes their swap back", self.does("swap", "Grace", "Mon", "Bruno", "--do")
+        )
         self.assertEqual(self.agreed(), self.days)
 
     def test_a_swap_that_cannot_be_kept_is_named(self):
         printed = self.does("ill", "Chen", "Mon")
-        self.assertIn("this breaks an agreed swap: Chen, Mon 30 Nov: ill, agreed was Day Nurse\n", printed)
+        self.assertIn(
+            "this breaks an agreed swap: Chen, Mon 30 Nov: ill, agreed was Day Nurse\n", printed
+        )
         self.assertEqual(self.agreed(), {("Grace", 0)})
 
     def test_a_second_search_may_break_a_swap_that_no_plan_keeps(self):
@@ -528,8 +734,13 @@ class Agreed(KeptTest):
         self.write()
         status, printed, said = self.runs("plan")
         self.assertEqual(status, 0, said)
-        self.assertIn("no plan was found that keeps all agreed swaps: a search for one that may break them\n", said)
-        self.assertIn("this breaks an agreed swap: Grace, Mon 30 Nov: Night Nurse, agreed was off\n", printed)
+        self.assertIn(
+            "no plan was found that keeps all agreed swaps: a search for one that may break them\n",
+            said,
+        )
+        self.assertIn(
+            "this breaks an agreed swap: Grace, Mon 30 Nov: Night Nurse, agreed was off\n", printed
+        )
 
 
 if __name__ == "__main__":

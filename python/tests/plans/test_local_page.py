@@ -83,14 +83,25 @@ class Page(ServedPage):
         post = f"POST {self.site.path} HTTP/1.0\r\nHost: {self.site.netloc}\r\n"
         length = f"Content-Length: {len(form)}\r\n"
         for status, head in (
-            ("403", f"GET {self.site.path} HTTP/1.0\r\nHost: {self.site.netloc}\r\nHost: evil.example\r\n"),
+            (
+                "403",
+                f"GET {self.site.path} HTTP/1.0\r\nHost: {self.site.netloc}\r\nHost: evil.example\r\n",
+            ),
             ("403", f"{post}{length}Sec-Fetch-Site: cross-site\r\n"),
-            ("403", f"{post}{length}Origin: http://{self.site.netloc}\r\nOrigin: http://evil.example\r\n"),
+            (
+                "403",
+                f"{post}{length}Origin: http://{self.site.netloc}\r\nOrigin: http://evil.example\r\n",
+            ),
             ("400", f"{post}{length}Content-Length: 5\r\n"),
             ("400", f"{post}{length}Transfer-Encoding: chunked\r\n"),
-            ("303", f"{post}{length}Sec-Fetch-Site: same-origin\r\nOrigin: http://{self.site.netloc}\r\n"),
+            (
+                "303",
+                f"{post}{length}Sec-Fetch-Site: same-origin\r\nOrigin: http://{self.site.netloc}\r\n",
+            ),
         ):
-            with self.subTest(head), socket.create_connection((self.site.hostname, self.site.port)) as browser:
+            with self.subTest(head), socket.create_connection(
+                (self.site.hostname, self.site.port)
+            ) as browser:
                 browser.sendall(f"{head}\r\n{form}".encode())
                 self.assertEqual(browser.makefile("rb").readline().split()[1].decode(), status)
 
@@ -99,8 +110,13 @@ class Page(ServedPage):
         threads = threading.active_count()
         with socket.create_connection((self.site.hostname, self.site.port)) as browser:
             browser.setsockopt(socket.SOL_SOCKET, socket.SO_LINGER, struct.pack("ii", 1, 0))
-            browser.sendall(f"GET {self.site.path} HTTP/1.1\r\nHost: {self.site.netloc}\r\n\r\n".encode())
-            self.waits_for(lambda: threading.active_count() != threads or select.select([browser], [], [], 0)[0])
+            browser.sendall(
+                f"GET {self.site.path} HTTP/1.1\r\nHost: {self.site.netloc}\r\n\r\n".encode()
+            )
+            self.waits_for(
+                lambda: threading.active_count() != threads
+                or select.select([browser], [], [], 0)[0]
+            )
         # A thread of an earlier request may have ended too.
         self.waits_for(lambda: threading.active_count() <= threads)
         self.assertEqual(self.asks()[0], 200)
@@ -120,10 +136,25 @@ class Page(ServedPage):
         self.write_plan()
         for says, fields in (
             ("a nurse is missing", {"verb": "away", "reason": "ill"}),
-            ("is no nurse: ", {"verb": "away", "reason": "ill", "nurse": "<script>", "first": "2026-12-04"}),
-            ("is before Fri 4 Dec", {"verb": "away", "reason": "ill", "nurse": "Chen", "first": "2026-12-04", "last": "2026-12-02"}),
+            (
+                "is no nurse: ",
+                {"verb": "away", "reason": "ill", "nurse": "<script>", "first": "2026-12-04"},
+            ),
+            (
+                "is before Fri 4 Dec",
+                {
+                    "verb": "away",
+                    "reason": "ill",
+                    "nurse": "Chen",
+                    "first": "2026-12-04",
+                    "last": "2026-12-02",
+                },
+            ),
             ("a shift type is missing", {"verb": "over", "corrections": "Chen Fri"}),
-            ("a swap that is written is of two nurses", {"verb": "swap", "nurse": "Grace", "first": "2026-12-04", "write_it": "yes"}),
+            (
+                "a swap that is written is of two nurses",
+                {"verb": "swap", "nurse": "Grace", "first": "2026-12-04", "write_it": "yes"},
+            ),
         ):
             with self.subTest(fields):
                 self.assert_refused(says, fields)
@@ -131,7 +162,9 @@ class Page(ServedPage):
 
     def assert_refused(self, says, fields):
         """The page says this as a fault."""
-        self.assertRegex(self.sends(**fields), '<pre role="alert" class="fault">[^<]*' + re.escape(says))
+        self.assertRegex(
+            self.sends(**fields), '<pre role="alert" class="fault">[^<]*' + re.escape(says)
+        )
 
     def test_a_fault_of_the_spreadsheet(self):
         self.write_plan()
@@ -144,7 +177,9 @@ class Page(ServedPage):
         # The forms that need no plan stay: the spreadsheet is read again, and the last verb undone.
         self.assertRegex(page, '<pre role="alert" class="fault">[^<]*' + re.escape(says))
         self.assertEqual(re.findall('name="verb" value="([a-z]+)"', page), ["check", "undo"])
-        self.assertIn(f'href="{self.site.path}roster.html">The roster as it was last written</a>', page)
+        self.assertIn(
+            f'href="{self.site.path}roster.html">The roster as it was last written</a>', page
+        )
         self.assertIn("<table", self.asks(path=f"{self.site.path}roster.html")[1])
         self.assertIn(says, self.sends(verb="check"))
         self.sends(verb="undo")
@@ -153,12 +188,16 @@ class Page(ServedPage):
         self.rows["plan"][1][1] = "wish"
         self.write()
         page = self.sends(verb="check")
-        self.assertTrue("Would rather be off: Amara on Mon 30 Nov and Wed 9 Dec; " in page and 'class="fault"' not in page)
+        self.assertTrue(
+            "Would rather be off: Amara on Mon 30 Nov and Wed 9 Dec; " in page
+            and 'class="fault"' not in page
+        )
 
     def test_a_long_text_begins_with_what_a_planner_looks_for(self):
         page = self.sends(verb="check")
         shown, folded = re.search(
-            r'<pre role="status">([^<]*)</pre>\s*<details><summary>More</summary>\s*<pre>([^<]*)</pre>', page
+            r'<pre role="status">([^<]*)</pre>\s*<details><summary>More</summary>\s*<pre>([^<]*)</pre>',
+            page,
         ).groups()
         self.assertTrue("No mistake found." in shown or "warning: " in shown)
         self.assertTrue("7 nurses" in shown and "Would rather be off: " in folded, (shown, folded))
@@ -183,16 +222,30 @@ class Page(ServedPage):
     def test_the_question_of_a_swap_has_what_it_costs(self):
         self.write_plan()
         nurse, day = next(key for key in sorted(self.cells()) if key[1] >= 7)
-        form = re.search("<form[^>]*>(?:(?!</form>).)* takes it.*?</form>", self.asks(path=f"{self.site.path}?nurse={nurse}&day={day}")[1])[
-            0
-        ]
+        form = re.search(
+            "<form[^>]*>(?:(?!</form>).)* takes it.*?</form>",
+            self.asks(path=f"{self.site.path}?nurse={nurse}&day={day}")[1],
+        )[0]
         other = re.search('name="other" value="([^"]*)"', form)[1]
         words = re.search('name="other day" value="([^"]*)"', form)
-        fields = {"nurse": nurse, "first": DATES[day], "other": other, **({"other day": words[1]} if words else {})}
-        says = run("plan", self.ward, "swap", *fields.values())[1].split("nothing is written")[0].splitlines()
-        page = html.unescape(self.asks("POST", form=urlencode({"verb": "swap", **fields, "write it": "yes"}))[1])
+        fields = {
+            "nurse": nurse,
+            "first": DATES[day],
+            "other": other,
+            **({"other day": words[1]} if words else {}),
+        }
+        says = (
+            run("plan", self.ward, "swap", *fields.values())[1]
+            .split("nothing is written")[0]
+            .splitlines()
+        )
+        page = html.unescape(
+            self.asks("POST", form=urlencode({"verb": "swap", **fields, "write it": "yes"}))[1]
+        )
         self.assertIn("Yes, write it", page)
-        days = [DATED.text(DATED.number(day, 0)) for day in (DATES[day], *([words[1]] if words else []))]
+        days = [
+            DATED.text(DATED.number(day, 0)) for day in (DATES[day], *([words[1]] if words else []))
+        ]
         self.assertIn(f"<h2>Write this swap: {nurse} and {other}, {' and '.join(days)}?</h2>", page)
         self.assertIn(f"<pre>{chr(10).join(says)}</pre>", page)
         self.assertTrue(any(" to call: " in line for line in says))
@@ -201,29 +254,45 @@ class Page(ServedPage):
     def test_what_is_wrong_is_said_before_the_question(self):
         self.write_plan()
         for fields, says in (
-            ("verb=away&nurse=Chen&first=2026-12-04&last=2026-12-02&reason=ill", "Wed 2 Dec is before Fri 4 Dec"),
+            (
+                "verb=away&nurse=Chen&first=2026-12-04&last=2026-12-02&reason=ill",
+                "Wed 2 Dec is before Fri 4 Dec",
+            ),
             ("verb=back&nurse=Chen&first=2026-12-04", "Chen is not away on Fri 4 Dec"),
             ("verb=over&corrections=Chen+Fri", "a shift type is missing"),
             ("verb=plan&seconds=0", "&#x27;0&#x27; is no number of seconds from 1 to 3600"),
-            ("verb=swap&nurse=Finn&first=2026-11-30&other=Finn&write+it=yes", "Finn cannot swap with herself"),
+            (
+                "verb=swap&nurse=Finn&first=2026-11-30&other=Finn&write+it=yes",
+                "Finn cannot swap with herself",
+            ),
             # Dilek works Night on Monday, which Finn never does.
-            ("verb=swap&nurse=Dilek&first=2026-11-30&other=Finn&write+it=yes", "not possible: Finn never works Night"),
+            (
+                "verb=swap&nurse=Dilek&first=2026-11-30&other=Finn&write+it=yes",
+                "not possible: Finn never works Night",
+            ),
         ):
             with self.subTest(fields):
                 self.assertEqual(self.asks("POST", form=fields)[0], 303)
-                self.assertRegex(self.asks()[1], '<pre role="alert" class="fault">[^<]*' + re.escape(says))
+                self.assertRegex(
+                    self.asks()[1], '<pre role="alert" class="fault">[^<]*' + re.escape(says)
+                )
         self.assertEqual(self.asks("POST", form="verb=undo")[0], 200)
         self.sends(verb="undo")
         self.assertEqual(self.asks("POST", form="verb=undo")[0], 303)
         self.assertIn("there is nothing to undo", self.asks()[1])
 
     def test_the_seconds_of_a_search(self):
-        self.assertIn('name="seconds" type="number" min="1" max="3600" placeholder="120"', self.asks()[1])
+        self.assertIn(
+            'name="seconds" type="number" min="1" max="3600" placeholder="120"', self.asks()[1]
+        )
         for seconds, fields in ((120.0, {}), (3.0, {"seconds": "3"})):
             for form, event in (
                 ({"verb": "plan"}, Event("plan", (), seconds)),
                 ({"verb": "back", "nurse": "Chen"}, Event("back", ("Chen",), seconds)),
-                ({"verb": "away", "reason": "ill", "nurse": "Chen"}, Event("ill", ("Chen",), seconds)),
+                (
+                    {"verb": "away", "reason": "ill", "nurse": "Chen"},
+                    Event("ill", ("Chen",), seconds),
+                ),
             ):
                 self.assertEqual(event_of({**form, **fields}, self.jobs.seconds), event)
         self.write_plan()
@@ -232,8 +301,14 @@ class Page(ServedPage):
     def test_the_usual_seconds_of_a_search(self):
         # Twenty for each week of a plan, and thirty for a change.
         plan = self.write_plan()
-        found = {form.verb: re.findall('placeholder="([0-9]+)"', form_markup(form, plan, "/", "")) for form in FORMS}
-        self.assertEqual({verb: seconds for verb, seconds in found.items() if seconds}, {"plan": ["40"], "away": ["30"], "back": ["30"]})
+        found = {
+            form.verb: re.findall('placeholder="([0-9]+)"', form_markup(form, plan, "/", ""))
+            for form in FORMS
+        }
+        self.assertEqual(
+            {verb: seconds for verb, seconds in found.items() if seconds},
+            {"plan": ["40"], "away": ["30"], "back": ["30"]},
+        )
         ended = plan.with_state(replace(plan.state, open_week=1))
         self.assertIn('placeholder="20"', form_markup(FORMS[1], ended, "/", ""))
 
@@ -271,14 +346,21 @@ class Page(ServedPage):
     def test_the_question_of_an_illness_says_who_moves_where(self):
         # Chen has Night on Friday, and somebody has to take it.
         self.write_plan()
-        before, form = self.cells(), "verb=away&nurse=Chen&first=2026-12-04&last=&reason=ill&seconds=120"
+        before, form = (
+            self.cells(),
+            "verb=away&nurse=Chen&first=2026-12-04&last=&reason=ill&seconds=120",
+        )
         self.assertEqual(self.asks("POST", form=form)[0], 303)
         page = html.unescape(self.ended())
-        self.assertIn("<h2>A nurse is away: nurse Chen, day Fri 4 Dec, reason ill, seconds 120?</h2>", page)
+        self.assertIn(
+            "<h2>A nurse is away: nurse Chen, day Fri 4 Dec, reason ill, seconds 120?</h2>", page
+        )
         self.assertIn("Chen, Fri 4 Dec: ill instead of Night Nurse\n", page)
         moved = re.search("([A-Z][a-z]+), Fri 4 Dec: Night Nurse instead of off\n", page)
         self.assertIn(f"to call: {moved[1]}", page)
-        self.assertEqual((page.count("Yes, write it"), self.cells(), "Take it back" in page), (1, before, False))
+        self.assertEqual(
+            (page.count("Yes, write it"), self.cells(), "Take it back" in page), (1, before, False)
+        )
         # Yes writes this plan, without another search.
         with mock.patch.object(verbs, "search_plan", side_effect=AssertionError):
             written = self.asks("POST", form=self.yes(page))[0], self.ended()
@@ -311,9 +393,14 @@ class Page(ServedPage):
 
     def test_the_question_of_undo_names_the_verb(self):
         self.write_plan()
-        self.assertIn("<pre>this takes back: plan, 2026-11-28 12:00</pre>", self.asks("POST", form="verb=undo")[1])
+        self.assertIn(
+            "<pre>this takes back: plan, 2026-11-28 12:00</pre>",
+            self.asks("POST", form="verb=undo")[1],
+        )
         self.sends(verb="over")
-        self.assertRegex(self.asks("POST", form="verb=undo")[1], "<pre>this takes back: over, [0-9: -]+</pre>")
+        self.assertRegex(
+            self.asks("POST", form="verb=undo")[1], "<pre>this takes back: over, [0-9: -]+</pre>"
+        )
 
     def test_a_day_of_leave_that_is_clicked(self):
         self.rows["plan"][3][1] = "leave"
@@ -329,14 +416,38 @@ class Page(ServedPage):
         self.jobs.wait()
         page = self.asks()[1]
         self.assertIn("nothing is written: the button below writes it", page)
-        form = next(form for form in re.findall("<form.*?</form>", page) if "Write this swap" in form)
-        fields = {"nurse": "Grace", "first": "2026-11-30", "other": "Chen", "write it": "yes", "verb": "swap", "stamp": self.stamp}
-        self.assertEqual({name: value for name, value in re.findall('name="([^"]*)" (?:type="[^"]*" )?value="([^"]*)"', form)}, fields)
+        form = next(
+            form for form in re.findall("<form.*?</form>", page) if "Write this swap" in form
+        )
+        fields = {
+            "nurse": "Grace",
+            "first": "2026-11-30",
+            "other": "Chen",
+            "write it": "yes",
+            "verb": "swap",
+            "stamp": self.stamp,
+        }
+        self.assertEqual(
+            {
+                name: value
+                for name, value in re.findall(
+                    'name="([^"]*)" (?:type="[^"]*" )?value="([^"]*)"', form
+                )
+            },
+            fields,
+        )
         # A swap that cannot be has no such button: Finn never works Night.
         cells, nurses = self.cells(), [row[0] for row in self.rows["nurses"][1:]]
-        nurse, day = next(key for key, cell in sorted(cells.items()) if cell[0] == "Night" and ("Finn", key[1]) not in cells)
+        nurse, day = next(
+            key
+            for key, cell in sorted(cells.items())
+            if cell[0] == "Night" and ("Finn", key[1]) not in cells
+        )
         self.assertIn("Finn", nurses)
-        self.asks("POST", form=urlencode({"verb": "swap", "nurse": nurse, "first": DATES[day], "other": "Finn"}))
+        self.asks(
+            "POST",
+            form=urlencode({"verb": "swap", "nurse": nurse, "first": DATES[day], "other": "Finn"}),
+        )
         self.jobs.wait()
         page = self.asks()[1]
         self.assertIn("not possible: Finn never works Night", page)
@@ -345,7 +456,10 @@ class Page(ServedPage):
         for row in self.rows["nurses"][1:]:
             row[3] = "" if row[0] == nurse else "Night"
         self.write()
-        self.assertIn("<p>Nobody can take it: each swap would break ", self.asks(path=f"{self.site.path}?nurse={nurse}&day={day}")[1])
+        self.assertIn(
+            "<p>Nobody can take it: each swap would break ",
+            self.asks(path=f"{self.site.path}?nurse={nurse}&day={day}")[1],
+        )
 
     def test_what_a_newcomer_looks_for(self):
         page = self.asks()[1]
@@ -355,7 +469,10 @@ class Page(ServedPage):
         worked = f"{self.site.path}worked-{DATES[0]}.html"
         self.assertEqual(self.asks(path=worked)[0], 404)
         for _ in range(2):
-            self.assertIn(f'href="{worked}">Weeks that are over, from 30 Nov 2026 on</a>', self.sends(verb="over"))
+            self.assertIn(
+                f'href="{worked}">Weeks that are over, from 30 Nov 2026 on</a>',
+                self.sends(verb="over"),
+            )
             self.assertIn("weeks 1" if _ else "week 1", self.asks(path=worked)[1])
         # The period is over: the page says what to write into the spreadsheet, and undo goes back.
         page = self.asks()[1]
@@ -377,18 +494,28 @@ class Page(ServedPage):
         with open(self.ward / "plans" / "lock", "w") as lock:
             fcntl.flock(lock, fcntl.LOCK_EX)
             self.asks("POST", form="verb=check&sure=yes")
-            self.waits_for(lambda: "another run works in" in (page := self.asks()[1]) and "this one waits" in page)
+            self.waits_for(
+                lambda: "another run works in" in (page := self.asks()[1])
+                and "this one waits" in page
+            )
             self.asks("POST", form="verb=undo&sure=yes")
             fcntl.flock(lock, fcntl.LOCK_UN)
         self.jobs.wait()
-        self.assertIn("another verb was running, so this button did nothing: wait for its end, or stop it", self.asks()[1])
+        self.assertIn(
+            "another verb was running, so this button did nothing: wait for its end, or stop it",
+            self.asks()[1],
+        )
 
     def test_the_points_of_the_plan_are_above_the_roster(self):
         plan = self.write_plan()
         self.assertIn(f'<p class="links">{plan.view().penalty} points. <a ', self.asks()[1])
         # A plan that breaks a hard rule has none: nobody has the first night.
         path = self.last() / "roster-0.txt"
-        path.write_text(path.read_text().replace("Dilek Mon Night Nurse\n", "").replace("ASSIGNMENTS = 33", "ASSIGNMENTS = 32"))
+        path.write_text(
+            path.read_text()
+            .replace("Dilek Mon Night Nurse\n", "")
+            .replace("ASSIGNMENTS = 33", "ASSIGNMENTS = 32")
+        )
         page = self.asks()[1]
         self.assertIn('<p class="links"><a ', page)
         self.assertNotIn(" points. ", page)
@@ -402,13 +529,21 @@ class Page(ServedPage):
         self.assertEqual(self.asks(path=f"{self.site.path}calendars/Chen.ics")[0], 404)
         self.assertIn("There are none yet", self.asks(path=f"{self.site.path}calendars")[1])
         self.sends(verb="page")
-        self.assertIn(f'href="{self.site.path}calendars/Chen.ics"', self.asks(path=f"{self.site.path}calendars")[1])
+        self.assertIn(
+            f'href="{self.site.path}calendars/Chen.ics"',
+            self.asks(path=f"{self.site.path}calendars")[1],
+        )
         status, text = self.asks(path=f"{self.site.path}calendars/Chen.ics")
         self.assertEqual((status, text.split("\r\n")[0]), (200, "BEGIN:VCALENDAR"))
         wall = self.asks(path=f"{self.site.path}wall")[1]
         self.assertEqual((wall.count("<table"), "points" in wall), (1, False))
         (self.ward / "calendars" / "secret.ics").write_text("")
-        for path in ("calendars/secret.ics", "calendars/../plans/lock", "calendars/%2e%2e/plan.csv", "plan.csv"):
+        for path in (
+            "calendars/secret.ics",
+            "calendars/../plans/lock",
+            "calendars/%2e%2e/plan.csv",
+            "plan.csv",
+        ):
             self.assertEqual(self.asks(path=f"{self.site.path}{path}")[0], 404)
 
     @unittest.skipUnless(HAS_CBC, "cbc is not installed")
@@ -424,7 +559,11 @@ class Page(ServedPage):
         cells = self.cells()
         nurse, day = next(key for key in sorted(cells) if key[1] > 7)
         page = self.asks(path=f"{self.site.path}?nurse={nurse}&day={day}")[1]
-        forms = [form for form in re.findall("<form.*?</form>", page) if form.endswith(" takes it</button></form>")]
+        forms = [
+            form
+            for form in re.findall("<form.*?</form>", page)
+            if form.endswith(" takes it</button></form>")
+        ]
         offers = [re.search('name="other" value="([A-Za-z]+)"', form)[1] for form in forms]
         if offers:
             self.sends(verb="swap", nurse=nurse, first=DATES[day], other=offers[0], write_it="yes")

@@ -23,13 +23,19 @@ class NextPeriod(KeptTest):
     def write_next(self, monday):
         """Writes the days of a period of two weeks into the sheet plan, from this Monday on, or without dates."""
         heads = [f"{monday + datetime.timedelta(days=day)}" for day in range(14)] if monday else []
-        heads = heads or [f"{name} {week}" for week in range(2) for name in ("Mon", "Tue", "Wed", "Thu", "Fri", "Sat", "Sun")]
+        heads = heads or [
+            f"{name} {week}"
+            for week in range(2)
+            for name in ("Mon", "Tue", "Wed", "Thu", "Fri", "Sat", "Sun")
+        ]
         self.rows["plan"] = [["nurse", *heads], *([row[0]] for row in self.rows["plan"][1:])]
         self.write()
 
     def plan_next(self):
         """Writes a plan of the period, which has the stored roster in both weeks."""
-        plan = continued(read_sheet(self.ward, None, ()), read_state(self.last())).with_cells(TWO_WEEKS)
+        plan = continued(read_sheet(self.ward, None, ()), read_state(self.last())).with_cells(
+            TWO_WEEKS
+        )
         now = datetime.datetime(2026, 12, 13, 12, 0)
         WardFolder(self.ward).add("plan", plan_texts(plan, plan.state.record("plan", now)), now)
 
@@ -57,7 +63,9 @@ class NextPeriod(KeptTest):
         self.assertEqual(self.linked(), [first])
         self.does("over")
         self.assertEqual(self.linked(), [second, first])
-        self.assertEqual((self.worked(), (self.ward / first).read_bytes()), ([second, first], before))
+        self.assertEqual(
+            (self.worked(), (self.ward / first).read_bytes()), ([second, first], before)
+        )
         self.assertIn("14 Dec to 20 Dec 2026", (self.ward / second).read_text())
         self.does("undo")
         self.assertEqual(self.linked(), [first])
@@ -66,9 +74,18 @@ class NextPeriod(KeptTest):
         # Grace has five shifts in each week, of 8:30 hours, and Chen three nights and a weekend with work.
         self.does("page")
         rows = self.sums("roster.html")
-        self.assertEqual((rows["Grace"], rows["Chen"]), (["10", "85", "0", "0", "1/1"], ["10", "86", "6", "2", "0/1"]))
-        (days,) = (row for row in ElementTree.parse(self.ward / "wall.html").iter("tr") if "".join(row.itertext()).startswith("Grace"))
-        self.assertEqual(["".join(cell.itertext()) for cell in days][-5:], ["10", "85", "0", "0", "1/1"])
+        self.assertEqual(
+            (rows["Grace"], rows["Chen"]),
+            (["10", "85", "0", "0", "1/1"], ["10", "86", "6", "2", "0/1"]),
+        )
+        (days,) = (
+            row
+            for row in ElementTree.parse(self.ward / "wall.html").iter("tr")
+            if "".join(row.itertext()).startswith("Grace")
+        )
+        self.assertEqual(
+            ["".join(cell.itertext()) for cell in days][-5:], ["10", "85", "0", "0", "1/1"]
+        )
         self.end_period()
         self.write_next(MONDAY + datetime.timedelta(days=14))
         self.plan_next()
@@ -80,7 +97,9 @@ class NextPeriod(KeptTest):
     def sums(self, page):
         """The sums of each nurse on a page."""
         tables = [
-            table for table in ElementTree.parse(self.ward / page).iter("table") if "wishes of each nurse" in "".join(table.itertext())
+            table
+            for table in ElementTree.parse(self.ward / page).iter("table")
+            if "wishes of each nurse" in "".join(table.itertext())
         ]
         rows = [["".join(cell.itertext()) for cell in row] for row in tables[0].iter("tr")]
         return {row[0]: row[1:] for row in rows}
@@ -100,7 +119,9 @@ class NextPeriod(KeptTest):
         # Undo leaves the page of the first period as it is.
         self.does("undo")
         self.does("undo")
-        self.assertEqual((self.worked(), (self.ward / "worked-0.html").read_text()), (["worked-0.html"], before))
+        self.assertEqual(
+            (self.worked(), (self.ward / "worked-0.html").read_text()), (["worked-0.html"], before)
+        )
         self.assertEqual(self.linked(), ["worked-0.html"])
 
     def test_weeks_of_the_needs_count_anew(self):
@@ -118,7 +139,12 @@ class NextPeriod(KeptTest):
         self.assertIn(f"warning: {row}", run("plan", self.ward, "check")[1])
         # After the row, its week or its days were corrected, or the row was emptied, the warning is gone.
         right = ["2", "day", "Nurse", *[""] * 4, "1", "", ""]
-        for other in (["0", *right[1:]], [*right[:3], "1", *right[4:7], "", "", ""], [*right[:7], "2", "", ""], [*right[:7], "", "", ""]):
+        for other in (
+            ["0", *right[1:]],
+            [*right[:3], "1", *right[4:7], "", "", ""],
+            [*right[:7], "2", "", ""],
+            [*right[:7], "", "", ""],
+        ):
             self.rows["needs"][-1] = other
             self.write()
             self.assertNotIn("count anew", run("plan", self.ward, "check")[1])

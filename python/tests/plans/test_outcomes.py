@@ -10,7 +10,17 @@ from inrc2pb.commands.plan import read_sheet
 from inrc2pb.judging.leave import credited
 from inrc2pb.judging.limits import read_given
 from inrc2pb.plans import pages, render, search_sentences, sentences, swap_sentences, verbs
-from inrc2pb.plans.outcome import Away, Checked, Event, Offers, Published, Status, Swapped, Undone, WeekOver
+from inrc2pb.plans.outcome import (
+    Away,
+    Checked,
+    Event,
+    Offers,
+    Published,
+    Status,
+    Swapped,
+    Undone,
+    WeekOver,
+)
 from inrc2pb.plans.state import BACK, DayWord
 from inrc2pb.plans.store import Means
 from inrc2pb.plans.swaps import Kind, Swap
@@ -33,24 +43,40 @@ class Records(KeptTest):
         self.rows["plan"][2][8:10] = ["Day/Charge", "unpaid"]
         self.write()
         written = (DayWord("Grace", 12, "ill"), DayWord("Amara", 0, BACK))
-        for ward in (read_sheet(self.ward, None, written), read_sheet(self.ward, None, ()).with_absences(written)):
+        for ward in (
+            read_sheet(self.ward, None, written),
+            read_sheet(self.ward, None, ()).with_absences(written),
+        ):
             texts, scenario = ward.texts, read_scenario("ward.txt", ward.texts["ward.txt"])
             self.assertEqual(ward.scenario, scenario)
-            self.assertEqual(credited(ward.past, ward.counted), read_history("history-0.txt", scenario, texts["history-0.txt"]))
+            self.assertEqual(
+                credited(ward.past, ward.counted),
+                read_history("history-0.txt", scenario, texts["history-0.txt"]),
+            )
             self.assertEqual(ward.claims, read_given("facts.txt", scenario, texts["facts.txt"]))
             names = [f"week-{number}.txt" for number in (0, 1)]
-            self.assertEqual(ward.weeks, tuple(read_week(name, scenario, texts[name]) for name in names))
+            self.assertEqual(
+                ward.weeks, tuple(read_week(name, scenario, texts[name]) for name in names)
+            )
             names = [f"fix-{number}.txt" for number in (0, 1)]
-            self.assertEqual(ward.held, in_plan(read_solution(name, scenario, texts[name]).cells for name in names))
+            self.assertEqual(
+                ward.held,
+                in_plan(read_solution(name, scenario, texts[name]).cells for name in names),
+            )
             found = read_reasons("reasons.txt", scenario, texts["reasons.txt"])
-            self.assertEqual(ward.reasons, {(one.nurse, 7 * (one.week - 1) + one.day): word for one, word in found.items()})
+            self.assertEqual(
+                ward.reasons,
+                {(one.nurse, 7 * (one.week - 1) + one.day): word for one, word in found.items()},
+            )
             self.assertEqual(ward.reasons, {("Grace", 12): "ill", ("Bruno", 8): "unpaid"})
 
 
 class Outcomes(KeptTest):
     def setUp(self):
         super().setUp()
-        self.verbs = Verbs(WardFolder(self.ward), Means(read_sheet, Progress(None), lambda line: None))
+        self.verbs = Verbs(
+            WardFolder(self.ward), Means(read_sheet, Progress(None), lambda line: None)
+        )
 
     def asked(self, verb, *words, **options):
         return self.verbs.asked(Event(verb, words, **options))
@@ -72,7 +98,9 @@ class Outcomes(KeptTest):
         ):
             with self.subTest(event):
                 self.assertIs(type(self.verbs.asked(event)), kind)
-        self.assertEqual({path: path.read_bytes() for path in self.ward.rglob("*") if path.is_file()}, before)
+        self.assertEqual(
+            {path: path.read_bytes() for path in self.ward.rglob("*") if path.is_file()}, before
+        )
 
     def test_what_cannot_be_asked_for_is_a_misuse(self):
         for event in (
@@ -104,11 +132,25 @@ class Outcomes(KeptTest):
         self.rows["plan"][7][1] = "Day"
         self.rows["plan"][1][2] = "ill"
         self.write()
-        held, follows, never, away, skill = Kind.HELD, Kind.FOLLOWS, Kind.NEVER, Kind.AWAY, Kind.SKILL
+        held, follows, never, away, skill = (
+            Kind.HELD,
+            Kind.FOLLOWS,
+            Kind.NEVER,
+            Kind.AWAY,
+            Kind.SKILL,
+        )
         for words, swap, faults in (
             # The sheet fixes Grace's Monday. Dilek's Night is followed by no Day, and Grace works Day on Tuesday.
-            ("Grace Mon Dilek", Swap("Grace", "Dilek", (0,)), [(held, "Grace", 0), (follows, "Grace", 1), (follows, "Dilek", 0)]),
-            ("Dilek Mon Finn", Swap("Dilek", "Finn", (0,)), [(follows, "Dilek", 0), (never, "Finn", 0), (follows, "Finn", 1)]),
+            (
+                "Grace Mon Dilek",
+                Swap("Grace", "Dilek", (0,)),
+                [(held, "Grace", 0), (follows, "Grace", 1), (follows, "Dilek", 0)],
+            ),
+            (
+                "Dilek Mon Finn",
+                Swap("Dilek", "Finn", (0,)),
+                [(follows, "Dilek", 0), (never, "Finn", 0), (follows, "Finn", 1)],
+            ),
             ("Bruno Tue Amara", Swap("Bruno", "Amara", (1,)), [(away, "Amara", 1)]),
             ("Grace Thu Bruno", Swap("Grace", "Bruno", (3,)), [(skill, "Grace", 3)]),
         ):
@@ -127,7 +169,13 @@ class Outcomes(KeptTest):
         # The same events with all sentences gone have the same statuses.
         self.rows["plan"][1][1] = self.rows["plan"][2][1] = self.rows["plan"][5][1] = "leave"
         self.write()
-        events = (Event("check"), Event("swap", ("Dilek", "Mon", "Finn"), do=True), Event("over"), Event("page"), Event("undo"))
+        events = (
+            Event("check"),
+            Event("swap", ("Dilek", "Mon", "Finn"), do=True),
+            Event("over"),
+            Event("page"),
+            Event("undo"),
+        )
         statuses = [Status.NOT_KEPT, Status.NOT_KEPT, Status.DONE, Status.DONE, Status.DONE]
         with contextlib.ExitStack() as silent:
             for module in (sentences, search_sentences, swap_sentences, render, pages, verbs):

@@ -15,8 +15,14 @@ BUSY = "another verb was running, so this button did nothing"
 
 def fields_of(page, button):
     """The fields of the form with this button."""
-    form = next(form for form in re.findall("<form.*?</form>", page, re.S) if f">{button}</button>" in form)
-    return dict(re.findall('name="([^"]*)" (?:type="[^"]*" )?value="([^"]*)"', form.replace('type="hidden" ', "")))
+    form = next(
+        form for form in re.findall("<form.*?</form>", page, re.S) if f">{button}</button>" in form
+    )
+    return dict(
+        re.findall(
+            'name="([^"]*)" (?:type="[^"]*" )?value="([^"]*)"', form.replace('type="hidden" ', "")
+        )
+    )
 
 
 class Stamps(ServedPage):
@@ -28,7 +34,15 @@ class Stamps(ServedPage):
         self.assertEqual(fields_of(self.asks()[1], "Undo")["stamp"], "none")
         self.write_plan()
         page = self.asks()[1]
-        for button in ("Plan", "Write an absence", "Back", "Look", "End the week", "Publish", "Undo"):
+        for button in (
+            "Plan",
+            "Write an absence",
+            "Back",
+            "Look",
+            "End the week",
+            "Publish",
+            "Undo",
+        ):
             self.assertEqual(fields_of(page, button)["stamp"], self.stamp, button)
         self.assertNotIn("stamp", fields_of(page, "Read the spreadsheet"))
         # The question does not show it.
@@ -70,9 +84,15 @@ class Stamps(ServedPage):
         # The first one has written a plan, so the question of the second one was for an older plan.
         for _ in range(2):
             page = self.asks(path=of_second)[1]
-            self.assertTrue(SAYS in page and BUSY not in page and "week 1 (calendar week 49) is over" not in page)
+            self.assertTrue(
+                SAYS in page
+                and BUSY not in page
+                and "week 1 (calendar week 49) is over" not in page
+            )
             page = self.asks(path=of_first)[1]
-            self.assertTrue("week 1 (calendar week 49) is over" in page and 'class="fault"' not in page)
+            self.assertTrue(
+                "week 1 (calendar week 49) is over" in page and 'class="fault"' not in page
+            )
         self.assertEqual(self.plans(), ["0001", "0002"])
 
     def test_a_form_that_is_refused_names_what_was_not_written(self):
@@ -81,13 +101,19 @@ class Stamps(ServedPage):
         forms = (
             ({**chen, "verb": "away", "reason": "ill"}, "the absence of Chen was not written"),
             ({**chen, "verb": "back"}, "it was not written that Chen is back"),
-            ({**chen, "verb": "swap", "other": "Zoë_O", "write it": "yes"}, "the swap of Chen and Zoë O was not written"),
+            (
+                {**chen, "verb": "swap", "other": "Zoë_O", "write it": "yes"},
+                "the swap of Chen and Zoë O was not written",
+            ),
             ({**chen, "verb": "plan"}, "a new plan was not written"),
             ({**chen, "verb": "page"}, "the plan was not published"),
             ({**chen, "verb": "undo"}, "nothing was taken back"),
             # This one was sent twice, and the first of the two is written.
             ({"verb": "over", "corrections": "", "sure": "yes", "stamp": self.stamp}, None),
-            ({**chen, "verb": "over", "corrections": "Chen Fri off"}, "the end of the week was not written"),
+            (
+                {**chen, "verb": "over", "corrections": "Chen Fri off"},
+                "the end of the week was not written",
+            ),
         )
         with open(self.ward / "plans" / "lock", "w") as lock:
             fcntl.flock(lock, fcntl.LOCK_EX)
@@ -95,7 +121,9 @@ class Stamps(ServedPage):
             for fields, says in forms:
                 self.asks("POST", form=urlencode(fields))
                 refused = re.search('class="fault">([^<]*)</pre>', self.asks()[1])[1].splitlines()
-                self.assertEqual((refused[0][: len(BUSY)], refused[1:]), (BUSY, [says] if says else []))
+                self.assertEqual(
+                    (refused[0][: len(BUSY)], refused[1:]), (BUSY, [says] if says else [])
+                )
             fcntl.flock(lock, fcntl.LOCK_UN)
         # There is another plan since.
         page = self.ended()
@@ -118,13 +146,20 @@ class Stamps(ServedPage):
         answer = self.answers("over")
         of_question = self.shown
         for _ in range(2):
-            self.assertIn("<h2>The week is over: Mon 30 Nov to Sun 6 Dec?</h2>", self.asks(path=of_question)[1])
+            self.assertIn(
+                "<h2>The week is over: Mon 30 Nov to Sun 6 Dec?</h2>",
+                self.asks(path=of_question)[1],
+            )
         self.asks("POST", form=answer)
         self.assertEqual(self.shown, self.site.path)
         self.assertIn("week 1 (calendar week 49) is over", self.ended())
         # The button back of the browser leads to it, and it asks no more.
         page = self.asks(path=of_question)[1]
-        self.assertTrue("week 1 (calendar week 49) is over" in page and "Yes, write it" not in page and 'class="fault"' not in page)
+        self.assertTrue(
+            "week 1 (calendar week 49) is over" in page
+            and "Yes, write it" not in page
+            and 'class="fault"' not in page
+        )
         # The answer that is sent again writes nothing, and another tab still shows the result of the first one.
         self.asks("POST", form=answer)
         self.assertIn(SAYS, self.ended())

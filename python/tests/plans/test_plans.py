@@ -30,7 +30,11 @@ from inrc2pb.week.records import Cell, Request, WeekData
 MONDAY = datetime.date(2026, 11, 30)
 DATES = [str(MONDAY + datetime.timedelta(days=day)) for day in range(14)]
 # The stored roster in both weeks.
-TWO_WEEKS = [cell._replace(day=7 * week + cell.day) for week in range(2) for cell in files.read_solution(ROSTER).cells]
+TWO_WEEKS = [
+    cell._replace(day=7 * week + cell.day)
+    for week in range(2)
+    for cell in files.read_solution(ROSTER).cells
+]
 # The files of the plan with which tests begin.
 FIRST_PLAN = {}
 DATED, BARE = PlanDays(MONDAY, 2), PlanDays(None, 2)
@@ -56,8 +60,13 @@ class Days(unittest.TestCase):
         self.assertEqual((DATED.head(4), BARE.head(11)), ("2026-12-04", "Fri 2"))
 
     def test_weeks_and_their_numbers_in_the_calendar(self):
-        self.assertEqual((DATED.weeks_text([1]), BARE.weeks_text([1])), ("week 2 (calendar week 50)", "week 2"))
-        self.assertEqual((DATED.weeks_text([0, 1]), BARE.weeks_text([0, 1])), ("weeks 1 and 2 (calendar weeks 49 and 50)", "weeks 1 and 2"))
+        self.assertEqual(
+            (DATED.weeks_text([1]), BARE.weeks_text([1])), ("week 2 (calendar week 50)", "week 2")
+        )
+        self.assertEqual(
+            (DATED.weeks_text([0, 1]), BARE.weeks_text([0, 1])),
+            ("weeks 1 and 2 (calendar weeks 49 and 50)", "weeks 1 and 2"),
+        )
 
     def test_a_date_without_its_year_after_new_year(self):
         days = PlanDays(datetime.date(2026, 12, 28), 1)
@@ -67,7 +76,13 @@ class Days(unittest.TestCase):
         for text in ("2026-11-29", "2026-12-14", "Mon 3", "29.11.2026"):
             with self.subTest(text), self.assertRaises(OtherPlan):
                 DATED.number(text, 0)
-        for days, text in ((DATED, "2026-02-30"), (DATED, "soon"), (DATED, "Wed 1 Dec"), (BARE, "2026-12-01"), (BARE, "1 Dec")):
+        for days, text in (
+            (DATED, "2026-02-30"),
+            (DATED, "soon"),
+            (DATED, "Wed 1 Dec"),
+            (BARE, "2026-12-01"),
+            (BARE, "1 Dec"),
+        ):
             with self.subTest(text), self.assertRaises(Misuse):
                 days.number(text, 0)
 
@@ -104,10 +119,14 @@ class Words(unittest.TestCase):
             ("zoe weiss", "Zoë_Weiß"),
         ):
             with self.subTest(text):
-                self.assertEqual(Wording([*text.split(), "Fri"], names, DATED, 0, "ill Anna Fri").nurse(), nurse)
+                self.assertEqual(
+                    Wording([*text.split(), "Fri"], names, DATED, 0, "ill Anna Fri").nurse(), nurse
+                )
 
     def test_a_nurse_with_the_name_of_a_month(self):
-        words = Wording("Mon 2 Jan Li".split(), (*self.NURSES, "Jan_Li"), DATED, 0, "swap Sun Li Mon Jan")
+        words = Wording(
+            "Mon 2 Jan Li".split(), (*self.NURSES, "Jan_Li"), DATED, 0, "swap Sun Li Mon Jan"
+        )
         self.assertEqual((words.day(), words.nurse()), (7, "Jan_Li"))
 
     def test_faults_of_words(self):
@@ -117,7 +136,10 @@ class Words(unittest.TestCase):
             ("", "a nurse is missing: write, for example, ill Anna Fri"),
             ("Sun Li", "a day is missing: write, for example, ill Anna Fri"),
             ("Sun Li Fri soon", "'soon' is a word too many: write, for example, ill Anna Fri"),
-            ("sun_li soon", "'soon' is no day: write a day such as 2026-11-30, or Fri for the next Friday of the plan"),
+            (
+                "sun_li soon",
+                "'soon' is no day: write a day such as 2026-11-30, or Fri for the next Friday of the plan",
+            ),
         ):
             with self.subTest(line), self.assertRaises(Misuse) as caught:
                 words = self.wording(line)
@@ -137,7 +159,11 @@ class Values(HelperTest):
     def test_few_changes_are_requests_against_all_other_shifts(self):
         scenario = files.read_scenario(HELPERS.parent / "examples" / "ward" / "ward.txt")
         data, old = WeekData("ward", {}, ()), [Cell("Chen", 4, "Late", "Nurse")]
-        asked = [one for one in with_few_changes(scenario, data, old, [4]).requests if one.nurse in ("Chen", "Grace")]
+        asked = [
+            one
+            for one in with_few_changes(scenario, data, old, [4]).requests
+            if one.nurse in ("Chen", "Grace")
+        ]
         chen = [Request("Chen", shift, 4) for shift in ("Day", "Night") for _ in range(2)]
         self.assertEqual(asked, [*chen, *[Request("Grace", None, 4)] * 2])
         # A nurse who has just come may have any shift.
@@ -146,8 +172,16 @@ class Values(HelperTest):
 
     def test_a_nurse_who_keeps_her_shift_keeps_her_skill(self):
         scenario = files.read_scenario(HELPERS.parent / "examples" / "ward" / "ward.txt")
-        old = [Cell("Amara", 0, "Day", "Charge"), Cell("Bruno", 0, "Day", "Nurse"), Cell("Chen", 1, "Day", "Nurse")]
-        turned = [Cell("Amara", 0, "Day", "Nurse"), Cell("Bruno", 0, "Day", "Charge"), Cell("Chen", 1, "Day", "Nurse")]
+        old = [
+            Cell("Amara", 0, "Day", "Charge"),
+            Cell("Bruno", 0, "Day", "Nurse"),
+            Cell("Chen", 1, "Day", "Nurse"),
+        ]
+        turned = [
+            Cell("Amara", 0, "Day", "Nurse"),
+            Cell("Bruno", 0, "Day", "Charge"),
+            Cell("Chen", 1, "Day", "Nurse"),
+        ]
         self.assertEqual(sorted(with_old_skills(scenario, turned, old)), sorted(old))
         # Without Amara only Bruno can be in charge.
         new = [Cell("Bruno", 0, "Day", "Charge"), Cell("Grace", 0, "Day", "Nurse")]
@@ -187,7 +221,9 @@ class FolderTest(HelperTest):
         """Begins with a plan of both weeks, which the first test has made."""
         if not FIRST_PLAN:
             self.does("plan")
-            FIRST_PLAN.update({path.relative_to(self.ward): path.read_bytes() for path in self.ward.rglob("0*/*")})
+            FIRST_PLAN.update(
+                {path.relative_to(self.ward): path.read_bytes() for path in self.ward.rglob("0*/*")}
+            )
         for path, data in FIRST_PLAN.items():
             (self.ward / path).parent.mkdir(parents=True, exist_ok=True)
             (self.ward / path).write_bytes(data)
@@ -206,19 +242,46 @@ class FolderTest(HelperTest):
 
     def cells(self):
         """The assignments of the plan that holds, with days of the whole plan."""
-        found = {number: files.read_solution(self.last() / f"roster-{number}.txt").cells for number in range(2)}
-        return {(cell.nurse, 7 * number + cell.day): cell[2:] for number, cells in found.items() for cell in cells}
+        found = {
+            number: files.read_solution(self.last() / f"roster-{number}.txt").cells
+            for number in range(2)
+        }
+        return {
+            (cell.nurse, 7 * number + cell.day): cell[2:]
+            for number, cells in found.items()
+            for cell in cells
+        }
 
     def points(self):
         """The penalties of the weeks of the plan that holds, by `extend`."""
         last, found = self.last(), []
         history = last / "history-0.txt"
         for number in range(2):
-            roster, target = last / f"roster-{number}.txt", self.folder / f"history-{number + 1}.txt"
-            found.append(program.penalty_of(program.WeekFiles(last / "ward.txt", history, last / f"week-{number}.txt"), roster))
+            roster, target = (
+                last / f"roster-{number}.txt",
+                self.folder / f"history-{number + 1}.txt",
+            )
+            found.append(
+                program.penalty_of(
+                    program.WeekFiles(last / "ward.txt", history, last / f"week-{number}.txt"),
+                    roster,
+                )
+            )
             if not number:
                 self.assertEqual(
-                    run("roster", "next", "--sce", last / "ward.txt", "--his", history, "--roster", roster, "--out", target)[0], 0
+                    run(
+                        "roster",
+                        "next",
+                        "--sce",
+                        last / "ward.txt",
+                        "--his",
+                        history,
+                        "--roster",
+                        roster,
+                        "--out",
+                        target,
+                    )[0],
+                    0,
                 )
                 history = target
         return found
@@ -247,16 +310,33 @@ class Verbs(FolderTest):
         self.assertNotIn("the search counted", printed)
         now = self.cells()
         self.assertFalse({("Grace", day) for day in (2, 3, 4)} & set(now))
-        self.assertEqual([item for item in before.items() if item[0][1] < 2], [item for item in now.items() if item[0][1] < 2])
+        self.assertEqual(
+            [item for item in before.items() if item[0][1] < 2],
+            [item for item in now.items() if item[0][1] < 2],
+        )
         self.assertIn(f"2 weeks: {sum(self.points())} points\n", printed)
         # The last penalty of the search has also the new shifts, those on days off beside the illness, and the calls, as the bound has.
         other = {key for key in {*before, *now} if before.get(key, "-")[0] != now.get(key, "-")[0]}
         beside = {("Grace", day) for day in (0, 1, 5, 6)} - set(before)
-        called = {nurse for nurse, day in other if (nurse, day) not in {("Grace", 2), ("Grace", 3), ("Grace", 4)}}
-        counted = sum(self.points()) + sum(80 if key in beside else 20 for key in other if key in now) + 20 * len(called)
+        called = {
+            nurse
+            for nurse, day in other
+            if (nurse, day) not in {("Grace", 2), ("Grace", 3), ("Grace", 4)}
+        }
+        counted = (
+            sum(self.points())
+            + sum(80 if key in beside else 20 for key in other if key in now)
+            + 20 * len(called)
+        )
         self.assertLessEqual(counted, int(re.findall("([0-9]+) points, those for", said)[-1]), said)
         self.assertFalse(
-            [said for penalty, bound in re.findall("([0-9]+) points.*; at least ([0-9]+) cannot", said) if int(bound) > int(penalty)]
+            [
+                said
+                for penalty, bound in re.findall(
+                    "([0-9]+) points.*; at least ([0-9]+) cannot", said
+                )
+                if int(bound) > int(penalty)
+            ]
         )
         self.assertEqual({path: text for path, text in self.texts().items() if path in old}, old)
         self.assertIn("the plan of plan, ", self.does("undo"))
@@ -276,13 +356,25 @@ class Verbs(FolderTest):
         self.does("page")
         calendars = [path.read_text() for path in (self.ward / "calendars").glob("*.ics")]
         self.assertEqual(len(calendars), 7)
-        nurse, night = next((nurse, day) for (nurse, day), (shift, _) in sorted(self.cells().items()) if shift == "Night")
-        begins, ends = (f"{MONDAY + datetime.timedelta(days=night + later)}".replace("-", "") for later in (0, 1))
-        self.assertIn(f"DTSTART:{begins}T223000\nDTEND:{ends}T071500\n", (self.ward / "calendars" / f"{nurse}.ics").read_text())
+        nurse, night = next(
+            (nurse, day)
+            for (nurse, day), (shift, _) in sorted(self.cells().items())
+            if shift == "Night"
+        )
+        begins, ends = (
+            f"{MONDAY + datetime.timedelta(days=night + later)}".replace("-", "")
+            for later in (0, 1)
+        )
+        self.assertIn(
+            f"DTSTART:{begins}T223000\nDTEND:{ends}T071500\n",
+            (self.ward / "calendars" / f"{nurse}.ics").read_text(),
+        )
         before, points = self.cells(), sum(self.points())
         self.does("plan")
         now = self.cells()
-        changed = {key for key in {*before, *now} if before.get(key, "-")[0] != now.get(key, "-")[0]}
+        changed = {
+            key for key in {*before, *now} if before.get(key, "-")[0] != now.get(key, "-")[0]
+        }
         # Each change has saved at least its 20 points.
         self.assertLessEqual(sum(self.points()) + 20 * len(changed), points)
 
@@ -293,7 +385,10 @@ class Verbs(FolderTest):
 
         def events():
             text = (self.ward / "calendars" / f"{nurse}.ics").read_text()
-            return {re.search("DTSTART[^:]*:([0-9]+)", event)[1]: event for event in text.split("BEGIN:VEVENT")[1:]}
+            return {
+                re.search("DTSTART[^:]*:([0-9]+)", event)[1]: event
+                for event in text.split("BEGIN:VEVENT")[1:]
+            }
 
         date, before = DATES[day].replace("-", ""), events()
         self.does("ill", nurse, DATES[day])
@@ -333,7 +428,11 @@ class Verbs(FolderTest):
         status, _, said = self.runs("plan")
         cure = "write it again, with away in the plan from her last day on"
         self.assertEqual(
-            (status, said), (1, f"inrc2pb-plan: Dilek worked in week 1 (calendar week 49), and has no row in the sheet nurses: {cure}\n")
+            (status, said),
+            (
+                1,
+                f"inrc2pb-plan: Dilek worked in week 1 (calendar week 49), and has no row in the sheet nurses: {cure}\n",
+            ),
         )
 
     def test_swaps(self):
@@ -374,7 +473,9 @@ class Verbs(FolderTest):
     def test_a_swap_above_a_limit_that_holds(self):
         self.begin()
         sheet = read_sheet(self.ward, None, ())
-        rows = [Cell("Chen", day, "Day", "Nurse") for day in range(5)] + [Cell("Grace", 5, "Day", "Nurse")]
+        rows = [Cell("Chen", day, "Day", "Nurse") for day in range(5)] + [
+            Cell("Grace", 5, "Day", "Nurse")
+        ]
         plan = first_plan(sheet).with_cells(rows)
         swap = Swap("Chen", "Grace", (5,))
         for limits, faults in (((), 0), ((Claim(Charged("WORK_DAYS", "Chen", 0)),), 1)):
@@ -388,7 +489,10 @@ class Verbs(FolderTest):
         row = text.splitlines()[4]
         other = f"{row.rsplit(' ', 1)[0]} Nurze"
         for new, says in (
-            (text.replace(row, other), f"the plan has '{other}', and the spreadsheet has not all of these names: "),
+            (
+                text.replace(row, other),
+                f"the plan has '{other}', and the spreadsheet has not all of these names: ",
+            ),
             (text.replace(f"{row}\n", "", 1), "roster-1.txt: end of file"),
             ("", "roster-1.txt"),
         ):
@@ -406,10 +510,17 @@ class Verbs(FolderTest):
         self.begin()
         cells = self.cells()
         day = next(day for day in range(7, 14) if ("Finn", day) not in cells)
-        nurse = next(nurse for (nurse, on), (shift, _) in sorted(cells.items()) if on == day and shift == "Night")
+        nurse = next(
+            nurse
+            for (nurse, on), (shift, _) in sorted(cells.items())
+            if on == day and shift == "Night"
+        )
         status, printed, _ = run("plan", self.ward, "swap", nurse, DATES[day], "Finn", "--do")
         self.assertEqual((status, self.cells()), (6, cells))
-        self.assertRegex(printed, "^not possible: Finn never works Night\n(not possible: .*\n)?nothing is written\nwho could take ")
+        self.assertRegex(
+            printed,
+            "^not possible: Finn never works Night\n(not possible: .*\n)?nothing is written\nwho could take ",
+        )
 
     def test_the_weeks_and_the_period_are_over(self):
         self.begin()
@@ -417,11 +528,15 @@ class Verbs(FolderTest):
         worked = next(nurse for nurse, day in cells if day == 6)
         self.does("over", worked, "Sun", "off")
         history = (self.last() / "history-1.txt").read_text()
-        self.assertIn(" None ", next(line for line in history.splitlines() if line.startswith(worked)))
+        self.assertIn(
+            " None ", next(line for line in history.splitlines() if line.startswith(worked))
+        )
         status, _, said = run("plan", self.ward, "ill", "Chen", "2026-12-01")
         line = "Tue 1 Dec is in a week that is over: the plan goes on from Mon 7 Dec; undo takes the end of that week back"
         self.assertEqual((status, said), (1, f"inrc2pb-plan: {line}\n"))
-        self.assertIn("week 2 (calendar week 50) is over, and with it the period is over\n", self.does("over"))
+        self.assertIn(
+            "week 2 (calendar week 50) is over, and with it the period is over\n", self.does("over")
+        )
         status, _, said = run("plan", self.ward, "plan")
         self.assertEqual((status, said.split(":")[1]), (1, " a period is over"))
         later = [str(MONDAY + datetime.timedelta(days=14 + day)) for day in range(7)]
@@ -429,17 +544,32 @@ class Verbs(FolderTest):
         self.write()
         self.does("plan")
         last = next(nurse for nurse, day in cells if day == 13)
-        past = next(line.split() for line in (self.last() / "history-0.txt").read_text().splitlines() if line.startswith(f"{last} "))
+        past = next(
+            line.split()
+            for line in (self.last() / "history-0.txt").read_text().splitlines()
+            if line.startswith(f"{last} ")
+        )
         self.assertEqual((past[1:3], past[3]), (["0", "0"], cells[last, 13][0]))
 
     def test_ctrl_c_leaves_a_whole_plan_or_none(self):
         for seconds in (0.2, 0.6, 1.5):
-            command = [sys.executable, str(HELPERS / "inrc2pb-plan"), str(self.ward), "plan", "--time", "60"]
+            command = [
+                sys.executable,
+                str(HELPERS / "inrc2pb-plan"),
+                str(self.ward),
+                "plan",
+                "--time",
+                "60",
+            ]
             begun = subprocess.Popen(command, stdout=subprocess.DEVNULL, stderr=subprocess.DEVNULL)
             time.sleep(seconds)
             begun.send_signal(signal.SIGINT)
             begun.wait(timeout=ENOUGH)
-            names = [path.name for path in (self.ward / "plans").glob("*") if path.name != "lock"] if (self.ward / "plans").exists() else []
+            names = (
+                [path.name for path in (self.ward / "plans").glob("*") if path.name != "lock"]
+                if (self.ward / "plans").exists()
+                else []
+            )
             self.assertFalse([name for name in names if not name[0] == "0"])
             for path in (self.ward / "plans").glob("0*"):
                 self.assertTrue((path / "roster-1.txt").exists() and (path / "plan.json").exists())
@@ -449,9 +579,18 @@ class Refused(FolderTest):
     def test_the_ward_in_sentences(self):
         printed = self.does("check")
         self.assertIn("After Late, the next day no Day.\n", printed)
-        self.assertIn("Would rather be off: Amara on Wed 9 Dec; Chen on Sat 5 Dec; Dilek on Fri 4 Dec; Ewa on Sun 6 Dec.\n", printed)
+        self.assertIn(
+            "Would rather be off: Amara on Wed 9 Dec; Chen on Sat 5 Dec; Dilek on Fri 4 Dec; Ewa on Sun 6 Dec.\n",
+            printed,
+        )
         # The kind of each absence, and days away that count as work.
-        words = {"Amara": "ill", "Bruno": "leave", "Dilek": "training", "Ewa": "unpaid", "Grace": "away"}
+        words = {
+            "Amara": "ill",
+            "Bruno": "leave",
+            "Dilek": "training",
+            "Ewa": "unpaid",
+            "Grace": "away",
+        }
         for row in self.rows["plan"][1:]:
             row[8:10] = [words.get(row[0], "")] * 2
         self.rows["nurses"][6][4] = "Tue"
@@ -463,7 +602,10 @@ class Refused(FolderTest):
             self.assertIn(f"{line} on Mon 7 Dec to Tue 8 Dec.\n", printed)
         self.assertIn("Always off: Finn on Tue.\n", printed)
         # A Monday and a Tuesday count as a shift each.
-        self.assertIn("For days away in the whole period: Amara, Bruno and Dilek 2 shifts and 0 weekends.\n", printed)
+        self.assertIn(
+            "For days away in the whole period: Amara, Bruno and Dilek 2 shifts and 0 weekends.\n",
+            printed,
+        )
         self.assertNotIn("In the period until now", printed)
         self.assertFalse((self.ward / "plans").exists())
 
@@ -478,7 +620,9 @@ class Refused(FolderTest):
             begin()
             lines = self.does("check").splitlines()
             first = lines.index("") + 1
-            self.assertTrue(lines[0].startswith("warning: sheet plan: Bruno has no row: "), lines[0])
+            self.assertTrue(
+                lines[0].startswith("warning: sheet plan: Bruno has no row: "), lines[0]
+            )
             self.assertEqual(lines[first : first + 4], [
                 "my wärd: 7 nurses, 2 weeks in a period.",
                 "Week 1 (calendar week 49), Mon 30 Nov: asks for 26 to 33 shifts; the contracts supply 24 to 36 a week.",
@@ -492,7 +636,9 @@ class Refused(FolderTest):
 
     def test_minimum_numbers_that_no_plan_meets(self):
         plain = {name: [list(row) for row in rows] for name, rows in self.rows.items()}
-        charge = next(number for number, row in enumerate(plain["needs"]) if row[1:3] == ["Day", "Charge"])
+        charge = next(
+            number for number, row in enumerate(plain["needs"]) if row[1:3] == ["Day", "Charge"]
+        )
         # Amara, Bruno and Ewa have the skill Charge.
         for status, cells, says in (
             (5, [("needs", charge, 5, "4")], "Day Charge on Wed: at least 4 are needed, and 3 nurses have the skill: "
@@ -510,7 +656,10 @@ class Refused(FolderTest):
                 ended, printed, said = run("plan", self.ward, "check")
                 self.assertEqual((ended, said), (status, ""), printed)
                 self.assertIn(says, printed)
-                self.assertEqual(printed.splitlines()[-1], "No plan can keep all of this: do what the warnings at the top say.")
+                self.assertEqual(
+                    printed.splitlines()[-1],
+                    "No plan can keep all of this: do what the warnings at the top say.",
+                )
 
     def test_wrong_verbs_and_options(self):
         for says, *words in (
@@ -521,11 +670,20 @@ class Refused(FolderTest):
             ),
             ("a verb is missing after the folder: write one of new, check, plan, ",),
             ("'Chen' is a word too many: page has none", "page", "Chen"),
-            ("--do is for verbs that ask before they write: leave it out with page", "page", "--do"),
+            (
+                "--do is for verbs that ask before they write: leave it out with page",
+                "page",
+                "--do",
+            ),
             ("--free is for plan: leave it out", "page", "--free"),
             ("--time has to be a number of seconds above 0", "plan", "--time", "0"),
             ("--port 70000: give a number from 1024 to 65535", "serve", "--port", "70000"),
-            ("--port 0: Cannot assign requested address: give the name of this machine, and a free port", "serve", "--host", "203.0.113.1"),
+            (
+                "--port 0: Cannot assign requested address: give the name of this machine, and a free port",
+                "serve",
+                "--host",
+                "203.0.113.1",
+            ),
             (
                 "--host '0.0.0.0' is no address that a browser can open: give the name or number of this machine, or with --origin the address",
                 "serve",
@@ -535,10 +693,30 @@ class Refused(FolderTest):
             ("--host '' is no address", "serve", "--host", ""),
             ("--host '0' is no address", "serve", "--host", "0"),
             ("--host '::' is no address", "serve", "--host", "::"),
-            ("--origin 'ward.example': give the beginning of an address, as https://ward.example", "serve", "--origin", "ward.example"),
-            ("--origin 'https://ward.example/': give the beginning", "serve", "--origin", "https://ward.example/"),
-            ("--port, --host, --origin and --secret are for serve: leave them out", "plan", "--origin", "https://ward.example"),
-            ("--port, --host, --origin and --secret are for serve: leave them out", "plan", "--secret", "file"),
+            (
+                "--origin 'ward.example': give the beginning of an address, as https://ward.example",
+                "serve",
+                "--origin",
+                "ward.example",
+            ),
+            (
+                "--origin 'https://ward.example/': give the beginning",
+                "serve",
+                "--origin",
+                "https://ward.example/",
+            ),
+            (
+                "--port, --host, --origin and --secret are for serve: leave them out",
+                "plan",
+                "--origin",
+                "https://ward.example",
+            ),
+            (
+                "--port, --host, --origin and --secret are for serve: leave them out",
+                "plan",
+                "--secret",
+                "file",
+            ),
             (f"has no plan yet: type inrc2pb-plan '{self.ward}' plan", "swap", "Chen", "Fri"),
             ("has no plan yet", "page"),
             ("there is nothing to undo", "undo"),
@@ -558,7 +736,11 @@ class Refused(FolderTest):
             (("--origin", "http://ward.example"), "http://ward.example/", True),
             # The way from the proxy to this machine is in clear text too.
             (("--host", "0", "--origin", "https://ward.example"), "https://ward.example/", True),
-            (("--host", "0.0.0.0", "--origin", "http://ward.example:9999"), "http://ward.example:9999/", True),
+            (
+                ("--host", "0.0.0.0", "--origin", "http://ward.example:9999"),
+                "http://ward.example:9999/",
+                True,
+            ),
             (("--origin", "https://ward.example"), "https://ward.example/", False),
         ):
             with self.subTest(words), mock.patch.object(LocalServer, "run"):
@@ -574,9 +756,7 @@ class Refused(FolderTest):
         path = self.last() / "plan.json"
         text = path.read_text().replace('"verb": "plan"', '"verb": "ill Müller"')
         path.write_bytes(text.encode("cp1252"))
-        says = (
-            "plan.json line 2: this line has a byte that is no UTF-8, as another program has saved it: correct it, or type undo to go back"
-        )
+        says = "plan.json line 2: this line has a byte that is no UTF-8, as another program has saved it: correct it, or type undo to go back"
         for verb in ("check", "plan", "page"):
             self.assert_refused(says, self.ward, verb)
         self.assertIn("the plan of plan, 2026-11-28 12:00 holds again", self.does("undo"))
@@ -587,17 +767,41 @@ class Refused(FolderTest):
         path = self.last() / "plan.json"
         text = path.read_text()
         for old, new, says in (
-            ('"published": false', '"published": no', " line 7: this line was changed, and is no JSON any more: correct it, or type undo"),
-            ('"published": false', '"published": 0', ": this file was changed: 'published' has a value that no plan has: correct it, or"),
+            (
+                '"published": false',
+                '"published": no',
+                " line 7: this line was changed, and is no JSON any more: correct it, or type undo",
+            ),
+            (
+                '"published": false',
+                '"published": 0',
+                ": this file was changed: 'published' has a value that no plan has: correct it, or",
+            ),
             ('"weeks": 2', '"weeks": 1e9', "'weeks' has a value that no plan has"),
             ('"weeks": 2', '"weeks": 53', "'weeks' has a value that no plan has"),
             ('"weeks over": 0', '"weeks over": 3', "'weeks over' has a value that no plan has"),
             ('"2026-11-30"', '"30 Nov"', "'monday' has a value that no plan has"),
             ('"2026-11-28 12:00"', "7", "'time' has a value that no plan has"),
-            ('"days away": []', '"days away": [["Chen", 3, "ill"], ["Chen", 14, "ill"]]', "row 2 of 'days away' is none of a plan"),
-            ('"agreed days": []', '"agreed days": [["Chen"]]', "row 1 of 'agreed days' is none of a plan"),
-            ('"agreed days": []', '"agreed days": ' + "[" * 100_000, ": this file was changed: it is no plan"),
-            ('"verb"', '"verbs"', "this file was changed: it has not the names verb, time, monday, weeks, weeks over, "),
+            (
+                '"days away": []',
+                '"days away": [["Chen", 3, "ill"], ["Chen", 14, "ill"]]',
+                "row 2 of 'days away' is none of a plan",
+            ),
+            (
+                '"agreed days": []',
+                '"agreed days": [["Chen"]]',
+                "row 1 of 'agreed days' is none of a plan",
+            ),
+            (
+                '"agreed days": []',
+                '"agreed days": ' + "[" * 100_000,
+                ": this file was changed: it is no plan",
+            ),
+            (
+                '"verb"',
+                '"verbs"',
+                "this file was changed: it has not the names verb, time, monday, weeks, weeks over, ",
+            ),
             ("{", "[", "is no JSON any more"),
             ("{", "{" + " " * 1_000_000, "the file has more than 1000000 bytes"),
         ):
@@ -605,7 +809,11 @@ class Refused(FolderTest):
                 path.write_text(text.replace(old, new, 1))
                 self.assert_refused(says, self.ward, "page")
         path.unlink()
-        self.assert_refused("this folder is no plan: move it away, or type undo to go back to the plan before it", self.ward, "page")
+        self.assert_refused(
+            "this folder is no plan: move it away, or type undo to go back to the plan before it",
+            self.ward,
+            "page",
+        )
 
     def test_times_of_some_shifts_only(self):
         for row, times in zip(self.rows["shifts"], ("times", "7:00-15:30", "", "22:30-25:00")):
@@ -613,7 +821,10 @@ class Refused(FolderTest):
         self.write()
         status, _, said = run("plan", self.ward, "check")
         self.assertEqual(status, 1)
-        self.assertRegex(said, "row 3, column E: Late: '' has no times: .*\n.*row 4, column E: Night: 25:00 is no time of a day")
+        self.assertRegex(
+            said,
+            "row 3, column E: Late: '' has no times: .*\n.*row 4, column E: Night: 25:00 is no time of a day",
+        )
 
     def test_a_folder_without_quotes(self):
         first, last = str(self.ward).split(" ")

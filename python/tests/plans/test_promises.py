@@ -44,21 +44,39 @@ class PromiseTest(SetTest):
 class Swapping(PromiseTest):
     def test_a_swap_of_a_promised_day_is_refused_with_the_promise_and_the_way_out(self):
         plan = self.promising(FRIDAY)
-        (fault,) = [one for one in Swaps(plan).faults(Swap("Grace", "Finn", (4,))) if one.kind is Kind.PROMISED]
+        (fault,) = [
+            one
+            for one in Swaps(plan).faults(Swap("Grace", "Finn", (4,)))
+            if one.kind is Kind.PROMISED
+        ]
         self.assertEqual((fault.nurse, fault.day, fault.promise), ("Grace", 4, FRIDAY))
         found = events.swap(plan, Swap("Finn", "Grace", (4,)), None, has_offers=False)
         says = (
             "not possible: Grace is promised Day Nurse on Fri 4 Dec (her sister marries): take that back first, with "
             "set Grace 2026-12-04 back --do, and then swap"
         )
-        self.assertEqual((found.status, lines(found, WRITE)[:2]), (Status.NOT_KEPT, [says, "nothing is written"]))
-        self.assertEqual(events.swap(self.plan, Swap("Finn", "Grace", (4,)), None, has_offers=False).status, Status.DONE)
+        self.assertEqual(
+            (found.status, lines(found, WRITE)[:2]), (Status.NOT_KEPT, [says, "nothing is written"])
+        )
+        self.assertEqual(
+            events.swap(self.plan, Swap("Finn", "Grace", (4,)), None, has_offers=False).status,
+            Status.DONE,
+        )
 
     def test_a_promised_day_off_is_taken_by_no_swap(self):
         plan = self.promising(FREE)
         # Finn has Late on Saturday.
-        self.assertIn(Kind.PROMISED, [one.kind for one in Swaps(plan).faults(Swap("Grace", "Finn", (5,)))])
-        self.assertEqual([one for one in Swaps(plan).faults(Swap("Grace", "Finn", (4,))) if one.kind is Kind.PROMISED], [])
+        self.assertIn(
+            Kind.PROMISED, [one.kind for one in Swaps(plan).faults(Swap("Grace", "Finn", (5,)))]
+        )
+        self.assertEqual(
+            [
+                one
+                for one in Swaps(plan).faults(Swap("Grace", "Finn", (4,)))
+                if one.kind is Kind.PROMISED
+            ],
+            [],
+        )
 
     def test_offers_have_no_promised_day(self):
         swaps = Swaps(self.plan)
@@ -70,9 +88,19 @@ class Swapping(PromiseTest):
                     cell = self.plan.works.get(place)
                     one = SetDay(*place, "", cell.shift if cell else "", cell.skill if cell else "")
                     left = Swaps(self.promising(one)).offers(nurse, day)
-                    moves = {NurseDay(who, on) for who in (offer.swap.nurse, offer.swap.other) for on in offer.swap.days}
+                    moves = {
+                        NurseDay(who, on)
+                        for who in (offer.swap.nurse, offer.swap.other)
+                        for on in offer.swap.days
+                    }
                     self.assertIn(place, moves)
-                    self.assertFalse([other for other in left if place in other.swap.places and self.moved(other.swap, place)])
+                    self.assertFalse(
+                        [
+                            other
+                            for other in left
+                            if place in other.swap.places and self.moved(other.swap, place)
+                        ]
+                    )
                     tried += 1
         self.assertGreater(tried, 10)
 
@@ -86,23 +114,35 @@ class Swapping(PromiseTest):
         found = events.offers_of(Swaps(self.promising(FRIDAY)), "Grace", 4)
         self.assertEqual(found.offers, ())
         (said,) = lines(found)
-        self.assertIn("nobody can take Grace's Day on Fri 4 Dec: Grace is promised Day Nurse on Fri 4 Dec (her sister marries): take", said)
+        self.assertIn(
+            "nobody can take Grace's Day on Fri 4 Dec: Grace is promised Day Nurse on Fri 4 Dec (her sister marries): take",
+            said,
+        )
 
     def test_who_else_could_have_a_shift_is_nobody_with_a_promise(self):
         found = self.asked("Grace", "Mon", "Late")
         self.assertEqual({one.nurse for one in found.instead}, {"Chen", "Ewa"})
-        found = events.set_day(self.promising(SetDay("Chen", 0)), Event("set", ("Grace", "Mon", "Late")))
+        found = events.set_day(
+            self.promising(SetDay("Chen", 0)), Event("set", ("Grace", "Mon", "Late"))
+        )
         self.assertEqual({one.nurse for one in found.instead}, {"Ewa"})
 
 
 class Replacing(PromiseTest):
     def test_what_is_replaced_is_said(self):
-        found = events.set_day(self.promising(FRIDAY), Event("set", ("Grace", "Fri", "off", "she", "asked")))
+        found = events.set_day(
+            self.promising(FRIDAY), Event("set", ("Grace", "Fri", "off", "she", "asked"))
+        )
         self.assertEqual(found.replaces, FRIDAY)
         self.assertEqual(found.new.state.set_days, (SetDay("Grace", 4, "she asked", "", ""),))
         said = lines(found, WRITE)
-        self.assertEqual(said[0], "this replaces what was promised: Grace, Fri 4 Dec: Day Nurse (her sister marries)")
-        self.assertEqual(said[-1], "who else could do it is known after the older promise is taken back")
+        self.assertEqual(
+            said[0],
+            "this replaces what was promised: Grace, Fri 4 Dec: Day Nurse (her sister marries)",
+        )
+        self.assertEqual(
+            said[-1], "who else could do it is known after the older promise is taken back"
+        )
         self.assertNotIn("this replaces", "\n".join(self.said("Grace", "Fri", "off")))
 
     def test_a_swap_stays_below_a_promise_of_the_same_shift(self):
@@ -118,16 +158,23 @@ class Replacing(PromiseTest):
         self.write()
         plan = self.read()
         plan = plan.with_state(replace(plan.state, agreed=(NurseDay("Grace", 3),)))
-        sheet = "the sheet plan promises it to her, so empty her cell of this day, and save the sheet"
+        sheet = (
+            "the sheet plan promises it to her, so empty her cell of this day, and save the sheet"
+        )
         for day, cure in (
             ("Mon", sheet),
             ("Tue", sheet),
-            ("Thu", "the day is kept for a swap, which the same line as that of the swap, with --do, takes back"),
+            (
+                "Thu",
+                "the day is kept for a swap, which the same line as that of the swap, with --do, takes back",
+            ),
             ("Fri", "set it first, or type undo"),
         ):
             with self.subTest(day), self.assertRaises(Misuse) as caught:
                 events.set_day(plan, Event("set", ("Grace", day, "back")))
-            self.assertRegex(str(caught.exception), f"^nothing is set for Grace on {day} .*: {cure}$")
+            self.assertRegex(
+                str(caught.exception), f"^nothing is set for Grace on {day} .*: {cure}$"
+            )
 
 
 class LaterPlans(PromiseTest):
@@ -142,17 +189,26 @@ class LaterPlans(PromiseTest):
         self.assertEqual(set(kept_agreed(plan, Asked(4, True, 1.0))), {FRIDAY.place, FREE.place})
         self.rows["plan"][7][5] = "ill"
         self.write()
-        plan = self.promising(FRIDAY, SetDay("Grace", 3, "", "Day", "Charge"), SetDay("Finn", 3, "", "Night", "Nurse"), plan=self.read())
+        plan = self.promising(
+            FRIDAY,
+            SetDay("Grace", 3, "", "Day", "Charge"),
+            SetDay("Finn", 3, "", "Night", "Nurse"),
+            plan=self.read(),
+        )
         self.assertEqual(kept_agreed(plan, Asked(0, True, 1.0)), {})
 
     def test_needless_changes_are_not_taken_back_to_a_broken_promise(self):
         # The old plan has Grace off on Friday, against the promise; the new one has it.
-        old = self.promising(FRIDAY).with_cells(cell for cell in self.plan.cells if (cell.nurse, cell.day) != ("Grace", 4))
+        old = self.promising(FRIDAY).with_cells(
+            cell for cell in self.plan.cells if (cell.nurse, cell.day) != ("Grace", 4)
+        )
         new = old.with_cells(self.plan.cells)
         self.assertEqual(without_needless_changes(old, new).works[FRIDAY.place], FRIDAY.cell)
 
     def test_exchanges_that_cost_nothing_leave_promises(self):
-        plan = self.promising(*(SetDay(cell.nurse, cell.day, "", cell.shift, cell.skill) for cell in self.plan.cells))
+        plan = self.promising(
+            *(SetDay(cell.nurse, cell.day, "", cell.shift, cell.skill) for cell in self.plan.cells)
+        )
         self.assertEqual(more_even(plan, 0, 20_000).works, plan.works)
 
     def test_a_broken_promise_is_told_once_while_she_is_away_and_else_each_time(self):
@@ -188,11 +244,15 @@ class Seen(PromiseTest):
         content = pages.roster_content(self.ward, plan)
         for page in (content, replace(content, only_table=True)):
             self.assertEqual(self.marked(page), {("Grace", 5), ("Grace", 6)})
-            self.assertIn("<li>\u2713 = promised: swaps and later plans keep it</li>", page_text(page))
+            self.assertIn(
+                "<li>\u2713 = promised: swaps and later plans keep it</li>", page_text(page)
+            )
         self.assertNotIn("\u2713", page_text(pages.roster_content(self.ward, self.plan)))
 
     def test_a_promise_that_the_plan_does_not_keep_has_no_mark(self):
-        plan = self.promising(FRIDAY).with_cells(cell for cell in self.plan.cells if (cell.nurse, cell.day) != ("Grace", 4))
+        plan = self.promising(FRIDAY).with_cells(
+            cell for cell in self.plan.cells if (cell.nurse, cell.day) != ("Grace", 4)
+        )
         self.assertEqual(self.marked(pages.roster_content(self.ward, plan)), set())
 
     def test_promises_of_the_spreadsheet_are_marked_too(self):
@@ -209,11 +269,17 @@ class Files(PromiseTest):
     def test_the_file_of_a_plan_has_the_promised_shift(self):
         self.does("set", "Grace", "Sat", "Day", "asked", "for", "--do")
         path = self.last() / "plan.json"
-        self.assertEqual(json.loads(path.read_text())["set days"], [["Grace", 5, "asked for", "Day", "Nurse"]])
-        self.assertEqual(read_record(self.last()).set_days, (SetDay("Grace", 5, "asked for", "Day", "Nurse"),))
+        self.assertEqual(
+            json.loads(path.read_text())["set days"], [["Grace", 5, "asked for", "Day", "Nurse"]]
+        )
+        self.assertEqual(
+            read_record(self.last()).set_days, (SetDay("Grace", 5, "asked for", "Day", "Nurse"),)
+        )
         # An older version has kept nothing of the shift, which is that of the roster.
         path.write_text(path.read_text().replace(', "Day", "Nurse"]', "]"))
-        self.assertEqual(read_state(self.last()).set_days, (SetDay("Grace", 5, "asked for", "Day", "Nurse"),))
+        self.assertEqual(
+            read_state(self.last()).set_days, (SetDay("Grace", 5, "asked for", "Day", "Nurse"),)
+        )
 
 
 def searched(old, asked, progress):
@@ -229,7 +295,9 @@ class Sequences(PromiseTest):
 
     def setUp(self):
         super().setUp()
-        self.verbs = Verbs(WardFolder(self.ward), Means(read_sheet, Progress(None), lambda line: None))
+        self.verbs = Verbs(
+            WardFolder(self.ward), Means(read_sheet, Progress(None), lambda line: None)
+        )
         self.promised, self.older, self.refused = {}, [], 0
         for where, name, made in (
             (verbs, "search_plan", searched),
@@ -254,12 +322,21 @@ class Sequences(PromiseTest):
         """The words of a verb, and what is promised after it, if it writes something."""
         nurse, other = chance.sample([*self.plan.scenario.nurses], 2)
         day = self.head(chance.randrange(first, 14))
-        kind = chance.choice(["set"] * 5 + ["swap"] * 5 + ["ill", "back", "back", "plan", "undo", "undo", "take back", "take back"])
+        kind = chance.choice(
+            ["set"] * 5
+            + ["swap"] * 5
+            + ["ill", "back", "back", "plan", "undo", "undo", "take back", "take back"]
+        )
         if kind == "set":
             return ("set", nurse, day, chance.choice(["off", "Day", "Late", "Night"]))
         if kind == "swap":
             place = chance.choice([NurseDay(nurse, self.plan.days.number(day, 0)), *self.promised])
-            return ("swap", place.nurse, self.head(place.day), other if other != place.nurse else nurse)
+            return (
+                "swap",
+                place.nurse,
+                self.head(place.day),
+                other if other != place.nurse else nurse,
+            )
         if kind == "take back" and self.promised:
             place = chance.choice([*self.promised])
             return ("set", place.nurse, self.head(place.day), "back")
@@ -270,7 +347,9 @@ class Sequences(PromiseTest):
     def check(self, words):
         """What is promised is in the plan, unless the nurse is away, and no swap that is offered moves it."""
         plan = self.verbs.current()
-        self.assertEqual({place: one.cell for place, one in plan.state.promised.items()}, self.promised, words)
+        self.assertEqual(
+            {place: one.cell for place, one in plan.state.promised.items()}, self.promised, words
+        )
         for place, cell in self.promised.items():
             if plan.away.get(place, "off") == "off":
                 self.assertEqual(plan.works.get(place), cell, (words, place))
@@ -278,7 +357,9 @@ class Sequences(PromiseTest):
     def does_next(self, words):
         """Does a verb, and keeps count of what should be promised."""
         before, stack = dict(self.promised), [*self.older]
-        place = NurseDay(words[1], self.plan.days.number(words[2], 0)) if words[0] == "set" else None
+        place = (
+            NurseDay(words[1], self.plan.days.number(words[2], 0)) if words[0] == "set" else None
+        )
         outcome = self.done(*words)
         if outcome is None or not outcome.is_written:
             self.refused += any(fault.promise for fault in getattr(outcome, "faults", ()))
@@ -305,7 +386,11 @@ class Sequences(PromiseTest):
         self.assertGreater(self.refused, 2)
 
     def test_the_end_of_a_week_ends_its_promises_and_undo_brings_them_back(self):
-        for words in (("set", "Grace", self.head(5), "Day"), ("set", "Grace", self.head(7), "off"), ("ill", "Grace", self.head(5))):
+        for words in (
+            ("set", "Grace", self.head(5), "Day"),
+            ("set", "Grace", self.head(7), "off"),
+            ("ill", "Grace", self.head(5)),
+        ):
             self.does_next(words)
         both = dict(self.promised)
         self.done("over")
@@ -327,7 +412,10 @@ class Searches(PromiseTest):
         # Finn has Late on Saturday.
         status, printed, _ = run("plan", self.ward, "swap", "Grace", "Sat", "Finn", "--do")
         self.assertEqual(status, 6)
-        self.assertIn("not possible: Grace is promised Day Nurse on Sat 5 Dec: take that back first, ", printed)
+        self.assertIn(
+            "not possible: Grace is promised Day Nurse on Sat 5 Dec: take that back first, ",
+            printed,
+        )
         self.assertNotIn("Grace takes it", self.does("swap", "Finn", "Sat"))
         for words, kept in (
             (("plan",), True),
@@ -339,9 +427,14 @@ class Searches(PromiseTest):
             with self.subTest(words):
                 self.does(*words)
                 self.assertEqual(self.cells().get(saturday), ("Day", "Nurse") if kept else None)
-                self.assertEqual([one.place for one in read_state(self.last()).set_days], [saturday])
+                self.assertEqual(
+                    [one.place for one in read_state(self.last()).set_days], [saturday]
+                )
         self.does("undo")
-        self.assertIn("swaps and later plans may change it again", self.does("set", "Grace", "Sat", "back", "--do"))
+        self.assertIn(
+            "swaps and later plans may change it again",
+            self.does("set", "Grace", "Sat", "back", "--do"),
+        )
         self.assertEqual(read_state(self.last()).set_days, ())
 
 

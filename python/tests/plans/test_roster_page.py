@@ -33,7 +33,9 @@ class Stops(HTMLParser):
         # A closed fold hides all but its summary.
         hidden = any(self._folded[:-1] if tag == "summary" else self._folded)
         is_stop = (
-            tag in ("button", "select", "summary") or (tag == "a" and "href" in words) or (tag == "input" and words["type"] != "hidden")
+            tag in ("button", "select", "summary")
+            or (tag == "a" and "href" in words)
+            or (tag == "input" and words["type"] != "hidden")
         )
         if is_stop and not hidden and words.get("tabindex") != "-1":
             self.stops.append(tag)
@@ -62,7 +64,10 @@ class Roster(ServedPage):
                 for name, value in re.findall('type="hidden" name="([^"]*)" value="([^"]*)"', form)
             }
             for attributes, text in re.findall("<button([^>]*)>([^<]*)</button>", form):
-                found[html.unescape(text)] = {**fields, **dict(re.findall('name="([^"]*)" value="([^"]*)"', attributes))}
+                found[html.unescape(text)] = {
+                    **fields,
+                    **dict(re.findall('name="([^"]*)" value="([^"]*)"', attributes)),
+                }
         return found
 
     def test_the_roster_comes_first_and_nothing_is_chosen(self):
@@ -94,30 +99,49 @@ class Roster(ServedPage):
         buttons = self.buttons(page)
         self.assertIn("+120  Ewa takes it", buttons)
         self.assertEqual(
-            {**buttons["ill"], "stamp": ""}, {"verb": "away", "nurse": "Chen", "first": DATES[4], "stamp": "", "reason": "ill"}
+            {**buttons["ill"], "stamp": ""},
+            {"verb": "away", "nurse": "Chen", "first": DATES[4], "stamp": "", "reason": "ill"},
         )
-        self.assertEqual(buttons["+0  Night Nurse, as now, and later plans keep it"]["shift"], "Night/Nurse")
+        self.assertEqual(
+            buttons["+0  Night Nurse, as now, and later plans keep it"]["shift"], "Night/Nurse"
+        )
         self.assertRegex(page, "<li>off, promised: [^<]*Night Nurse[^<]*")
         # Grace's Day is above the minimum, so she may be promised the day off.
         buttons = self.buttons(self.cell("Grace", 4))
         off = next(text for text in buttons if text.endswith("  off, promised"))
         self.assertRegex(off, r"^\+[0-9]+  off, promised$")
-        self.assertEqual({**buttons[off], "stamp": ""}, {"verb": "set", "nurse": "Grace", "first": DATES[4], "shift": "off", "stamp": ""})
+        self.assertEqual(
+            {**buttons[off], "stamp": ""},
+            {"verb": "set", "nurse": "Grace", "first": DATES[4], "shift": "off", "stamp": ""},
+        )
 
     def test_one_question_and_one_yes(self):
-        fields = next(fields for text, fields in self.buttons(self.cell("Grace", 4)).items() if text.endswith("  off, promised"))
+        fields = next(
+            fields
+            for text, fields in self.buttons(self.cell("Grace", 4)).items()
+            if text.endswith("  off, promised")
+        )
         before = self.jobs.folder.stamp
         page = html.unescape(self.asks("POST", form=urlencode(fields))[1])
-        self.assertIn("<h2>A nurse has another shift: nurse Grace, day Fri 4 Dec, shift off?</h2>", page)
+        self.assertIn(
+            "<h2>A nurse has another shift: nurse Grace, day Fri 4 Dec, shift off?</h2>", page
+        )
         self.assertIn("Grace, Fri 4 Dec: off instead of Day Nurse", page)
         self.assertRegex(page, r"\+[0-9]+  in all: [0-9]+ points instead of [0-9]+")
         self.assertEqual((page.count("Yes, write it"), self.jobs.folder.stamp), (1, before))
         # What would break a rule is refused with the rule, before any question.
-        self.asks("POST", form=urlencode({"verb": "set", "nurse": "Finn", "first": DATES[0], "shift": "Night"}))
+        self.asks(
+            "POST",
+            form=urlencode({"verb": "set", "nurse": "Finn", "first": DATES[0], "shift": "Night"}),
+        )
         self.assertRegex(self.asks()[1], 'class="fault">not possible: Finn never works Night')
 
     def test_what_was_written_is_taken_back_where_it_is_seen(self):
-        fields = next(fields for text, fields in self.buttons(self.cell("Grace", 4)).items() if text.endswith("  off, promised"))
+        fields = next(
+            fields
+            for text, fields in self.buttons(self.cell("Grace", 4)).items()
+            if text.endswith("  off, promised")
+        )
         page = self.sends(**{name.replace(" ", "_"): value for name, value in fields.items()})
         self.assertIn("Take it back</button>", page)
         buttons = self.buttons(self.cell("Grace", 4))
@@ -125,12 +149,20 @@ class Roster(ServedPage):
         back = buttons["what was promised for this day: swaps and later plans may change it"]
         self.sends(**back)
         self.assertNotIn("what was promised", self.cell("Grace", 4))
-        text, swap = next((text, fields) for text, fields in self.buttons(self.cell("Chen", 4)).items() if " takes it" in text)
+        text, swap = next(
+            (text, fields)
+            for text, fields in self.buttons(self.cell("Chen", 4)).items()
+            if " takes it" in text
+        )
         cells = self.cells()
         self.sends(**{name.replace(" ", "_"): value for name, value in swap.items()})
         self.assertNotEqual(self.cells(), cells)
         for nurse in ("Chen", swap["other"]):
-            back = next(fields for text, fields in self.buttons(self.cell(nurse, 4)).items() if text.startswith("the swap with "))
+            back = next(
+                fields
+                for text, fields in self.buttons(self.cell(nurse, 4)).items()
+                if text.startswith("the swap with ")
+            )
         page = self.sends(**{name.replace(" ", "_"): value for name, value in back.items()})
         self.assertIn("this takes their swap back", page)
         self.assertEqual(self.cells(), cells)
@@ -146,10 +178,14 @@ class Roster(ServedPage):
         self.assertNotIn("ill", buttons)
 
     def test_the_question_of_a_week_says_what_its_corrections_are(self):
-        page = html.unescape(self.asks("POST", form="verb=over&corrections=Chen+Fri+ill,+Grace+Thu+off")[1])
+        page = html.unescape(
+            self.asks("POST", form="verb=over&corrections=Chen+Fri+ill,+Grace+Thu+off")[1]
+        )
         self.assertIn("Chen, Fri 4 Dec: ill instead of Night Nurse\n", page)
         self.assertIn("Grace, Thu 3 Dec: off instead of Day Nurse\n", page)
-        self.assertIn("as it was planned</pre>", self.asks("POST", form="verb=over&corrections=")[1])
+        self.assertIn(
+            "as it was planned</pre>", self.asks("POST", form="verb=over&corrections=")[1]
+        )
 
     def test_what_exceeds_a_maximum_that_holds_is_written_only_all_the_same(self):
         # Full contracts have at most ten shifts, and Bruno has ten; he worked on Saturday too.
@@ -159,10 +195,20 @@ class Roster(ServedPage):
         page = self.sends(verb="over", corrections="Bruno Sat Late")
         self.assertIn("Bruno has 11 shifts of at most 10", page)
         self.assertEqual(self.stamp, before)
-        form = next(form for form in re.findall("<form.*?</form>", page, re.S) if "Write it all the same" in form)
-        fields = {html.unescape(name): html.unescape(value) for name, value in re.findall('name="([^"]*)" value="([^"]*)"', form)}
+        form = next(
+            form
+            for form in re.findall("<form.*?</form>", page, re.S)
+            if "Write it all the same" in form
+        )
+        fields = {
+            html.unescape(name): html.unescape(value)
+            for name, value in re.findall('name="([^"]*)" value="([^"]*)"', form)
+        }
         self.assertEqual((fields["verb"], fields["corrections"]), ("over", "Bruno Sat Late"))
-        self.assertIn("week 1 (calendar week 49) is over", self.sends(**{name.replace(" ", "_"): value for name, value in fields.items()}))
+        self.assertIn(
+            "week 1 (calendar week 49) is over",
+            self.sends(**{name.replace(" ", "_"): value for name, value in fields.items()}),
+        )
 
     def test_a_page_without_its_script_has_none(self):
         self.assertNotIn("<script", self.cell("Chen", 4))
@@ -201,7 +247,10 @@ class Read(ServedPage):
             thread.join()
         self.assertEqual(self.number, 1)
         # Neither does a click, a question or another page read it again.
-        for words in ({"path": f"{self.site.path}?nurse=Chen&day=4"}, {"path": f"{self.site.path}wall"}):
+        for words in (
+            {"path": f"{self.site.path}?nurse=Chen&day=4"},
+            {"path": f"{self.site.path}wall"},
+        ):
             self.assertEqual(self.asks(**words)[0], 200)
         self.asks("POST", form=f"verb=away&nurse=Chen&first={DATES[4]}&reason=ill")
         self.assertEqual(self.number, 1)
@@ -216,7 +265,10 @@ class Read(ServedPage):
         path = self.last() / "plan.json"
         text = path.read_text()
         path.write_text("{")
-        self.assertIn("this line was changed, and is no JSON any more: correct it, or type undo", self.asks()[1])
+        self.assertIn(
+            "this line was changed, and is no JSON any more: correct it, or type undo",
+            self.asks()[1],
+        )
         path.write_text(text)
         self.assertIn("<table", self.asks()[1])
 

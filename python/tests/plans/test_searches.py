@@ -36,7 +36,13 @@ class WithoutPlan(KeptTest):
         """Grace and Chen have agreed on Monday."""
         state = replace(self.plan.state, agreed=(NurseDay("Grace", 0), NurseDay("Chen", 0)))
         now = datetime.datetime(2026, 11, 28, 12, 30)
-        WardFolder(self.ward).add("swap", plan_texts(self.plan.with_state(state), state.record("swap Grace Chen 2026-11-30", now)), now)
+        WardFolder(self.ward).add(
+            "swap",
+            plan_texts(
+                self.plan.with_state(state), state.record("swap Grace Chen 2026-11-30", now)
+            ),
+            now,
+        )
 
     def test_who_stops_a_search_waits_for_no_other_one(self):
         for agree in (lambda: None, self.agree):
@@ -54,7 +60,10 @@ class WithoutPlan(KeptTest):
         for weeks in ("week 2 (calendar week 50)", "weeks 1 and 2 (calendar weeks 49 and 50)"):
             self.write()
             said = self.ended(Stopped(NO_ROSTER, "stopped before the first plan"))[2]
-            self.assertIn(f"warning: sheet needs, {weeks}: Day Charge on Wed: at least 4 are needed, and 3 nurses have the skill: ", said)
+            self.assertIn(
+                f"warning: sheet needs, {weeks}: Day Charge on Wed: at least 4 are needed, and 3 nurses have the skill: ",
+                said,
+            )
             of_all[5] = "4"
 
     def test_the_words_of_a_fault_stop_nothing(self):
@@ -94,7 +103,9 @@ class WithoutPlan(KeptTest):
         owners = (Owner("Amara", True, "is away"), Owner("Bruno", False, "works Late on this day"), Owner("Ewa", True, "is away"),
                   Owner("Chen", False, ""))  # fmt: skip
         place = ShortPlace(Place(2, "Day", "Charge"), 1, 0, owners, True)
-        status, printed, _ = self.ended(ProgramFault(NO_ROSTER, LATE), why=(1, Shortage((place,), (), True, True)))
+        status, printed, _ = self.ended(
+            ProgramFault(NO_ROSTER, LATE), why=(1, Shortage((place,), (), True, True))
+        )
         self.assertEqual(status, 5)
         self.assertEqual(printed.splitlines(), [
             "week 2 (calendar week 50): No roster meets all minimum numbers, and keeps every absence. Lower these by 1 in all; no roster can do with less:",

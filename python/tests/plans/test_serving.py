@@ -40,7 +40,20 @@ class Proxy(ServedPage):
         super().setUp()
         self.write_plan()
         certificate, key = self.folder / "ward.pem", self.folder / "ward.key"
-        words = ("-x509", "-newkey", "rsa:2048", "-nodes", "-days", "2", "-subj", "/CN=ward.example", "-out", certificate, "-keyout", key)
+        words = (
+            "-x509",
+            "-newkey",
+            "rsa:2048",
+            "-nodes",
+            "-days",
+            "2",
+            "-subj",
+            "/CN=ward.example",
+            "-out",
+            certificate,
+            "-keyout",
+            key,
+        )
         subprocess.run(["openssl", "req", *map(str, words)], check=True, capture_output=True)
         self.log = self.folder / "ward.log"
         site = block("nginx")
@@ -57,12 +70,17 @@ class Proxy(ServedPage):
             (self.folder / name).mkdir()
         settings = self.folder / "nginx.conf"
         rooms = f"client_body_temp_path {self.folder}/body; proxy_temp_path {self.folder}/proxy;"
-        others = " ".join(f"{name}_temp_path {self.folder}/{name};" for name in ("fastcgi", "uwsgi", "scgi"))
+        others = " ".join(
+            f"{name}_temp_path {self.folder}/{name};" for name in ("fastcgi", "uwsgi", "scgi")
+        )
         user = "user root;\n" if os.geteuid() == 0 else ""
         settings.write_text(
             f"{user}pid {self.folder}/pid;\ndaemon off;\nevents {{}}\nhttp {{\naccess_log off;\n{rooms} {others}\n{site}}}\n"
         )
-        proxy = subprocess.Popen([NGINX, "-e", str(self.log), "-p", str(self.folder), "-c", str(settings)], stderr=subprocess.DEVNULL)
+        proxy = subprocess.Popen(
+            [NGINX, "-e", str(self.log), "-p", str(self.folder), "-c", str(settings)],
+            stderr=subprocess.DEVNULL,
+        )
         self.addCleanup(proxy.wait)
         self.addCleanup(proxy.terminate)
         self.waits_for(self.is_open)
@@ -79,9 +97,16 @@ class Proxy(ServedPage):
         """The status of an answer of the proxy, and where it leads."""
         context = ssl.create_default_context()
         context.check_hostname, context.verify_mode = False, ssl.CERT_NONE
-        connection = http.client.HTTPSConnection("127.0.0.1", self.port, timeout=ENOUGH, context=context)
+        connection = http.client.HTTPSConnection(
+            "127.0.0.1", self.port, timeout=ENOUGH, context=context
+        )
         kind = {"Content-Type": "application/x-www-form-urlencoded"} if body else {}
-        connection.request(method, path or self.site.path, body, {"Host": f"ward.example:{self.port}", **kind, **headers})
+        connection.request(
+            method,
+            path or self.site.path,
+            body,
+            {"Host": f"ward.example:{self.port}", **kind, **headers},
+        )
         answer = connection.getresponse()
         answer.read()
         connection.close()
@@ -94,7 +119,11 @@ class Proxy(ServedPage):
         form = f"verb=undo&stamp={self.stamp}"
         led = self.status("POST", body=form, Origin=self.origin)
         self.assertTrue(led[0] == 303 and led[1].startswith(f"{self.site.path}?verb=undo"), led)
-        for headers in ({"Origin": "https://evil.example"}, {"Host": "evil.example"}, {"Origin": f"http://{self.site.netloc}"}):
+        for headers in (
+            {"Origin": "https://evil.example"},
+            {"Host": "evil.example"},
+            {"Origin": f"http://{self.site.netloc}"},
+        ):
             self.assertEqual(self.status("POST", body=form, **headers)[0], 403)
         self.assertEqual(self.status("POST", body="a" * 20_000)[0], 413)
         # Without the proxy nobody gets in by the name of the machine itself.
@@ -106,10 +135,16 @@ class Proxy(ServedPage):
 @unittest.skipUnless(shutil.which("systemd-analyze"), "systemd-analyze is not installed")
 class Unit(ServedPage):
     def test_the_unit_of_systemd(self):
-        unit = block("ini").replace("/usr/bin/inrc2pb-plan", str(HELPERS / "inrc2pb-plan")).replace("User=ward", "User=root")
+        unit = (
+            block("ini")
+            .replace("/usr/bin/inrc2pb-plan", str(HELPERS / "inrc2pb-plan"))
+            .replace("User=ward", "User=root")
+        )
         path = Path(self.folder) / "inrc2pb-ward.service"
         path.write_text(unit)
-        ran = subprocess.run(["systemd-analyze", "verify", "--man=no", str(path)], capture_output=True, text=True)
+        ran = subprocess.run(
+            ["systemd-analyze", "verify", "--man=no", str(path)], capture_output=True, text=True
+        )
         said = [line for line in ran.stderr.splitlines() if "inrc2pb-ward" in line]
         self.assertEqual((ran.returncode, said), (0, []), ran.stderr)
 

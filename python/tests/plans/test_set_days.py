@@ -35,15 +35,27 @@ class Asked(SetTest):
         # Grace works Day from Monday to Friday, and 10 of at least 17 shifts. Saturday is a sixth day of work (30), of Day (15) and half a
         # weekend (30), leaves one day off (30), and is a shift less below her minimum (20). Its place has the best number without her.
         found = self.asked("Grace", "Sat", "Day", "she", "asked", "for", "it")
-        self.assertEqual((type(found), found.status, found.is_written), (DaySet, Status.DONE, False))
-        self.assertEqual((found.place, found.now), (NurseDay("Grace", 5), Cell("Grace", 5, "Day", "Nurse")))
-        self.assertEqual(found.new.state.set_days, (SetDay("Grace", 5, "she asked for it", "Day", "Nurse"),))
+        self.assertEqual(
+            (type(found), found.status, found.is_written), (DaySet, Status.DONE, False)
+        )
+        self.assertEqual(
+            (found.place, found.now), (NurseDay("Grace", 5), Cell("Grace", 5, "Day", "Nurse"))
+        )
+        self.assertEqual(
+            found.new.state.set_days, (SetDay("Grace", 5, "she asked for it", "Day", "Nurse"),)
+        )
         self.assertEqual(Swaps(found.old).day_cost(found.place, found.now), 30 + 15 + 30 + 30 - 20)
-        self.assertEqual({one for one in found.new.works.items() if one not in found.old.works.items()}, {(found.place, found.now)})
+        self.assertEqual(
+            {one for one in found.new.works.items() if one not in found.old.works.items()},
+            {(found.place, found.now)},
+        )
         said = lines(found, WRITE)
         self.assertIn("Grace, Sat 5 Dec: Day Nurse instead of off", said)
         self.assertIn("1 nurse to call: Grace", said)
-        self.assertIn("Grace, Sat 5 Dec: Day Nurse (she asked for it): swaps and later plans keep it, until it is taken back", said)
+        self.assertIn(
+            "Grace, Sat 5 Dec: Day Nurse (she asked for it): swaps and later plans keep it, until it is taken back",
+            said,
+        )
         self.assertIn(f"nothing is written: {WRITE}", said)
         before, now = (plan.view().penalty for plan in (found.old, found.new))
         self.assertEqual(now - before, 85)
@@ -53,7 +65,10 @@ class Asked(SetTest):
         for nurse, day, shift in (("Bruno", 0, None), ("Grace", 0, None), ("Chen", 1, "Day"), ("Ewa", 0, "Late"), ("Amara", 12, "Late"),
                                   ("Dilek", 3, "Late"), ("Grace", 4, "Late"), ("Grace", 6, "Night")):  # fmt: skip
             place, now = NurseDay(nurse, day), Cell(nurse, day, shift, "Nurse") if shift else None
-            cells = [*(cell for one, cell in plan.works.items() if one != place), *([now] if now else [])]
+            cells = [
+                *(cell for one, cell in plan.works.items() if one != place),
+                *([now] if now else []),
+            ]
             before, after = plan.view().penalty, plan.with_cells(cells).view().penalty
             if after is not None:
                 tried += 1
@@ -65,13 +80,20 @@ class Asked(SetTest):
         found = self.asked("Grace", "Mon", "off")
         self.assertEqual((found.now, found.faults), (None, ()))
         self.assertEqual({one.swap.nurse for one in found.instead}, {"Grace"})
-        self.assertEqual(sorted(one.cost for one in found.instead), [one.cost for one in found.instead])
+        self.assertEqual(
+            sorted(one.cost for one in found.instead), [one.cost for one in found.instead]
+        )
         said = lines(found, WRITE)
         self.assertIn("Grace, Mon 30 Nov: off instead of Day Nurse", said)
         self.assertIn("other ways, and what they add to the points:", said)
         self.assertEqual(said[-1], "with the name of one of them: swap Grace 2026-11-30 NAME")
         # On Friday Finn has Late.
-        self.assertTrue(any(line.endswith("Finn takes it, in exchange for Late on Fri 4 Dec") for line in self.said("Grace", "Fri", "off")))
+        self.assertTrue(
+            any(
+                line.endswith("Finn takes it, in exchange for Late on Fri 4 Dec")
+                for line in self.said("Grace", "Fri", "off")
+            )
+        )
 
     def test_a_place_below_its_minimum(self):
         # Only Dilek has Night on Monday.
@@ -97,29 +119,49 @@ class Asked(SetTest):
             ("Bruno Sat Day/Nurse", Kind.LIMIT, "Bruno"),
         ):
             with self.subTest(words):
-                self.assertIn((kind, nurse), [(one.kind, one.nurse) for one in self.asked(*words.split(), do=True).faults])
+                self.assertIn(
+                    (kind, nurse),
+                    [(one.kind, one.nurse) for one in self.asked(*words.split(), do=True).faults],
+                )
                 self.assertEqual(self.said(*words.split())[0][:14], "not possible: ")
 
     def test_who_else_could_have_a_shift(self):
         # Finn has Late on Friday. Amara is off then, and has Day on Saturday; Ewa comes from a night.
         found = self.asked("Grace", "Fri", "Late")
-        self.assertEqual([(one.nurse, one.swap) for one in found.instead], [("Finn", Swap("Grace", "Finn", (4,)))])
+        self.assertEqual(
+            [(one.nurse, one.swap) for one in found.instead],
+            [("Finn", Swap("Grace", "Finn", (4,)))],
+        )
         *_, way, typed = lines(found, WRITE)
         self.assertEqual(way[6:], " Grace swaps with Finn, who has Late Nurse then")
         self.assertEqual(typed, "with the name of one of them: swap Grace 2026-12-04 NAME")
         # On Monday both are off, and have no Day on Tuesday.
         found = self.asked("Grace", "Mon", "Late")
-        self.assertEqual({one.nurse: one.swap for one in found.instead}, {"Chen": None, "Ewa": None})
+        self.assertEqual(
+            {one.nurse: one.swap for one in found.instead}, {"Chen": None, "Ewa": None}
+        )
         self.assertIn("  +25  Ewa instead of Grace", lines(found, WRITE))
 
     def test_words_that_are_wrong(self):
         for words, says in (
             ("Grace Mon Day/Charge", "'Charge' is no skill of hers: write one of Nurse"),
             ("Grace Mon Nigth", "'Nigth' is no shift type: did you mean Night?"),
-            ("Grace Mon", "a shift type is missing: write, for example, set Amara Fri Day, or set Amara Fri off"),
-            ("Grace Mon back", "nothing is set for Grace on Mon 30 Nov: set it first, or type undo"),
-            ("Grace Mon back soon", "'soon' is a word too many: write, for example, set Amara Fri Day, or set Amara Fri off"),
-            ("Grace 2027-02-01 Day", "'2027-02-01' is not in this plan: it has the days 2026-11-30 to 2026-12-13"),
+            (
+                "Grace Mon",
+                "a shift type is missing: write, for example, set Amara Fri Day, or set Amara Fri off",
+            ),
+            (
+                "Grace Mon back",
+                "nothing is set for Grace on Mon 30 Nov: set it first, or type undo",
+            ),
+            (
+                "Grace Mon back soon",
+                "'soon' is a word too many: write, for example, set Amara Fri Day, or set Amara Fri off",
+            ),
+            (
+                "Grace 2027-02-01 Day",
+                "'2027-02-01' is not in this plan: it has the days 2026-11-30 to 2026-12-13",
+            ),
         ):
             with self.subTest(words), self.assertRaises(Misuse) as caught:
                 self.asked(*words.split())
@@ -137,13 +179,21 @@ class Written(SetTest):
         printed = self.set("Grace", "Sat", "Day", "asked", "for")
         self.assertIn("swaps and later plans keep it", printed)
         self.assertEqual(self.cells()["Grace", 5], ("Day", "Nurse"))
-        self.assertEqual(read_state(self.last()).set_days, (SetDay("Grace", 5, "asked for", "Day", "Nurse"),))
+        self.assertEqual(
+            read_state(self.last()).set_days, (SetDay("Grace", 5, "asked for", "Day", "Nurse"),)
+        )
         self.assertEqual(read_record(self.last()).verb, "set Grace 2026-12-05 Day")
         status, _, said = run("plan", self.ward, "set", "Grace", "Sat", "Day", "asked", "for")
-        self.assertEqual((status, said.split(": ")[2]), (1, "set Grace 2026-12-05 back takes that back\n"))
-        says = "Grace, Sat 5 Dec: Day Nurse (asked for): swaps and later plans may change it again\n"
+        self.assertEqual(
+            (status, said.split(": ")[2]), (1, "set Grace 2026-12-05 back takes that back\n")
+        )
+        says = (
+            "Grace, Sat 5 Dec: Day Nurse (asked for): swaps and later plans may change it again\n"
+        )
         self.assertIn(says, self.set("Grace", "Sat", "back"))
-        self.assertEqual((read_state(self.last()).set_days, self.cells()["Grace", 5]), ((), ("Day", "Nurse")))
+        self.assertEqual(
+            (read_state(self.last()).set_days, self.cells()["Grace", 5]), ((), ("Day", "Nurse"))
+        )
 
     def test_what_cannot_be_is_not_written(self):
         before = self.last()
@@ -158,14 +208,18 @@ class Written(SetTest):
         self.assertIn("1 nurse to call: Grace", self.set("Grace", "Fri", "off"))
         self.does("over")
         history = (self.last() / "history-1.txt").read_text()
-        self.assertEqual(next(line.split()[1] for line in history.splitlines() if line.startswith("Grace ")), "5")
+        self.assertEqual(
+            next(line.split()[1] for line in history.splitlines() if line.startswith("Grace ")), "5"
+        )
         self.assertEqual(read_state(self.last()).set_days, ())
 
     def test_a_day_of_a_week_that_is_over(self):
         self.does("over")
         status, _, said = run("plan", self.ward, "set", "Grace", "2026-12-01", "off")
         cure = "the plan goes on from Mon 7 Dec; undo takes the end of that week back"
-        self.assertEqual((status, said), (1, f"inrc2pb-plan: Tue 1 Dec is in a week that is over: {cure}\n"))
+        self.assertEqual(
+            (status, said), (1, f"inrc2pb-plan: Tue 1 Dec is in a week that is over: {cure}\n")
+        )
 
     def test_the_file_of_an_older_version(self):
         path = self.last() / "plan.json"
@@ -188,16 +242,25 @@ class Kept(SetTest):
             with self.subTest(words):
                 self.does(*words)
                 cells = self.cells()
-                self.assertEqual((cells.get(("Grace", 5)), cells.get(("Grace", 7))), (("Day", "Nurse"), None))
-                self.assertEqual([one.place for one in read_state(self.last()).set_days], [("Grace", 5), ("Grace", 7)])
+                self.assertEqual(
+                    (cells.get(("Grace", 5)), cells.get(("Grace", 7))), (("Day", "Nurse"), None)
+                )
+                self.assertEqual(
+                    [one.place for one in read_state(self.last()).set_days],
+                    [("Grace", 5), ("Grace", 7)],
+                )
 
     def test_an_illness_on_its_day_is_named(self):
         self.does("set", "Grace", "Sat", "Day", "--do")
         printed = self.does("ill", "Grace", "Sat")
-        self.assertIn("this breaks a promise: Grace, Sat 5 Dec: ill, promised was Day Nurse\n", printed)
+        self.assertIn(
+            "this breaks a promise: Grace, Sat 5 Dec: ill, promised was Day Nurse\n", printed
+        )
         # The promise stays below the illness: she has the shift again if she is back.
         self.assertEqual([one.place for one in read_state(self.last()).set_days], [("Grace", 5)])
-        self.assertIn("Grace, Sat 5 Dec: Day Nurse instead of ill\n", self.does("back", "Grace", "Sat"))
+        self.assertIn(
+            "Grace, Sat 5 Dec: Day Nurse instead of ill\n", self.does("back", "Grace", "Sat")
+        )
         self.assertEqual(self.cells()["Grace", 5], ("Day", "Nurse"))
 
 
@@ -206,16 +269,24 @@ class Promised(KeptTest):
         self.rows["plan"][7][4] = "off"
         self.write()
         plan = self.read()
-        self.assertEqual({one: word for one, word in plan.away.items() if word == "promised"}, {NurseDay("Grace", 3): "promised"})
+        self.assertEqual(
+            {one: word for one, word in plan.away.items() if word == "promised"},
+            {NurseDay("Grace", 3): "promised"},
+        )
         # It takes no shifts from her, and a plan keeps it as an absence.
         self.assertEqual((plan.ward.credit, plan.ward.reasons), ({}, {}))
-        self.assertEqual([(one.kind, one.day) for one in Swaps(plan).faults(Swap("Grace", "Dilek", (3,)))][:1], [(Kind.AWAY, 3)])
+        self.assertEqual(
+            [(one.kind, one.day) for one in Swaps(plan).faults(Swap("Grace", "Dilek", (3,)))][:1],
+            [(Kind.AWAY, 3)],
+        )
         _, printed, _ = run("plan", self.ward, "check")
         self.assertIn("Promised days off: Grace on Thu 3 Dec.\n", printed)
         self.assertNotIn("Always off", printed)
         status, _, said = run("plan", self.ward, "back", "Grace", "Thu")
         promised = "the sheet plan promises her this day off: empty her cell to change that"
-        self.assertEqual((status, said), (1, f"inrc2pb-plan: Grace is not away on Thu 3 Dec: {promised}\n"))
+        self.assertEqual(
+            (status, said), (1, f"inrc2pb-plan: Grace is not away on Thu 3 Dec: {promised}\n")
+        )
 
 
 if __name__ == "__main__":

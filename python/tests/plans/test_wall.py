@@ -27,7 +27,15 @@ class Paper(FolderTest):
         super().setUp()
         dates = [str(MONDAY + datetime.timedelta(days=day)) for day in range(28)]
         self.rows["nurses"][1:] = [
-            [name, "Full", "Charge, Nurse", "", "Sat, Sun" if name == "Ruth Stein" else "", *[""] * 6] for name in NAMES
+            [
+                name,
+                "Full",
+                "Charge, Nurse",
+                "",
+                "Sat, Sun" if name == "Ruth Stein" else "",
+                *[""] * 6,
+            ]
+            for name in NAMES
         ]
         self.rows["plan"] = [["nurse", *dates], *([name, *[""] * 28] for name in NAMES)]
         self.rows["plan"][1][1:4] = ["leave"] * 3
@@ -39,7 +47,9 @@ class Paper(FolderTest):
             Cell(name.replace(" ", "_"), day, shifts[number % 3], "Nurse")
             for number, name in enumerate(NAMES)
             for day in range(28)
-            if (number + day) % 7 < 4 and not (number == 0 and day < 3) and not (name == "Ruth Stein" and day % 7 > 4)
+            if (number + day) % 7 < 4
+            and not (number == 0 and day < 3)
+            and not (name == "Ruth Stein" and day % 7 > 4)
         ]
         plan = first_plan(read_sheet(self.ward, None, ())).with_cells(cells)
         write_pages(self.ward, plan.with_state(replace(plan.state, published=True)), "stamp", 0, {})
@@ -52,14 +62,30 @@ class Paper(FolderTest):
     def test_who_never_works_on_a_day_is_not_away_on_it(self):
         rows = dict(re.findall('<tr><th scope="row">([^<]*)</th>(.*?)</tr>', self.wall))
         self.assertEqual(
-            {name: row.count(">away<") for name, row in rows.items() if "away" in row and ">away<" in row}, {"Brigitte Huber": 3}
+            {
+                name: row.count(">away<")
+                for name, row in rows.items()
+                if "away" in row and ">away<" in row
+            },
+            {"Brigitte Huber": 3},
         )
 
     @unittest.skipUnless(shutil.which("chromium"), "chromium is not installed")
     def test_twenty_two_full_names_and_their_legend_are_on_one_sheet(self):
         target = self.folder / "wall.pdf"
-        words = ("--headless", "--no-sandbox", "--disable-gpu", f"--user-data-dir={self.folder}/chromium", f"--print-to-pdf={target}")
-        subprocess.run(["chromium", *words, (self.ward / "wall.html").as_uri()], check=True, capture_output=True, timeout=120)
+        words = (
+            "--headless",
+            "--no-sandbox",
+            "--disable-gpu",
+            f"--user-data-dir={self.folder}/chromium",
+            f"--print-to-pdf={target}",
+        )
+        subprocess.run(
+            ["chromium", *words, (self.ward / "wall.html").as_uri()],
+            check=True,
+            capture_output=True,
+            timeout=120,
+        )
         self.assertEqual(len(re.findall(rb"/Type\s*/Page\b(?!s)", target.read_bytes())), 1)
 
 
@@ -69,7 +95,10 @@ class Changes(FolderPages):
     def marks(self, name):
         """The number of marks in the table of a page, and whether its legend explains them."""
         text = (self.ward / name).read_text()
-        return text.split("</table>")[0].count(f">{CHANGED}<"), f"{CHANGED} = changed since the plan that was hung up before" in text
+        return (
+            text.split("</table>")[0].count(f">{CHANGED}<"),
+            f"{CHANGED} = changed since the plan that was hung up before" in text,
+        )
 
     def takes_a_shift(self):
         """A plan without the first shift of the one that holds."""
@@ -81,10 +110,15 @@ class Changes(FolderPages):
             self.takes_a_shift()
             self.assertEqual(self.marks("roster.html"), (0, False))
         self.said("page")
-        self.assertEqual((self.marks("roster.html"), self.marks("wall.html")), ((0, False), (0, False)))
+        self.assertEqual(
+            (self.marks("roster.html"), self.marks("wall.html")), ((0, False), (0, False))
+        )
         for number in (1, 2):
             self.takes_a_shift()
-            self.assertEqual((self.marks("roster.html"), self.marks("wall.html")), ((number, True), (number, True)))
+            self.assertEqual(
+                (self.marks("roster.html"), self.marks("wall.html")),
+                ((number, True), (number, True)),
+            )
         # The sheet that takes its place marks what is other on it.
         self.said("page")
         self.assertEqual(self.marks("wall.html"), (2, True))

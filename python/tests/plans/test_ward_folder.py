@@ -23,11 +23,21 @@ class Folders(FolderTest):
     def test_folders_that_are_no_ward(self):
         empty, missing = self.folder / "empty", self.folder / "missing"
         empty.mkdir()
-        self.assert_refused(f"{empty} has no spreadsheet: put the ward's .ods or .xlsx file into it", empty, "plan")
-        self.assert_refused(f"{missing} is no folder: give the folder that has the ward's spreadsheet", missing, "plan")
+        self.assert_refused(
+            f"{empty} has no spreadsheet: put the ward's .ods or .xlsx file into it", empty, "plan"
+        )
+        self.assert_refused(
+            f"{missing} is no folder: give the folder that has the ward's spreadsheet",
+            missing,
+            "plan",
+        )
         for name in ("one.ods", "two.xlsx"):
             (self.ward / name).touch()
-        self.assert_refused("has several spreadsheets, one.ods, two.xlsx: leave one of them in it", self.ward, "plan")
+        self.assert_refused(
+            "has several spreadsheets, one.ods, two.xlsx: leave one of them in it",
+            self.ward,
+            "plan",
+        )
         self.assertEqual(list(empty.iterdir()), [])
 
     def test_a_folder_that_cannot_be_written(self):
@@ -39,8 +49,13 @@ class Folders(FolderTest):
         self.last().rename(self.ward / "plans" / "9999-2026-11-28-1200-plan")
         for name in ("10000", "10001"):
             self.write_plan()
-            self.assertEqual([path.name.split("-")[0] for path in WardFolder(self.ward).all_plans()][-1], name)
-            self.assertEqual(WardFolder(self.ward).last(), WardFolder(self.ward).plans / f"{name}-2026-11-28-1200-plan")
+            self.assertEqual(
+                [path.name.split("-")[0] for path in WardFolder(self.ward).all_plans()][-1], name
+            )
+            self.assertEqual(
+                WardFolder(self.ward).last(),
+                WardFolder(self.ward).plans / f"{name}-2026-11-28-1200-plan",
+            )
         WardFolder(self.ward).undo()
         self.assertEqual(WardFolder(self.ward).stamp, "10000-2026-11-28-1200-plan")
 
@@ -56,12 +71,17 @@ class Waits(FolderTest):
             self.assertEqual(second.wait(timeout=ENOUGH), 1)
             said.seek(0)
             self.assertEqual(
-                said.read().splitlines()[1:], ["the other run has ended", f"inrc2pb-plan: {self.ward}: there is nothing to undo"]
+                said.read().splitlines()[1:],
+                ["the other run has ended", f"inrc2pb-plan: {self.ward}: there is nothing to undo"],
             )
 
     def begun(self, verb, said):
         """A run of this verb, as soon as it waits for another one."""
-        begun = subprocess.Popen([sys.executable, str(HELPERS / "inrc2pb-plan"), str(self.ward), verb], stderr=said, env=dict(os.environ))
+        begun = subprocess.Popen(
+            [sys.executable, str(HELPERS / "inrc2pb-plan"), str(self.ward), verb],
+            stderr=said,
+            env=dict(os.environ),
+        )
         self.addCleanup(begun.kill)
         line = f"another run works in {self.ward}: this one waits for its end, and its time begins then; Ctrl-C ends it\n"
         limit = time.monotonic() + ENOUGH
@@ -91,7 +111,9 @@ class Waits(FolderTest):
                 waited[0] = 86_400.0
                 yield
 
-        with mock.patch.object(time, "monotonic", lambda: real() + waited[0]), mock.patch.object(WardFolder, "locked", locked_after_a_day):
+        with mock.patch.object(time, "monotonic", lambda: real() + waited[0]), mock.patch.object(
+            WardFolder, "locked", locked_after_a_day
+        ):
             status, printed, said = self.runs("plan")
         self.assertEqual(status, 0, printed + said)
         # The first line of the search has the seconds since its begin.
@@ -107,18 +129,26 @@ class Disks(FolderTest):
 
     def assert_unchanged(self, before):
         self.assertEqual(self.texts(), before)
-        self.assertEqual([path.name for path in (self.ward / "plans").iterdir() if path.name[0] == "."], [])
+        self.assertEqual(
+            [path.name for path in (self.ward / "plans").iterdir() if path.name[0] == "."], []
+        )
 
     def test_a_full_disk(self):
         before = self.texts()
-        with mock.patch.object(ward_folder, "write_text", side_effect=OSError(errno.ENOSPC, "No space left on device")):
+        with mock.patch.object(
+            ward_folder, "write_text", side_effect=OSError(errno.ENOSPC, "No space left on device")
+        ):
             status, printed, said = run("plan", self.ward, "over")
         self.assertEqual((status, printed, said.count("\n")), (3, "", 1), said)
-        self.assertRegex(said, "plans/0002-.*-over: No space left on device: the disk is full: free some space")
+        self.assertRegex(
+            said, "plans/0002-.*-over: No space left on device: the disk is full: free some space"
+        )
         self.assert_unchanged(before)
 
     def test_a_disk_that_is_full_after_the_plan(self):
-        with mock.patch.object(pages, "write_own_text", side_effect=OSError(errno.ENOSPC, "No space left on device")):
+        with mock.patch.object(
+            pages, "write_own_text", side_effect=OSError(errno.ENOSPC, "No space left on device")
+        ):
             status, printed, _ = run("plan", self.ward, "over")
         self.assertEqual(status, 3)
         self.assertIn("the plan holds, but its pages are not written: ", printed)
@@ -126,7 +156,11 @@ class Disks(FolderTest):
 
     def test_a_folder_that_may_not_be_written(self):
         before = self.texts()
-        with mock.patch.object(ward_folder.tempfile, "mkdtemp", side_effect=OSError(errno.EACCES, "Permission denied", str(self.ward))):
+        with mock.patch.object(
+            ward_folder.tempfile,
+            "mkdtemp",
+            side_effect=OSError(errno.EACCES, "Permission denied", str(self.ward)),
+        ):
             status, printed, said = run("plan", self.ward, "over")
         self.assertEqual((status, printed, said.count("\n")), (3, "", 1), said)
         self.assertIn("Permission denied: you may not read or write it", said)

@@ -68,7 +68,10 @@ class Links(FolderTest):
                 text = path.read_text()
                 path.unlink()
                 path.symlink_to(self.outside)
-                self.assert_refused(f"{name}: this is a link, and no link is followed here: delete it, or type undo", "page")
+                self.assert_refused(
+                    f"{name}: this is a link, and no link is followed here: delete it, or type undo",
+                    "page",
+                )
                 path.unlink()
                 # Who reads a pipe waits for its writer.
                 os.mkfifo(path)
@@ -82,7 +85,10 @@ class Links(FolderTest):
                 path = self.ward / name
                 path.unlink(missing_ok=True)
                 path.symlink_to(self.outside)
-                self.assert_refused(f"{path} is a link that leads out of the folder: put the file itself there", "check")
+                self.assert_refused(
+                    f"{path} is a link that leads out of the folder: put the file itself there",
+                    "check",
+                )
                 path.unlink()
                 self.write()
         # A link that stays in the folder is as good as a file.
@@ -96,7 +102,10 @@ class Links(FolderTest):
         (self.ward / "history-1.txt").symlink_to(self.outside)
         status, _, said = run("plan", self.ward, "files")
         self.assertEqual((status, self.outside.read_text()), (0, "mine"), said)
-        self.assertTrue((self.ward / "ward.txt").read_text().startswith("SCENARIO") and not (self.ward / "ward.txt").is_symlink())
+        self.assertTrue(
+            (self.ward / "ward.txt").read_text().startswith("SCENARIO")
+            and not (self.ward / "ward.txt").is_symlink()
+        )
 
     def test_the_example(self):
         new = self.folder / "new"
@@ -154,7 +163,9 @@ class Secret(FolderTest):
         addresses = []
         with mock.patch.object(LocalServer, "run"):
             for _ in range(2):
-                status, printed, _ = run("plan", self.ward, "serve", "--secret", self.path, "--port", "0")
+                status, printed, _ = run(
+                    "plan", self.ward, "serve", "--secret", self.path, "--port", "0"
+                )
                 self.assertEqual(status, 0)
                 addresses.append(re.search("http://[^ ]*", printed)[0].split("/")[3])
         self.assertEqual(addresses, [secret, secret])
@@ -165,11 +176,17 @@ class Secret(FolderTest):
             self.path.symlink_to(self.folder / "real")
 
         for says, make in (
-            ("others may read this file: type chmod 600, or delete it", lambda: (self.path.write_text("x" * 22), self.path.chmod(0o640))),
+            (
+                "others may read this file: type chmod 600, or delete it",
+                lambda: (self.path.write_text("x" * 22), self.path.chmod(0o640)),
+            ),
             ("this is a link: name the file itself", linked),
             ("this is no file: name another one", lambda: os.mkfifo(self.path, 0o600)),
             ("this file has no secret", lambda: (self.path.write_text(""), self.path.chmod(0o600))),
-            ("this file has no secret", lambda: (self.path.write_text("/../" * 9), self.path.chmod(0o600))),
+            (
+                "this file has no secret",
+                lambda: (self.path.write_text("/../" * 9), self.path.chmod(0o600)),
+            ),
         ):
             with self.subTest(says):
                 make()
@@ -178,12 +195,17 @@ class Secret(FolderTest):
                 self.path.unlink()
         self.path.write_text("x" * 22)
         self.path.chmod(0o600)
-        with mock.patch("os.geteuid", return_value=os.geteuid() + 1), self.assertRaisesRegex(Misuse, "this file is another user's"):
+        with mock.patch("os.geteuid", return_value=os.geteuid() + 1), self.assertRaisesRegex(
+            Misuse, "this file is another user's"
+        ):
             kept_secret(self.path)
 
     def test_it_is_not_kept_in_the_folder_of_the_ward(self):
         says = f"--secret {self.ward}/secret is in the ward's folder, which others may read: name a file elsewhere\n"
-        self.assert_fault(run("plan", self.ward, "serve", "--secret", self.ward / "secret"), f"inrc2pb-plan: {says.rstrip()}")
+        self.assert_fault(
+            run("plan", self.ward, "serve", "--secret", self.ward / "secret"),
+            f"inrc2pb-plan: {says.rstrip()}",
+        )
         self.assertFalse((self.ward / "secret").exists())
 
 
@@ -208,10 +230,15 @@ class Gone(ServedPage):
                     status, text = self.asks(**words)
                     text = self.ended() if status == 303 else text
                     self.assertTrue(status in (303, 503), status)
-                    self.assertIn("No such file or directory: nothing is lost: see that the ward&#x27;s folder is there again", text)
+                    self.assertIn(
+                        "No such file or directory: nothing is lost: see that the ward&#x27;s folder is there again",
+                        text,
+                    )
             away.rename(self.ward)
             self.shown = self.site.path
-            self.assertEqual((self.asks()[0], "To the roster" in self.asks()[1]), (200, "To the roster" in page))
+            self.assertEqual(
+                (self.asks()[0], "To the roster" in self.asks()[1]), (200, "To the roster" in page)
+            )
         self.assertEqual(printed.getvalue(), "")
 
 

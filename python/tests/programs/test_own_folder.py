@@ -42,17 +42,26 @@ class OwnFolder(HelperTest):
 
     def test_the_next_one_removes_the_folder_of_a_killed_one(self):
         environment = {**os.environ, "TMPDIR": str(self.folder)}
-        ran = subprocess.run([sys.executable, "-c", KILLED, str(HELPERS)], env=environment, stdout=subprocess.PIPE)
+        ran = subprocess.run(
+            [sys.executable, "-c", KILLED, str(HELPERS)], env=environment, stdout=subprocess.PIPE
+        )
         left = Path(ran.stdout.decode().strip()).parent
         self.assertEqual((ran.returncode, left.parent), (-signal.SIGKILL, self.folder))
         with own_folder():
-            self.assertTrue(left.exists(), "it is so young that its owner may not have locked it yet")
+            self.assertTrue(
+                left.exists(), "it is so young that its owner may not have locked it yet"
+            )
         os.utime(left, (0, 0))
         with own_folder():
             self.assertFalse(left.exists())
 
     def test_folders_that_are_used_or_of_others_stay(self):
-        others = ["inrc2pb-helper-", "inrc2pb-helper-x", "inrc2pb-helper-12345678.old", "inrc2pb-0.2.0-x86_64-linux"]
+        others = [
+            "inrc2pb-helper-",
+            "inrc2pb-helper-x",
+            "inrc2pb-helper-12345678.old",
+            "inrc2pb-0.2.0-x86_64-linux",
+        ]
         for name in others:
             (self.folder / name).mkdir()
             os.utime(self.folder / name, (0, 0))

@@ -59,14 +59,23 @@ class Groups(HelperTest):
 
     def test_after_the_end_of_those_that_run_others_start(self):
         processes = Processes()
-        ended = processes.run(["sh", "-c", "echo ready; exec sleep 600"], 600, self.folder, hear=lambda data: processes.end_running())
+        ended = processes.run(
+            ["sh", "-c", "echo ready; exec sleep 600"],
+            600,
+            self.folder,
+            hear=lambda data: processes.end_running(),
+        )
         self.assertEqual((ended.status, ended.timed_out), (-signal.SIGKILL, False))
         self.assertEqual(processes.run(["echo", "ready"], 60, self.folder).output, "ready\n")
 
-    @unittest.skipIf(subprocess.run("setpriv --pdeathsig KILL true", shell=True).returncode, "needs setpriv")
+    @unittest.skipIf(
+        subprocess.run("setpriv --pdeathsig KILL true", shell=True).returncode, "needs setpriv"
+    )
     def test_a_process_ends_with_the_one_that_started_it(self):
         environment = {**os.environ, "PYTHONPATH": str(HELPERS)}
-        with subprocess.Popen([sys.executable, "-c", RUNS], env=environment, stdout=subprocess.PIPE) as started:
+        with subprocess.Popen(
+            [sys.executable, "-c", RUNS], env=environment, stdout=subprocess.PIPE
+        ) as started:
             number = int(started.stdout.readline())
             self.assertTrue(is_alive(number))
             started.kill()

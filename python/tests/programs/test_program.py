@@ -20,7 +20,10 @@ class Program(HelperTest):
     def test_a_roster_and_its_report(self):
         answer, report = program.extend(WEEK_FILES, ROSTER)
         self.assertTrue(answer.startswith("o 20\ns SATISFIABLE\n"))
-        self.assertEqual((report.penalty, report.objective, report.by_rule["S4"], report.optimal), (20, 20, 20, False))
+        self.assertEqual(
+            (report.penalty, report.objective, report.by_rule["S4"], report.optimal),
+            (20, 20, 20, False),
+        )
         self.assertEqual(program.penalty_of(WEEK_FILES, ROSTER), 20)
         copy = self.folder / "roster.txt"
         program.decode(WEEK_FILES, answer, copy)
@@ -48,7 +51,9 @@ class Program(HelperTest):
         roster = self.changed(ROSTER, "Amara Mon Day Charge", "Chen Mon Day Charge")
         with self.assertRaises(faults.ProgramFault) as caught:
             program.extend(WEEK_FILES, roster)
-        self.assertEqual((caught.exception.status, str(caught.exception)), (6, "inrc2pb: roster breaks H4"))
+        self.assertEqual(
+            (caught.exception.status, str(caught.exception)), (6, "inrc2pb: roster breaks H4")
+        )
 
 
 class Unreadable(HelperTest):
@@ -58,17 +63,24 @@ class Unreadable(HelperTest):
             (missing, "No such file or directory: look at its name and folder"),
             (self.folder, "Is a directory: this is a folder"),
         ):
-            for run_it in (lambda week: program.encode(week, Path(os.devnull)), lambda week: program.decode(week, "")):
+            for run_it in (
+                lambda week: program.encode(week, Path(os.devnull)),
+                lambda week: program.decode(week, ""),
+            ):
                 with self.assertRaises(faults.ProgramFault) as caught:
                     run_it(program.WeekFiles(SCENARIO, HISTORY, path))
                 self.assertEqual(caught.exception.status, 3)
-                self.assertIn(f"inrc2pb: read failed: {path}: {reason}", faults.fault_line(caught.exception))
+                self.assertIn(
+                    f"inrc2pb: read failed: {path}: {reason}", faults.fault_line(caught.exception)
+                )
 
 
 class Finding(HelperTest):
     def test_a_program_that_is_missing(self):
         with mock.patch.dict(os.environ, {"INRC2PB": "/nowhere/inrc2pb"}):
-            with self.assertRaisesRegex(faults.ProgramFault, "there is no program /nowhere/inrc2pb: correct or unset"):
+            with self.assertRaisesRegex(
+                faults.ProgramFault, "there is no program /nowhere/inrc2pb: correct or unset"
+            ):
                 program.find_program()
 
     def test_a_program_that_is_not_inrc2pb(self):
@@ -77,16 +89,25 @@ class Finding(HelperTest):
                 with self.assertRaises(faults.ProgramFault) as caught:
                     program.find_program()
             says = f"INRC2PB names /bin/{name}, which is not inrc2pb: correct or unset the variable"
-            self.assertEqual((caught.exception.status, str(caught.exception)), (program.NO_PROGRAM, says))
+            self.assertEqual(
+                (caught.exception.status, str(caught.exception)), (program.NO_PROGRAM, says)
+            )
 
     def test_a_program_that_does_not_end(self):
         with mock.patch.object(program, "LONGEST_RUN", 0.2):
             fault = self.fault_of("#!/bin/sh\nexec sleep 60\n")
-        self.assertEqual((fault.status, str(fault)[:40]), (3, "inrc2pb --version did not end in 0 s: a "))
+        self.assertEqual(
+            (fault.status, str(fault)[:40]), (3, "inrc2pb --version did not end in 0 s: a ")
+        )
 
     def test_an_encode_of_a_search_that_does_not_end(self):
-        with mock.patch.object(program, "LONGEST_RUN", 0.2), mock.patch.dict(os.environ, self.slow_to_encode(self.folder / "running")):
-            with self.assertRaisesRegex(faults.ProgramFault, "^inrc2pb encode did not end in 0 s: a pipe can be read only once"):
+        with mock.patch.object(program, "LONGEST_RUN", 0.2), mock.patch.dict(
+            os.environ, self.slow_to_encode(self.folder / "running")
+        ):
+            with self.assertRaisesRegex(
+                faults.ProgramFault,
+                "^inrc2pb encode did not end in 0 s: a pipe can be read only once",
+            ):
                 program.encode_unless_stopped(WEEK_FILES, self.folder / "week.opb", Processes())
 
     def fault_of(self, text):
@@ -101,43 +122,81 @@ class Finding(HelperTest):
 
     def test_a_program_that_does_not_run(self):
         line = faults.fault_line(self.fault_of("no program"))
-        self.assertIn("/inrc2pb does not run: Exec format error: it is no program of this machine; a script needs", line)
+        self.assertIn(
+            "/inrc2pb does not run: Exec format error: it is no program of this machine; a script needs",
+            line,
+        )
 
     def test_a_program_that_a_signal_ends(self):
         for number, name in ((9, "SIGKILL"), (34, "SIGRTMIN"), (40, "signal 40")):
-            self.assertEqual(str(self.fault_of(f"#!/bin/sh\nkill -{number} $$\n")), f"inrc2pb: ended by {name}")
+            self.assertEqual(
+                str(self.fault_of(f"#!/bin/sh\nkill -{number} $$\n")), f"inrc2pb: ended by {name}"
+            )
 
     def test_a_command_runs_through_a_link(self):
         link = self.folder / "roster"
         link.symlink_to(HELPERS / "inrc2pb-roster")
-        ran = subprocess.run([str(link), "show", "--roster", str(ROSTER)], cwd="/", stdout=subprocess.PIPE, stderr=subprocess.PIPE)
+        ran = subprocess.run(
+            [str(link), "show", "--roster", str(ROSTER)],
+            cwd="/",
+            stdout=subprocess.PIPE,
+            stderr=subprocess.PIPE,
+        )
         self.assertEqual((ran.stdout[:28], ran.stderr), (b"ward, week 1: 33 assignments", b""))
 
     def test_a_command_of_another_name(self):
-        ran = subprocess.run([str(HELPERS / "launcher.py")], stdout=subprocess.PIPE, stderr=subprocess.PIPE)
-        self.assertEqual((ran.returncode, ran.stderr[:47]), (1, b"launcher.py: no command has this name: give it "))
+        ran = subprocess.run(
+            [str(HELPERS / "launcher.py")], stdout=subprocess.PIPE, stderr=subprocess.PIPE
+        )
+        self.assertEqual(
+            (ran.returncode, ran.stderr[:47]),
+            (1, b"launcher.py: no command has this name: give it "),
+        )
 
     def test_without_numpy_one_line_says_how_to_install_it(self):
-        (self.folder / "numpy.py").write_text("raise ImportError('No module named numpy', name='numpy')\n")
+        (self.folder / "numpy.py").write_text(
+            "raise ImportError('No module named numpy', name='numpy')\n"
+        )
         environment = {**os.environ, "PYTHONPATH": str(self.folder)}
-        ran = subprocess.run([str(HELPERS / "inrc2pb-solve"), "--help"], env=environment, stdout=subprocess.PIPE, stderr=subprocess.PIPE)
+        ran = subprocess.run(
+            [str(HELPERS / "inrc2pb-solve"), "--help"],
+            env=environment,
+            stdout=subprocess.PIPE,
+            stderr=subprocess.PIPE,
+        )
         line = b"inrc2pb-solve: this command needs NumPy: install it (Debian: apt-get install python3-numpy)\n"
         self.assertEqual((ran.returncode, ran.stdout, ran.stderr), (1, b"", line))
 
     def test_a_clone_uses_its_own_program(self):
         clone, other = self.folder / "clone", self.folder / "other"
-        shutil.copytree(HELPERS, clone / "python", symlinks=True, ignore=shutil.ignore_patterns("tests", "__pycache__"))
+        shutil.copytree(
+            HELPERS,
+            clone / "python",
+            symlinks=True,
+            ignore=shutil.ignore_patterns("tests", "__pycache__"),
+        )
         for folder, version in ((clone / "out", "inrc2pb 2"), (other, "inrc2pb 1")):
             folder.mkdir()
             self.script("inrc2pb", f"echo {version}").rename(folder / "inrc2pb")
         environment = {**os.environ, "PATH": f"{other}:{os.environ['PATH']}", "INRC2PB": ""}
         words = [str(clone / "python" / "inrc2pb-roster"), "--version"]
-        self.assertEqual(subprocess.run(words, env=environment, stdout=subprocess.PIPE).stdout, b"inrc2pb 2\n")
+        self.assertEqual(
+            subprocess.run(words, env=environment, stdout=subprocess.PIPE).stdout, b"inrc2pb 2\n"
+        )
 
     def test_a_full_disk_behind_standard_error(self):
         with open("/dev/full", "w") as full:
-            for words, status in (([], 2), (["--roster", str(self.folder / "missing")], 3), (["--fix", "2=a", "--roster", str(ROSTER)], 1)):
-                self.assertEqual(subprocess.run([str(HELPERS / "inrc2pb-roster"), "show", *words], stderr=full).returncode, status)
+            for words, status in (
+                ([], 2),
+                (["--roster", str(self.folder / "missing")], 3),
+                (["--fix", "2=a", "--roster", str(ROSTER)], 1),
+            ):
+                self.assertEqual(
+                    subprocess.run(
+                        [str(HELPERS / "inrc2pb-roster"), "show", *words], stderr=full
+                    ).returncode,
+                    status,
+                )
 
 
 class CommandLines(unittest.TestCase):

@@ -42,8 +42,12 @@ def optimum(pricing):
     """The penalty of the best roster of a tiny plan, by all pairs of rows; None if there is none."""
     rows_of_nurses = []
     for nurse in range(len(pricing.plan.nurses)):
-        rows = map(bytes, itertools.product(range(len(pricing.shifts) + 1), repeat=pricing.plan.days))
-        rows_of_nurses.append([priced for priced in (pricing.counted(nurse, row) for row in rows) if priced])
+        rows = map(
+            bytes, itertools.product(range(len(pricing.shifts) + 1), repeat=pricing.plan.days)
+        )
+        rows_of_nurses.append(
+            [priced for priced in (pricing.counted(nurse, row) for row in rows) if priced]
+        )
     best = None
     for one in itertools.product(*rows_of_nurses):
         cost = sum(priced.cost for priced in one)
@@ -63,8 +67,12 @@ class Lies(LinearProgram):
 
     def solve(self, clock, how="", iterations=0, whole=True):
         clock.check()
-        any_of = lambda number: array("d", [self.chance.choice([0.0, 0.5, 1.0, 30.0, -7.0, 1e6]) for _ in range(number)])  # noqa: E731
-        return Solution(OPTIMAL, self.chance.choice([0.0, 55.5, 1e5]), any_of(self.rows), any_of(self.columns))
+        any_of = lambda number: array(
+            "d", [self.chance.choice([0.0, 0.5, 1.0, 30.0, -7.0, 1e6]) for _ in range(number)]
+        )  # noqa: E731
+        return Solution(
+            OPTIMAL, self.chance.choice([0.0, 55.5, 1e5]), any_of(self.rows), any_of(self.columns)
+        )
 
 
 class Trees(HelperTest):
@@ -75,7 +83,11 @@ class Trees(HelperTest):
 
     def tree(self, plan, penalty, program=None):
         """A tree of a plan whose best roster has this penalty; the rosters that it finds are in `found`."""
-        self.pricing, self.found, self.penalty = CasePricing(plan, Crews(plan), lambda: None), [], penalty
+        self.pricing, self.found, self.penalty = (
+            CasePricing(plan, Crews(plan), lambda: None),
+            [],
+            penalty,
+        )
 
         def take(rows, _finder):
             roster = staffed(plan, self.pricing.crews, rows)
@@ -84,7 +96,9 @@ class Trees(HelperTest):
                 self.found.append(sum(priced.cost for priced in costs) + 30 * roster.missing)
                 self.penalty = min(self.penalty, self.found[-1])
 
-        self.search = CaseSearch(self.pricing, CaseProgram(self.pricing, program or self.solver.program()))
+        self.search = CaseSearch(
+            self.pricing, CaseProgram(self.pricing, program or self.solver.program())
+        )
         return CaseTree(self.pricing, [0] * len(plan.demand), lambda: self.penalty, take)
 
     @unittest.skipUnless(HAS_CBC, "needs cbc")
@@ -111,7 +125,9 @@ class Trees(HelperTest):
         tree = self.tree(Plan.of(week.scenario, week.history, [week.data]), 140)
         tree.run(Clock(600.0), [self.search.close])
         leaves = tree.certificate().leaves()
-        self.assertEqual((tree.bound, self.penalty, self.pricing.bound_of(tree.certificate())), (135, 135, 135))
+        self.assertEqual(
+            (tree.bound, self.penalty, self.pricing.bound_of(tree.certificate())), (135, 135, 135)
+        )
         # No case proves the bound for one that it is a part of, so each is needed.
         self.assertTrue(all(self.pricing.bound(case[:-1], leaf) < 135 for case, leaf in leaves))
         self.assertTrue(1 < len(leaves) < 10)
@@ -134,7 +150,12 @@ class Trees(HelperTest):
                 self.assertLessEqual(plain.bound(period_of(plan), certificate.text("x")), best)
                 self.assertTrue(all(penalty >= best for penalty in self.found))
                 # A fact comes once on a path.
-                self.assertTrue(all(len({claim.fact for claim in case}) == len(case) for case, _ in certificate.leaves()))
+                self.assertTrue(
+                    all(
+                        len({claim.fact for claim in case}) == len(case)
+                        for case, _ in certificate.leaves()
+                    )
+                )
 
     @unittest.skipUnless(HAS_CBC, "needs cbc")
     def test_no_time_and_more_time(self):
@@ -163,9 +184,14 @@ class Trees(HelperTest):
 
         with mock.patch.object(case_tree, "LEAVES_EACH", 0):
             tree.run(Clock(600.0), [slow, fails])
-        self.assertEqual((tree.bound, self.penalty, self.pricing.bound_of(tree.certificate()), len(tried)), (135, 135, 135, 1))
+        self.assertEqual(
+            (tree.bound, self.penalty, self.pricing.bound_of(tree.certificate()), len(tried)),
+            (135, 135, 135, 1),
+        )
         with self.assertRaises(SolverFault):
-            self.tree(Plan.of(week.scenario, week.history, [week.data]), 140).run(Clock(600.0), [fails, fails])
+            self.tree(Plan.of(week.scenario, week.history, [week.data]), 140).run(
+                Clock(600.0), [fails, fails]
+            )
 
     def test_a_tree_ends_with_the_bound_of_a_case_that_no_split_raises(self):
         week = files.read_files(FILES.scenario, FILES.history, FILES.week)
@@ -187,7 +213,9 @@ class Trees(HelperTest):
     def test_a_split_raises_the_value_of_a_case(self):
         week = files.read_files(FILES.scenario, FILES.history, FILES.week)
         self.tree(Plan.of(week.scenario, week.history, [week.data]), 140)
-        facts, now = [AtPlace(1, self.pricing.crews.places[number], 0) for number in (0, 1)], mock.Mock(value=100.0)
+        facts, now = [
+            AtPlace(1, self.pricing.crews.places[number], 0) for number in (0, 1)
+        ], mock.Mock(value=100.0)
         for rises, best in (
             ((0, 0, 0, 0), None),
             ((0, 0, 0, 5), facts[1]),
@@ -195,7 +223,9 @@ class Trees(HelperTest):
             ((0, 1e-4), None),
             ((0, 4), facts[0]),
         ):
-            program = mock.Mock(iterations=0, rise=mock.Mock(side_effect=[100.0 + rise for rise in rises]))
+            program = mock.Mock(
+                iterations=0, rise=mock.Mock(side_effect=[100.0 + rise for rise in rises])
+            )
             tried = facts[: len(rises) // 2]
             found = best_split(self.pricing, program, now, (), tried, 200, Clock(600.0))
             self.assertEqual(found and found.fact, best, rises)
@@ -213,8 +243,12 @@ class Trees(HelperTest):
         tree = self.tree(plan, 140)
         tree.run(Clock(600.0), [self.search.close])
         self.assertEqual(tree.certificate().text("x"), expected)
-        with mock.patch.object(Worker, "_start", side_effect=OSError), self.assertRaises(SolverFault):
-            Worker(self.solver, self.folder).close(Clock(600.0), lambda rows, finder: True, CaseTask((), tree.root.proved, 135))
+        with mock.patch.object(Worker, "_start", side_effect=OSError), self.assertRaises(
+            SolverFault
+        ):
+            Worker(self.solver, self.folder).close(
+                Clock(600.0), lambda rows, finder: True, CaseTask((), tree.root.proved, 135)
+            )
 
 
 class Stopped(LinearProgram):
@@ -262,7 +296,9 @@ class Runs(HelperTest):
 
     def test_a_tree_proves_the_best_roster(self):
         run = self.run_rows()
-        self.assertEqual((run.search.penalty, run.search.lower_bound, run.lower_bound), (135, 130, 135))
+        self.assertEqual(
+            (run.search.penalty, run.search.lower_bound, run.lower_bound), (135, 130, 135)
+        )
         certificate = run.certificate()
         self.assertGreater(len(certificate.leaves()), 1)
         self.assertEqual(CasePricing(run.plan, run.crews, lambda: None).bound_of(certificate), 135)

@@ -26,7 +26,11 @@ def random_fact(plan, chance, kinds):
         place = chance.choice(list(plan.demand))
         return AtPlace(place.day // 7 + 1, place._replace(day=place.day % 7), chance.randrange(3))
     if kind == 2:
-        return Charged(chance.choice(kinds), chance.choice([None, *plan.nurses]) if len(kinds) > 1 else None, chance.randrange(4))
+        return Charged(
+            chance.choice(kinds),
+            chance.choice([None, *plan.nurses]) if len(kinds) > 1 else None,
+            chance.randrange(4),
+        )
     return Even()
 
 
@@ -34,10 +38,17 @@ def random_tree(plan, chance, splits, kinds, facts=()):
     """A tree with any facts, prices and surcharges; no fact comes twice on a path."""
     if not splits:
         prices = [chance.choice([0, 5, 15, 20, 30, 200]) * POINT for _ in plan.demand]
-        return Leaf(prices, tuple(chance.choice([0, 0, 5, 15]) * POINT for _ in range(chance.randint(0, len(facts)))))
+        return Leaf(
+            prices,
+            tuple(
+                chance.choice([0, 0, 5, 15]) * POINT for _ in range(chance.randint(0, len(facts)))
+            ),
+        )
     first = chance.randrange(splits)
     sizes = (first, splits - 1 - first)
-    fact = next(fact for fact in iter(lambda: random_fact(plan, chance, kinds), None) if fact not in facts)
+    fact = next(
+        fact for fact in iter(lambda: random_fact(plan, chance, kinds), None) if fact not in facts
+    )
     return Split(fact, *(random_tree(plan, chance, size, kinds, (*facts, fact)) for size in sizes))
 
 
@@ -57,7 +68,9 @@ class AllPlans:
         """The choices of all days with their cost, charges by kind, and places."""
         skills = self.plan.scenario.nurses[nurse].skills
         choices = [None, *self.plan.scenario.shift_types] if skills else [None]
-        for weeks in itertools.product(itertools.product(choices, repeat=7), repeat=len(self.plan.weeks)):
+        for weeks in itertools.product(
+            itertools.product(choices, repeat=7), repeat=len(self.plan.weeks)
+        ):
             past, total, counts = self.plan.history.nurses[nurse], 0, [0] * len(KINDS)
             for number, days in enumerate(weeks):
                 found = self.period.week_of(nurse, number, past, days)
@@ -76,11 +89,15 @@ class AllPlans:
             for nurse, (days, *_) in zip(self.plan.nurses, rows):
                 for day, shift in enumerate(days):
                     if shift:
-                        place = Place(day, shift, chance.choice(self.plan.scenario.nurses[nurse].skills))
+                        place = Place(
+                            day, shift, chance.choice(self.plan.scenario.nurses[nurse].skills)
+                        )
                         there[place] = there.get(place, 0) + 1
             asked = self.plan.demand.items()
             if all(there.get(place, 0) >= one.minimum for place, one in asked):
-                penalty += sum(30 * max(0, one.optimal - there.get(place, 0)) for place, one in asked)
+                penalty += sum(
+                    30 * max(0, one.optimal - there.get(place, 0)) for place, one in asked
+                )
                 yield rows, there, penalty
 
     def holds(self, fact, rows, there):
@@ -89,17 +106,26 @@ class AllPlans:
             days = rows[self.plan.nurses.index(fact.nurse)][0]
             return days[7 * (fact.week - 1) + fact.day] == fact.shift
         if isinstance(fact, AtPlace):
-            return there.get(fact.place._replace(day=7 * (fact.week - 1) + fact.place.day), 0) <= fact.most
+            return (
+                there.get(fact.place._replace(day=7 * (fact.week - 1) + fact.place.day), 0)
+                <= fact.most
+            )
         kind = KINDS.index(fact.kind) if isinstance(fact, Charged) else 0
         named = getattr(fact, "nurse", None)
-        number = sum(row[2][kind] for nurse, row in zip(self.plan.nurses, rows) if named in (None, nurse))
+        number = sum(
+            row[2][kind] for nurse, row in zip(self.plan.nurses, rows) if named in (None, nurse)
+        )
         return number <= fact.most if isinstance(fact, Charged) else number % 2 == 0
 
 
 class Texts(unittest.TestCase):
     def test_the_text_of_a_certificate(self):
         places = [Place(0, "Late", "Nurse"), Place(8, "Early", "Nurse")]
-        tree = Split(Even(), Leaf([5, 0]), Split(Charged(SHIFT_RUNS, None, 2), Leaf([0, 7], (0, 3)), Leaf([5, 0], (4, 0))))
+        tree = Split(
+            Even(),
+            Leaf([5, 0]),
+            Split(Charged(SHIFT_RUNS, None, 2), Leaf([0, 7], (0, 3)), Leaf([5, 0], (4, 0))),
+        )
         wanted = (
             "CERTIFICATE w\nWEEKS = 2\nPRICES = 2\nROWS = 1\nLate Nurse 5 0 0 0 0 0 0\nROWS = 0\nROWS = 0\nROWS = 1\nEarly Nurse 0 7 0 0 0 0 0\n"
             "LEAVES = 3\nSPLIT EVEN\nLEAF 0 SURCHARGES = 0\nSPLIT CHARGES SHIFT_RUNS ALL 2\nLEAF 1 SURCHARGES = 2 0 3\nLEAF 0 SURCHARGES = 2 4 0\n"
@@ -111,7 +137,9 @@ class Texts(unittest.TestCase):
             plan, chance = random_plan(seed, 1 + seed % 2)
             if not plan.demand:
                 continue
-            certificate = Certificate(len(plan.weeks), list(plan.demand), random_tree(plan, chance, seed % 6, KINDS))
+            certificate = Certificate(
+                len(plan.weeks), list(plan.demand), random_tree(plan, chance, seed % 6, KINDS)
+            )
             read = plain.read_certificate(certificate.text("x"), len(plan.weeks), [])
             self.assertEqual(len(read), len(certificate.leaves()))
             for (case, leaf), (words, prices, surcharges) in zip(certificate.leaves(), read):
@@ -134,10 +162,16 @@ class Bounds(unittest.TestCase):
             leaves = plain.read_certificate(certificate.text("x"), weeks, [])
             bounds = [plain.leaf_bound(every.period, leaf) for leaf in leaves]
             for rows, there, penalty in every.sample(chance, 300):
-                cases = [all(every.holds(fact, rows, there) == holds for fact, holds in case) for case, _ in certificate.leaves()]
+                cases = [
+                    all(every.holds(fact, rows, there) == holds for fact, holds in case)
+                    for case, _ in certificate.leaves()
+                ]
                 self.assertEqual(sum(cases), 1)
                 self.assertLessEqual(bounds[cases.index(True)], penalty, (seed, cases))
-                seen |= {(type(fact), holds) for fact, holds in certificate.leaves()[cases.index(True)][0]}
+                seen |= {
+                    (type(fact), holds)
+                    for fact, holds in certificate.leaves()[cases.index(True)][0]
+                }
         self.assertEqual(len(seen), 8)
 
 
@@ -150,14 +184,21 @@ class Pricings(unittest.TestCase):
             if not plan.demand:
                 continue
             pricing, period = CasePricing(plan, Crews(plan), lambda: None), period_of(plan)
-            certificate = Certificate(weeks, list(plan.demand), random_tree(plan, chance, 3, (SHIFT_RUNS,)))
+            certificate = Certificate(
+                weeks, list(plan.demand), random_tree(plan, chance, 3, (SHIFT_RUNS,))
+            )
             for case, leaf in certificate.leaves():
                 limits = pricing.limits(case)
                 one = leaf_of(limits, leaf.prices, max(-15 * POINT, surcharge_of(limits, leaf)))
                 found = pricing.bound(case, one)
                 text = facts_text("x", case)
                 wanted = plain.leaf_bound(
-                    period, plain.Leaf(plain.read_given(text), dict(zip(plan.demand, one.prices)), list(one.surcharges))
+                    period,
+                    plain.Leaf(
+                        plain.read_given(text),
+                        dict(zip(plan.demand, one.prices)),
+                        list(one.surcharges),
+                    ),
                 )
                 self.assertEqual(plain.NEVER if found is None else found, wanted, (seed, case, one))
                 compared += 1

@@ -21,7 +21,9 @@ STEP = 5
 
 def search_of(pricing, solver=None, kind=RowSearch):
     """A search whose rosters are all accepted."""
-    search = kind(pricing, solver, Clock(100.0), lambda rows, finder: search.value_of(rows), lambda: None)
+    search = kind(
+        pricing, solver, Clock(100.0), lambda rows, finder: search.value_of(rows), lambda: None
+    )
     return search
 
 
@@ -33,8 +35,15 @@ def values_of(pricing, nurse, prices):
     for row in map(bytes, itertools.product(range(len(shifts) + 1), repeat=plan.days)):
         cost = pricing.cost(nurse, row)
         if cost is not None:
-            there = [[(day, shifts[choice - 1], skill) for skill in skills] for day, choice in enumerate(row) if choice]
-            earned = sum(max([prices[places.index(place)] for place in day if place in places], default=0) for day in there)
+            there = [
+                [(day, shifts[choice - 1], skill) for skill in skills]
+                for day, choice in enumerate(row)
+                if choice
+            ]
+            earned = sum(
+                max([prices[places.index(place)] for place in day if place in places], default=0)
+                for day in there
+            )
             found[row] = cost * POINT - earned
     return found
 
@@ -50,7 +59,9 @@ class KnownWithin(unittest.TestCase):
             values = [values_of(pricing, nurse, prices) for nurse in range(2)]
             bound = sum(min(own.values()) for own in values)
             for asked, price in zip(plan.demand.values(), prices):
-                bound += price * asked.minimum + min(price, 30 * POINT) * (asked.optimal - asked.minimum)
+                bound += price * asked.minimum + min(price, 30 * POINT) * (
+                    asked.optimal - asked.minimum
+                )
             search = search_of(pricing)
             search.prices, search.bound = prices, bound
             self.searches.append((search, values))
@@ -63,7 +74,11 @@ class KnownWithin(unittest.TestCase):
             search.penalty = STEP * (search.bound // (STEP * POINT) + 6)
             gap = (search.penalty - STEP) * POINT - search.bound
             columns = enumerate(search.program.columns)
-            wanted = [number for number, one in columns if values[one.nurse][one.row] <= min(values[one.nurse].values()) + gap]
+            wanted = [
+                number
+                for number, one in columns
+                if values[one.nurse][one.row] <= min(values[one.nurse].values()) + gap
+            ]
             self.assertEqual(search.known_within(), wanted)
             search.penalty = None
             self.assertEqual(search.known_within(), list(range(len(search.program.columns))))
@@ -73,7 +88,12 @@ class Chosen(unittest.TestCase):
     def setUp(self):
         plan, _ = random_plan(3, nurses=2, shifts=2)
         self.search = search_of(pricing_of(plan), Says(None, True))
-        rows = [self.search.pricing.cheapest(nurse, self.search.pricing.crews.gains(self.search.prices)).row for nurse in range(2)]
+        rows = [
+            self.search.pricing.cheapest(
+                nurse, self.search.pricing.crews.gains(self.search.prices)
+            ).row
+            for nurse in range(2)
+        ]
         self.search.add_roster(rows)
         self.value = self.search.value_of(rows)
 
@@ -82,7 +102,10 @@ class Chosen(unittest.TestCase):
         self.search.penalty, given = penalty, []
         solver = self.search._solver
         solver.answer = Says(names, proved).answer
-        solver.choose = lambda model, clock, cutoff, step, nodes=None: given.append((cutoff, step)) or solver.answer
+        solver.choose = (
+            lambda model, clock, cutoff, step, nodes=None: given.append((cutoff, step))
+            or solver.answer
+        )
         found = self.search.choose(range(len(self.search.program.columns)), self.search.clock, "x")
         self.assertEqual(given, [(None if penalty is None else penalty - STEP, STEP)])
         return found, self.search.penalty
@@ -107,14 +130,22 @@ class Chosen(unittest.TestCase):
         with tempfile.TemporaryDirectory() as name:
             solver = LinearSolver(Processes(), Path(name), print)
             self.addCleanup(solver.close)
-            run = RowRun(plan, solver, Clock(100.0), lambda rows, _: run.search.value_of(rows) if run.search else None, lambda: None)
+            run = RowRun(
+                plan,
+                solver,
+                Clock(100.0),
+                lambda rows, _: run.search.value_of(rows) if run.search else None,
+                lambda: None,
+            )
             run.run()
             for penalty in (best, best + STEP):
                 search = search_of(pricing_of(plan), solver)
                 search.add_roster(run.search.rows)
                 search.generate(search.clock)
                 search.penalty = penalty
-                self.assertTrue(search.choose(range(len(search.program.columns)), search.clock, "x"))
+                self.assertTrue(
+                    search.choose(range(len(search.program.columns)), search.clock, "x")
+                )
                 self.assertEqual(search.penalty, best)
 
 
@@ -127,13 +158,17 @@ class Wrong(unittest.TestCase):
         search = self.search
         search.penalty, rows = 100, search._priced(search.prices, range(2), search.clock)
         search.bound = None
-        less = {nurse: priced._replace(value=priced.value + 10**6) for nurse, priced in rows.items()}
+        less = {
+            nurse: priced._replace(value=priced.value + 10**6) for nurse, priced in rows.items()
+        }
         with self.assertRaises(WrongBound):
             search._raise_bound(search.prices, less)
 
     def test_a_roster_below_the_bound_refutes_it(self):
         search = self.search
-        rows = [priced.row for priced in search._priced(search.prices, range(2), search.clock).values()]
+        rows = [
+            priced.row for priced in search._priced(search.prices, range(2), search.clock).values()
+        ]
         value = search.value_of(rows)
         if value is None:
             self.skipTest("the rows are no roster")

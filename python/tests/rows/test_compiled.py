@@ -27,7 +27,21 @@ COMPILER = shutil.which("cc") or shutil.which("clang")
 def built(folder):
     """The library of the present source."""
     path = Path(folder, "rows.so")
-    subprocess.run([COMPILER, "-O1", "-Wall", "-Wextra", "-Werror", "-shared", "-fPIC", "-o", str(path), str(SOURCE)], check=True)
+    subprocess.run(
+        [
+            COMPILER,
+            "-O1",
+            "-Wall",
+            "-Wextra",
+            "-Werror",
+            "-shared",
+            "-fPIC",
+            "-o",
+            str(path),
+            str(SOURCE),
+        ],
+        check=True,
+    )
     return compiled.load(path)
 
 
@@ -43,7 +57,9 @@ class CompiledPricing(unittest.TestCase):
         fast, plain = CompiledRows(members, days, self.library), Blocks(members, days)
         nurses = [member.nurse for member in members]
         for some in (nurses, nurses[::-2]):
-            (costs, rows), (wanted, wanted_rows) = fast.cheapest(pay[some], some), plain.cheapest(pay[some], some)
+            (costs, rows), (wanted, wanted_rows) = fast.cheapest(pay[some], some), plain.cheapest(
+                pay[some], some
+            )
             for number in range(len(some)):
                 self.assertEqual(min(costs[number], NEVER // 2), min(wanted[number], NEVER // 2))
                 if costs[number] < NEVER // 2:
@@ -53,17 +69,25 @@ class CompiledPricing(unittest.TestCase):
     def pay(chance, pricing, allowed):
         """What each choice costs each nurse: many costs are equal, so that rows are, too."""
         shape = numpy.array(pricing.crews.of).shape
-        costs = [chance.choice((0, 0, -30 * POINT, 10 * POINT, chance.randrange(-(10**6), 10**6))) for _ in range(numpy.prod(shape))]
+        costs = [
+            chance.choice((0, 0, -30 * POINT, 10 * POINT, chance.randrange(-(10**6), 10**6)))
+            for _ in range(numpy.prod(shape))
+        ]
         return numpy.where(allowed, numpy.array(costs, dtype=numpy.int64).reshape(shape), NEVER)
 
     def test_the_same_rows_on_random_graphs(self):
         for seed in range(80):
             plan, chance = random_plan(seed, weeks=1 + seed % 3 // 2, nurses=12)
             pricing = pricing_of(plan)
-            members = [Member(nurse, graph.arrays, start) for nurse, (graph, start) in enumerate(zip(pricing.graphs, pricing.starts))]
+            members = [
+                Member(nurse, graph.arrays, start)
+                for nurse, (graph, start) in enumerate(zip(pricing.graphs, pricing.starts))
+            ]
             # In every third plan nurses may have few choices, and reach few nodes; some have no row.
             shape, open_share = numpy.array(pricing.crews.of).shape, (1.0, 0.7, 0.3)[seed % 3]
-            allowed = numpy.array([chance.random() < open_share for _ in range(numpy.prod(shape))]).reshape(shape)
+            allowed = numpy.array(
+                [chance.random() < open_share for _ in range(numpy.prod(shape))]
+            ).reshape(shape)
             self.compare(members, range(plan.days), self.pay(chance, pricing, allowed))
 
     def test_the_same_rows_on_some_days(self):
@@ -73,9 +97,18 @@ class CompiledPricing(unittest.TestCase):
             members = []
             for nurse, (graph, start) in enumerate(zip(pricing.graphs, pricing.starts)):
                 row = bytes(chance.choice((0, 0, 1)) for _ in range(plan.days))
-                members.append(Member(nurse, graph.arrays, graph.walked(start, row[: days.start])[0], graph.arrays.after(days.stop, row)))
+                members.append(
+                    Member(
+                        nurse,
+                        graph.arrays,
+                        graph.walked(start, row[: days.start])[0],
+                        graph.arrays.after(days.stop, row),
+                    )
+                )
             shape = numpy.array(pricing.crews.of).shape
-            allowed = numpy.array([chance.random() < 0.4 + 0.6 * (seed % 2) for _ in range(numpy.prod(shape))]).reshape(shape)
+            allowed = numpy.array(
+                [chance.random() < 0.4 + 0.6 * (seed % 2) for _ in range(numpy.prod(shape))]
+            ).reshape(shape)
             self.compare(members, days, self.pay(chance, pricing, allowed))
 
     def test_the_same_prices_of_cases(self):
@@ -87,7 +120,12 @@ class CompiledPricing(unittest.TestCase):
                 with mock.patch.object(compiled, "library", library):
                     cases = CasePricing(plan, crews, lambda: None)
                 limits = cases.limits(())
-                found.append([cases.price(limits, prices, surcharge) for surcharge in (0, 7 * POINT, -7 * POINT)])
+                found.append(
+                    [
+                        cases.price(limits, prices, surcharge)
+                        for surcharge in (0, 7 * POINT, -7 * POINT)
+                    ]
+                )
             self.assertEqual(*found)
 
     def test_the_cost_of_a_row_is_walked(self):
@@ -99,7 +137,9 @@ class CompiledPricing(unittest.TestCase):
                 costs, rows = super().cheapest(pay, nurses, run_cost)
                 return costs - 5 * POINT, rows
 
-        with mock.patch.object(compiled, "CompiledRows", Wrong), mock.patch.object(compiled, "library", self.library):
+        with mock.patch.object(compiled, "CompiledRows", Wrong), mock.patch.object(
+            compiled, "library", self.library
+        ):
             generation = RowGeneration(pricing_of(plan), None, lambda: None)
             generation.approach(Clock(60))
         self.assertTrue(generation.program.columns)

@@ -47,7 +47,10 @@ def cheapest(pricing):
 def random_row(pricing, nurse, chance):
     """A row that no hard rule forbids, with runs of random lengths."""
     names = list(SCENARIO.shift_types)
-    forbidden = [()] + [[names.index(name) + 1 for name in SCENARIO.shift_types[shift].forbidden_next] for shift in names]
+    forbidden = [()] + [
+        [names.index(name) + 1 for name in SCENARIO.shift_types[shift].forbidden_next]
+        for shift in names
+    ]
     last = HISTORY.nurses[pricing.plan.nurses[nurse]].last_shift
     row = [0 if last is None else names.index(last) + 1]
     while len(row) <= pricing.plan.days:
@@ -62,7 +65,12 @@ def costs_by_rules(rows):
     names, history, paid = list(SCENARIO.shift_types), HISTORY, dict.fromkeys(SCENARIO.nurses, 0)
     for number, data in enumerate(WEEKS):
         cells = [
-            records.Cell(nurse, day, names[row[WEEK_DAYS * number + day] - 1], SCENARIO.nurses[nurse].skills[0])
+            records.Cell(
+                nurse,
+                day,
+                names[row[WEEK_DAYS * number + day] - 1],
+                SCENARIO.nurses[nurse].skills[0],
+            )
             for nurse, row in zip(SCENARIO.nurses, rows)
             for day in range(WEEK_DAYS)
             if row[WEEK_DAYS * number + day]
@@ -83,16 +91,26 @@ class FourWeeks(unittest.TestCase):
         chance = random.Random(1)
         for _ in range(5):
             rows = [random_row(self.pricing, nurse, chance) for nurse in self.nurses]
-            self.assertEqual([self.pricing.cost(nurse, row) for nurse, row in enumerate(rows)], costs_by_rules(rows))
+            self.assertEqual(
+                [self.pricing.cost(nurse, row) for nurse, row in enumerate(rows)],
+                costs_by_rules(rows),
+            )
 
     def test_no_row_costs_less_than_the_cheapest(self):
         chance, prices = random.Random(2), random_prices(self.pricing, 5)
         gains, crews = self.pricing.crews.gains(prices), self.pricing.crews.of
         for nurse, found in enumerate(cheapest(self.pricing)):
             rows = [found.row, *(random_row(self.pricing, nurse, chance) for _ in range(20))]
-            earned = [sum(gains[crews[nurse][day][choice]] for day, choice in enumerate(row)) for row in rows]
-            self.assertEqual(self.pricing.crews.earned(prices, [nurse] * len(rows), rows).tolist(), earned)
-            values = [POINT * self.pricing.cost(nurse, row) - less for row, less in zip(rows, earned)]
+            earned = [
+                sum(gains[crews[nurse][day][choice]] for day, choice in enumerate(row))
+                for row in rows
+            ]
+            self.assertEqual(
+                self.pricing.crews.earned(prices, [nurse] * len(rows), rows).tolist(), earned
+            )
+            values = [
+                POINT * self.pricing.cost(nurse, row) - less for row, less in zip(rows, earned)
+            ]
             self.assertEqual(found.value, values[0])
             self.assertEqual(found.value, min(values))
 
@@ -116,7 +134,9 @@ class Parts(HelperTest):
             kept.append(sum(costs(week, cells).values()))
             return kept[-1]
 
-        search = RowSearch(Pricing(plan, Crews(plan), lambda: None), solver, Clock(600), offer, lambda: None)
+        search = RowSearch(
+            Pricing(plan, Crews(plan), lambda: None), solver, Clock(600), offer, lambda: None
+        )
         search.begin(all_off(plan), None)
         search.generate(search.clock)
         RowParts(search, [solver, solver.beside(1)]).run(search.clock)
@@ -129,7 +149,11 @@ class Parts(HelperTest):
         plan = Plan.of(week.scenario, week.history, [week.data])
         solver = LinearSolver(Processes(), self.folder, self.fail)
         search = RowSearch(
-            Pricing(plan, Crews(plan), lambda: None), solver, Clock(600), lambda rows, finder: search.value_of(rows), lambda: None
+            Pricing(plan, Crews(plan), lambda: None),
+            solver,
+            Clock(600),
+            lambda rows, finder: search.value_of(rows),
+            lambda: None,
         )
         search.begin(all_off(plan), None)
         parts = RowParts(search, [solver, solver.beside(1)])
@@ -137,7 +161,11 @@ class Parts(HelperTest):
         def improve(part, solver, clock, roster):
             if solver is parts._solvers[1]:
                 words = ["sh", "-c", "echo ready; exec sleep 60"]
-                ended.append(solver._processes.run(words, 60, self.folder, hear=lambda data: ready.set()).status)
+                ended.append(
+                    solver._processes.run(
+                        words, 60, self.folder, hear=lambda data: ready.set()
+                    ).status
+                )
             ready.wait()
             search.bound, search.penalty = 0, 0
             return Done(True, 0)
@@ -151,7 +179,11 @@ class Parts(HelperTest):
         plan, warnings = Plan.of(SCENARIO, HISTORY, WEEKS[:1]), []
         solver = LinearSolver(Processes(), self.folder, warnings.append)
         search = RowSearch(
-            Pricing(plan, Crews(plan), lambda: None), solver, Clock(600), lambda rows, finder: search.value_of(rows), lambda: None
+            Pricing(plan, Crews(plan), lambda: None),
+            solver,
+            Clock(600),
+            lambda rows, finder: search.value_of(rows),
+            lambda: None,
         )
         search.begin(all_off(plan), None)
         parts, failed = RowParts(search, [solver, solver.beside(1)]), threading.Event()
@@ -168,7 +200,9 @@ class Parts(HelperTest):
 
         with mock.patch.object(parts, "improve", improve):
             parts.run(search.clock)
-        self.assertEqual(warnings, ["cbc wrote an empty answer: the search goes on with 1 of 2 threads"])
+        self.assertEqual(
+            warnings, ["cbc wrote an empty answer: the search goes on with 1 of 2 threads"]
+        )
 
         def fails(part, used, clock, roster):
             raise SolverFault("cbc wrote an empty answer")
@@ -182,12 +216,18 @@ class Parts(HelperTest):
         solver = LinearSolver(Processes(), self.folder, self.fail)
         for ended, grows in ((True, True), (False, False)):
             search = RowSearch(
-                Pricing(plan, Crews(plan), lambda: None), solver, Clock(600), lambda rows, finder: search.value_of(rows), lambda: None
+                Pricing(plan, Crews(plan), lambda: None),
+                solver,
+                Clock(600),
+                lambda rows, finder: search.value_of(rows),
+                lambda: None,
             )
             search.begin(all_off(plan), None)
             parts = RowParts(search, [solver])
             first = parts._sizes[7]
-            with mock.patch.object(RowParts, "improve", return_value=Done(ended, 1000)), self.assertRaises(TimeIsOver):
+            with mock.patch.object(
+                RowParts, "improve", return_value=Done(ended, 1000)
+            ), self.assertRaises(TimeIsOver):
                 parts.run(Clock(1.0))
             self.assertEqual(parts._sizes[7] > first, grows)
 

@@ -41,7 +41,11 @@ class Rounds(unittest.TestCase):
                 continue
             self.assertEqual(value, bound_of(pricing, prices))
             self.assertEqual([row.tobytes() for row in rows], [cheapest.row for cheapest in found])
-            cells = [(table, choice) for days, row in zip(pricing.crews.of, rows) for table, choice in zip(days, row)]
+            cells = [
+                (table, choice)
+                for days, row in zip(pricing.crews.of, rows)
+                for table, choice in zip(days, row)
+            ]
             taken = [pricing.crews.best_place(table[choice], prices) for table, choice in cells]
             self.assertEqual(there.tolist(), [taken.count(place) for place in range(len(prices))])
 
@@ -51,7 +55,9 @@ class Rounds(unittest.TestCase):
         rounds = approach(pricing, FEW, lambda: None).rounds
         self.assertEqual({len(rows) for rows in rounds}, {4})
         self.assertEqual(len(rounds), FEW.rounds)
-        self.assertNotIn(None, [pricing.cost(nurse, row) for rows in rounds for nurse, row in enumerate(rows)])
+        self.assertNotIn(
+            None, [pricing.cost(nurse, row) for rows in rounds for nurse, row in enumerate(rows)]
+        )
 
     def test_a_program_begins_with_the_last_rows(self):
         pricing = pricing_of(random_plan(3)[0])

@@ -36,7 +36,11 @@ def search_of(weeks):
     """A search over the rows of the first weeks of the month, with a first roster, and without a solver."""
     plan = Plan.of(SCENARIO, HISTORY, WEEKS[:weeks])
     search = RowSearch(
-        Pricing(plan, Crews(plan), lambda: None), None, Clock(600), lambda rows, _finder: search.value_of(rows), lambda: None
+        Pricing(plan, Crews(plan), lambda: None),
+        None,
+        Clock(600),
+        lambda rows, _finder: search.value_of(rows),
+        lambda: None,
     )
     search.begin(all_off(plan), None)
     return search
@@ -45,12 +49,19 @@ def search_of(weeks):
 class DaysOfParts(unittest.TestCase):
     def test_rows_change_on_the_days_of_a_part_only(self):
         rows = [b"\1\1\1", b"\2\2\2", b"\0\0\0"]
-        self.assertEqual(Part((0, 2), range(1, 2)).put(rows, [b"\3\3\3", b"\4\4\4"]), [b"\1\3\1", b"\2\2\2", b"\0\4\0"])
-        self.assertEqual(Part((1,), range(3)).put(rows, [b"\4\0\4"]), [b"\1\1\1", b"\4\0\4", b"\0\0\0"])
+        self.assertEqual(
+            Part((0, 2), range(1, 2)).put(rows, [b"\3\3\3", b"\4\4\4"]),
+            [b"\1\3\1", b"\2\2\2", b"\0\4\0"],
+        )
+        self.assertEqual(
+            Part((1,), range(3)).put(rows, [b"\4\0\4"]), [b"\1\1\1", b"\4\0\4", b"\0\0\0"]
+        )
 
     def test_the_cheapest_rows_on_two_days(self):
         whole, chance = search_of(1), random.Random(3)
-        gains = whole.pricing.crews.gains([chance.choice((0, 7_123, 30_000)) for _ in whole.pricing.crews.places])
+        gains = whole.pricing.crews.gains(
+            [chance.choice((0, 7_123, 30_000)) for _ in whole.pricing.crews.places]
+        )
         part = whole.pricing.on_days(range(4, 6), whole.rows)
         for nurse, row in enumerate(whole.rows):
             values = []
@@ -58,9 +69,14 @@ class DaysOfParts(unittest.TestCase):
                 other = row[:4] + bytes(two) + row[6:]
                 cost, crews = whole.pricing.cost(nurse, other), whole.pricing.crews.of[nurse]
                 if cost is not None:
-                    values.append(POINT * cost - sum(gains[crews[day][choice]] for day, choice in enumerate(other)))
+                    values.append(
+                        POINT * cost
+                        - sum(gains[crews[day][choice]] for day, choice in enumerate(other))
+                    )
             found = part.cheapest(nurse, gains)
-            self.assertEqual((found.value, found.row[:4], found.row[6:]), (min(values), row[:4], row[6:]))
+            self.assertEqual(
+                (found.value, found.row[:4], found.row[6:]), (min(values), row[:4], row[6:])
+            )
 
     def test_choices_that_are_kept_need_no_other_nurses(self):
         whole = search_of(1)
@@ -78,7 +94,9 @@ class DaysOfParts(unittest.TestCase):
         whole = search_of(1)
         for row in (EARLY, OFF, bytes([2] * 7)):
             whole.add_row(3, row)
-        costs = {row: whole.pricing.cost(3, row) for row in (EARLY, OFF, bytes([2] * 7), whole.rows[3])}
+        costs = {
+            row: whole.pricing.cost(3, row) for row in (EARLY, OFF, bytes([2] * 7), whole.rows[3])
+        }
         whole.prices = [0] * len(whole.prices)
         known = whole.known().rows
         self.assertEqual([costs[row] for row in known[3]], sorted(costs.values()))
@@ -88,14 +106,25 @@ class DaysOfParts(unittest.TestCase):
         whole = search_of(2)
         parts, asked = PartSearch(whole.pricing, whole.known(), None), whole.plan.demand
         of_all = parts.pricing(Part(tuple(range(30)), range(3, 8)), whole.rows).plan
-        self.assertEqual(of_all.demand, {place: asked[place] for place in asked if 3 <= place.day < 8})
+        self.assertEqual(
+            of_all.demand, {place: asked[place] for place in asked if 3 <= place.day < 8}
+        )
         of_one = parts.pricing(Part((4,), range(3, 8)), whole.rows).plan
         self.assertEqual(of_one.nurses, tuple(SCENARIO.nurses)[4:5])
-        self.assertTrue(all(3 <= place.day < 8 and left.optimal <= asked[place].optimal for place, left in of_one.demand.items()))
+        self.assertTrue(
+            all(
+                3 <= place.day < 8 and left.optimal <= asked[place].optimal
+                for place, left in of_one.demand.items()
+            )
+        )
 
     def test_rows_that_a_hard_rule_forbids_are_not_added(self):
         search = search_of(1)
-        forbidden = next(row for row in map(bytes, itertools.product(range(5), repeat=7)) if search.pricing.cost(3, row) is None)
+        forbidden = next(
+            row
+            for row in map(bytes, itertools.product(range(5), repeat=7))
+            if search.pricing.cost(3, row) is None
+        )
         self.assertFalse(search.add_row(3, forbidden))
         self.assertNotIn((3, forbidden), [column[:2] for column in search.program.columns])
 
@@ -129,7 +158,12 @@ class NextParts(unittest.TestCase):
 
     def test_sizes_follow_the_work(self):
         parts = RowParts(search_of(1), [])
-        for ended, work, size in ((True, 300, 30.0), (True, 1000, 23.0), (True, 5000, 20.0), (False, 10_000, 16.0)):
+        for ended, work, size in (
+            (True, 300, 30.0),
+            (True, 1000, 23.0),
+            (True, 5000, 20.0),
+            (False, 10_000, 16.0),
+        ):
             parts._sizes[7] = 20.0
             parts._learn(Part((0, 1), range(7)), Done(ended, work), parts._windows, False)
             self.assertAlmostEqual(parts._sizes[7], size)
@@ -137,7 +171,9 @@ class NextParts(unittest.TestCase):
     def test_closed_days_are_those_of_the_roster(self):
         parts, other = RowParts(search_of(1), []), Windows(0, random.Random(1))
         parts._sizes = dict.fromkeys(parts._sizes, 30)
-        days = {range(first, first + length) for length in parts._sizes for first in range(8 - length)}
+        days = {
+            range(first, first + length) for length in parts._sizes for first in range(8 - length)
+        }
         other.closed.update(days - {range(2, 6)})
         parts._windows.closed.add(range(2, 6))
         self.assertEqual(parts._next(parts._search, other).days, range(2, 6))
@@ -146,7 +182,9 @@ class NextParts(unittest.TestCase):
     def test_closed_days_of_all_nurses_come_again_if_no_others_are_left(self):
         parts = RowParts(search_of(1), [])
         parts._sizes = dict.fromkeys(parts._sizes, 30)
-        parts._windows.closed.update(range(first, first + length) for length in parts._sizes for first in range(8 - length))
+        parts._windows.closed.update(
+            range(first, first + length) for length in parts._sizes for first in range(8 - length)
+        )
         self.assertEqual(parts._next(parts._search, parts._windows).nurses, EVERYONE)
 
 
@@ -178,14 +216,25 @@ class Restarts(unittest.TestCase):
             return Done(True, STUCK_WORK // 4 + 1)
 
         with mock.patch.object(parts, "improve", improve), self.assertRaises(TimeIsOver):
-            with mock.patch.object(parts, "_dive", lambda _, __, dive: ([], math.inf) if dive.penalty else ([list(search.rows)], 1)):
+            with mock.patch.object(
+                parts,
+                "_dive",
+                lambda _, __, dive: ([], math.inf) if dive.penalty else ([list(search.rows)], 1),
+            ):
                 parts._work(None, clock, number)
         return [roster is search for roster in seen], len({id(roster) for roster in seen})
 
     def test_a_stuck_roster_is_left_for_a_new_one(self):
         # The first thread comes back to the best roster, and the others have one new roster after another.
-        for number, wanted, rosters in ((0, [True] * 4 + [False] * 4 + [True] * 4 + [False], 3), (1, [True] * 4 + [False] * 9, 4)):
-            self.assertEqual(self.seen(RowParts(search_of(2), [None, None]), number, 13), (wanted, rosters), number)
+        for number, wanted, rosters in (
+            (0, [True] * 4 + [False] * 4 + [True] * 4 + [False], 3),
+            (1, [True] * 4 + [False] * 9, 4),
+        ):
+            self.assertEqual(
+                self.seen(RowParts(search_of(2), [None, None]), number, 13),
+                (wanted, rosters),
+                number,
+            )
 
     def test_a_week_with_a_small_gap_has_one_roster(self):
         search = search_of(1)
@@ -205,7 +254,11 @@ class Restarts(unittest.TestCase):
             return Done(True, STUCK_WORK // 4 + 1)
 
         with mock.patch.object(parts, "improve", improve), self.assertRaises(TimeIsOver):
-            with mock.patch.object(parts, "_dive", lambda _, __, dive: ([], math.inf) if dive.penalty else ([list(search.rows)], 1)):
+            with mock.patch.object(
+                parts,
+                "_dive",
+                lambda _, __, dive: ([], math.inf) if dive.penalty else ([list(search.rows)], 1),
+            ):
                 parts._work(None, clock, 1)
         self.assertEqual([seen.index(roster) for roster in seen], [0] * 6 + [6] * 6 + [12])
 
@@ -225,7 +278,10 @@ class Restarts(unittest.TestCase):
 
         with mock.patch.multiple(parts, improve=improve, _dive=dive), self.assertRaises(TimeIsOver):
             parts._work(None, clock, 0)
-        self.assertEqual([(task.seed is None, task.penalty) for task in dives], [(True, search.penalty)] + [(False, None)] * 2)
+        self.assertEqual(
+            [(task.seed is None, task.penalty) for task in dives],
+            [(True, search.penalty)] + [(False, None)] * 2,
+        )
         # It prefers the choices of the best roster. A dive that is to end below it does not.
         self.assertEqual([task.preferred for task in dives], [None, search.rows, search.rows])
         self.assertIsNone(parts._dive_of(0, False, search.penalty).preferred)
@@ -235,7 +291,9 @@ class Restarts(unittest.TestCase):
         search.bound = (search.penalty - 5) * POINT
         parts = RowParts(search, [None, None])
         for number in range(2):
-            with mock.patch.object(parts, "_dive") as dive, mock.patch.object(RowSearch, "is_proved", True):
+            with mock.patch.object(parts, "_dive") as dive, mock.patch.object(
+                RowSearch, "is_proved", True
+            ):
                 with mock.patch.object(parts, "improve", lambda part, *_: seen.append(part)):
                     parts._work(mock.Mock(), Clock(LONG), number)
             dive.assert_not_called()
@@ -254,7 +312,13 @@ class DiveTest(HelperTest):
         """A search over the first weeks of the month that knows all rows of its linear program."""
         plan = Plan.of(SCENARIO, HISTORY, WEEKS[:weeks])
         pricing = Pricing(plan, Crews(plan), lambda: None)
-        search = WeekDives(pricing, self.solver, Clock(LONG), lambda rows, _finder: search.value_of(rows), lambda: None)
+        search = WeekDives(
+            pricing,
+            self.solver,
+            Clock(LONG),
+            lambda rows, _finder: search.value_of(rows),
+            lambda: None,
+        )
         search.generate(search.clock)
         return search
 
@@ -269,10 +333,14 @@ class Dives(DiveTest):
         self.assertLess(search.penalty, before)
         search.penalty = search.lower_bound
         # Rosters that are no better are asked for only without a penalty.
-        self.assertEqual(parts._dive(self.solver, search.clock, Dive(0.12, True, None, search.penalty))[0], [])
+        self.assertEqual(
+            parts._dive(self.solver, search.clock, Dive(0.12, True, None, search.penalty))[0], []
+        )
         found, work = parts._dive(self.solver, search.clock, Dive(0.12, True, None, None))
         self.assertTrue(found and 1 < work < math.inf)
-        self.assertEqual(parts._dive(self.solver, Clock(0.0), Dive(0.12, True, None, None)), ([], math.inf))
+        self.assertEqual(
+            parts._dive(self.solver, Clock(0.0), Dive(0.12, True, None, None)), ([], math.inf)
+        )
         self.assertTrue(parts._dives)
         week = search_of(1)
         week.bound, parts = (week.penalty - 5) * POINT, RowParts(week, [])
@@ -285,7 +353,9 @@ class Dives(DiveTest):
         program = search.program
         asked, program.most_iterations = [], program.iterations + 3
         solve = program._program.solve
-        with mock.patch.object(program._program, "solve", lambda *words: asked.append(words[2]) or solve(*words)):
+        with mock.patch.object(
+            program._program, "solve", lambda *words: asked.append(words[2]) or solve(*words)
+        ):
             search.program.shut(list(search.solved.shares)[1:])
             for _ in range(2):
                 try:

@@ -35,7 +35,9 @@ OPTIMA = {"n005w4": 320, "last12": 435, "thirty": 605}
 def week_of(name):
     """An example week."""
     folder = ROOT / "examples" / name
-    return files.read_files(folder / "ward.txt", min(folder.glob("history-*")), min(folder.glob("week-*")))
+    return files.read_files(
+        folder / "ward.txt", min(folder.glob("history-*")), min(folder.glob("week-*"))
+    )
 
 
 class Says(LinearSolver):
@@ -55,7 +57,9 @@ class RowSearches(HelperTest):
         """A search over the rows of a week. `rules` judge each roster."""
         self.plan = Plan.of(week.scenario, week.history, [week.data], early, held)
         self.warnings, self.penalties = [], []
-        solver = LinearSolver(Processes(), self.folder, self.warnings.append) if has_solver else None
+        solver = (
+            LinearSolver(Processes(), self.folder, self.warnings.append) if has_solver else None
+        )
 
         def offer(rows, _finder):
             roster = staffed(self.plan, run.crews, rows).cells
@@ -76,13 +80,17 @@ class RowSearches(HelperTest):
         for name, optimum in OPTIMA.items():
             with self.subTest(name):
                 search = self.run_rows(week_of(name)).search
-                self.assertEqual((search.penalty, search.lower_bound, search.is_proved), (optimum, optimum, True))
+                self.assertEqual(
+                    (search.penalty, search.lower_bound, search.is_proved), (optimum, optimum, True)
+                )
 
     def test_a_first_roster_without_a_solver(self):
         week = week_of("last60")
         plan = Plan.of(week.scenario, week.history, [week.data])
         pricing = Pricing(plan, Crews(plan), lambda: None)
-        search = RowSearch(pricing, None, Clock(600), lambda rows, finder: search.value_of(rows), lambda: None)
+        search = RowSearch(
+            pricing, None, Clock(600), lambda rows, finder: search.value_of(rows), lambda: None
+        )
         search.begin(all_off(plan), None)
         rows = all_off(plan)
         for _ in range(3):
@@ -92,7 +100,9 @@ class RowSearches(HelperTest):
         self.assertEqual(search.rows, rows)
         self.assertEqual(search.penalty, search.value_of(rows))
         cells = staffed(plan, pricing.crews, rows).cells
-        self.assertEqual((first_broken(week, cells), sum(costs(week, cells).values())), (None, search.penalty))
+        self.assertEqual(
+            (first_broken(week, cells), sum(costs(week, cells).values())), (None, search.penalty)
+        )
 
     @unittest.skipUnless(HAS_CBC, "needs cbc")
     def test_weeks_whose_first_rows_are_no_roster(self):
@@ -120,17 +130,23 @@ class RowSearches(HelperTest):
         self.addCleanup(solver.close)
         for few in (1, 2):
             run = RowRun(plan, solver, Clock(600.0), lambda rows, _finder: 10_000, lambda: None)
-            with mock.patch.object(row_run, "FEW_WEEKS", few), mock.patch.object(row_run, "Sweeps") as sweeps:
+            with mock.patch.object(row_run, "FEW_WEEKS", few), mock.patch.object(
+                row_run, "Sweeps"
+            ) as sweeps:
                 with mock.patch.object(RowRun, "_close_gap"):
                     run.run()
             self.assertEqual([sweeps.call_count, sweeps.return_value.end.call_count], [2 - few] * 2)
 
     def test_sweeps_end_before_the_best_plan_is_improved_part_by_part(self):
         week, order = week_of("n005w4"), []
-        plan, solver = Plan.of(week.scenario, week.history, [week.data, week.data]), mock.Mock(chooses=True)
+        plan, solver = Plan.of(week.scenario, week.history, [week.data, week.data]), mock.Mock(
+            chooses=True
+        )
         run = RowRun(plan, solver, Clock(600.0), lambda rows, _finder: None, lambda: None)
         run._sweeps = mock.Mock(end=lambda: order.append("sweeps"))
-        with mock.patch.object(row_run, "RowParts", return_value=mock.Mock(run=lambda clock: order.append("parts"))):
+        with mock.patch.object(
+            row_run, "RowParts", return_value=mock.Mock(run=lambda clock: order.append("parts"))
+        ):
             run._improve(mock.Mock(is_proved=False), solver, Clock(600.0))
         self.assertEqual(order, ["sweeps", "parts"])
 
@@ -146,16 +162,30 @@ class RowSearches(HelperTest):
             shares = [called.args[1] for called in search.dive.call_args_list]
             self.assertEqual(shares, list(row_run.MORE_DIVES) if weeks == 1 else [])
             # Only rows that a dive found are kept.
-            self.assertEqual([called.args[0] for called in search.keep.call_args_list], [[bytes(7)]] * 3 if weeks == 1 else [])
-            self.assertEqual((search.choose.call_count, parts.return_value.run.call_count), (2 - weeks, 1))
+            self.assertEqual(
+                [called.args[0] for called in search.keep.call_args_list],
+                [[bytes(7)]] * 3 if weeks == 1 else [],
+            )
+            self.assertEqual(
+                (search.choose.call_count, parts.return_value.run.call_count), (2 - weeks, 1)
+            )
 
     def test_a_tree_of_a_long_period_begins_at_a_small_gap(self):
         week = week_of("n005w4")
         run = RowRun(
-            Plan.of(week.scenario, week.history, [week.data, week.data]), None, Clock(600.0), lambda rows, _finder: None, lambda: None
+            Plan.of(week.scenario, week.history, [week.data, week.data]),
+            None,
+            Clock(600.0),
+            lambda rows, _finder: None,
+            lambda: None,
         )
         search = mock.Mock(penalty=0, bound=10_000_000)
-        for few, gap, narrow in ((2, 1_500_000, True), (2, 1_500_001, False), (1, 150_000, True), (1, 150_001, False)):
+        for few, gap, narrow in (
+            (2, 1_500_000, True),
+            (2, 1_500_001, False),
+            (1, 150_000, True),
+            (1, 150_001, False),
+        ):
             search.gap.return_value = gap
             with mock.patch.object(row_run, "FEW_WEEKS", few):
                 self.assertEqual(run._is_narrow(search), narrow)
@@ -175,7 +205,9 @@ class RowSearches(HelperTest):
         prices = leaf.prices
         self.assertEqual(len(places), len(prices))
         # Two head nurses cannot be at three places on two days, with a rest after the night.
-        self.assertEqual({place.skill for place, price in zip(places, prices) if price}, {"HeadNurse"})
+        self.assertEqual(
+            {place.skill for place, price in zip(places, prices) if price}, {"HeadNurse"}
+        )
 
     def test_contradictory_held_rows(self):
         week = week_of("ward")
@@ -197,7 +229,9 @@ class RowSearches(HelperTest):
     @unittest.skipUnless(HAS_CBC, "needs cbc")
     def test_a_cbc_that_fails_or_lies(self):
         for how in ("crash", "hang", "nan", "unknown", "takes_none", "denies"):
-            with self.subTest(how), self.fake(how), mock.patch.object(WeekDives, "dive", lambda *_, **__: None):
+            with self.subTest(how), self.fake(how), mock.patch.object(
+                WeekDives, "dive", lambda *_, **__: None
+            ):
                 search = self.run_rows(week_of("last12"), seconds=4.0).search
                 self.assertGreaterEqual(min(self.penalties), 435)
                 self.assertLessEqual(search.lower_bound or 0, 435)
@@ -222,8 +256,13 @@ class RowSearches(HelperTest):
                     self.assertTrue(solver.chooses)
                     self.assertEqual(solver.choose(model, Clock(600), None, 1), Chosen(None, False))
                 self.assertFalse(solver.chooses)
-                self.assertEqual(warnings, [f"{fault}: the search goes on without integer programs"])
-        self.assertEqual(LinearSolver(Processes(), self.folder, self.fail).choose(model, Clock(600), None, 1), Chosen(["v1"], True))
+                self.assertEqual(
+                    warnings, [f"{fault}: the search goes on without integer programs"]
+                )
+        self.assertEqual(
+            LinearSolver(Processes(), self.folder, self.fail).choose(model, Clock(600), None, 1),
+            Chosen(["v1"], True),
+        )
 
     def fake(self, how):
         """A cbc that behaves so."""
@@ -237,7 +276,9 @@ class RowSearches(HelperTest):
         solver = LinearSolver(Processes(), self.folder, self.fail)
         self.addCleanup(solver.close)
         pricing = Pricing(plan, Crews(plan), lambda: None)
-        search = WeekDives(pricing, solver, Clock(600), lambda rows, finder: search.value_of(rows), lambda: None)
+        search = WeekDives(
+            pricing, solver, Clock(600), lambda rows, finder: search.value_of(rows), lambda: None
+        )
         search.begin(all_off(plan), None)
         search.generate(search.clock)
         before = search.penalty
@@ -245,14 +286,20 @@ class RowSearches(HelperTest):
             self.assertIsNone(search.dive(Clock(600)))
         self.assertLess(search.penalty, before)
         cells = staffed(plan, search.pricing.crews, search.rows).cells
-        self.assertEqual((first_broken(week, cells), sum(costs(week, cells).values())), (None, search.penalty))
+        self.assertEqual(
+            (first_broken(week, cells), sum(costs(week, cells).values())), (None, search.penalty)
+        )
 
     def chosen(self, names, proved):
         """What a search makes of this answer to a program whose only rows are those of nurses who are always off."""
         week = week_of("ward")
         plan = Plan.of(week.scenario, week.history, [week.data])
         search = RowSearch(
-            Pricing(plan, Crews(plan), lambda: None), Says(names, proved), Clock(600), lambda rows, finder: None, lambda: None
+            Pricing(plan, Crews(plan), lambda: None),
+            Says(names, proved),
+            Clock(600),
+            lambda rows, finder: None,
+            lambda: None,
         )
         for nurse in range(len(plan.nurses)):
             search.add_row(nurse, bytes(7))
@@ -276,8 +323,16 @@ class RowSearches(HelperTest):
         self.addCleanup(solver.close)
         for weeks, dives in ((1, 1), (2, 0)):
             plan = Plan.of(week.scenario, week.history, [week.data] * weeks)
-            run = RowRun(plan, solver, Clock(600.0), lambda rows, _finder: run.search.value_of(rows), lambda: None)
-            with mock.patch.object(WeekDives, "dive", return_value=None) as dive, mock.patch.object(RowRun, "_close_gap"):
+            run = RowRun(
+                plan,
+                solver,
+                Clock(600.0),
+                lambda rows, _finder: run.search.value_of(rows),
+                lambda: None,
+            )
+            with mock.patch.object(WeekDives, "dive", return_value=None) as dive, mock.patch.object(
+                RowRun, "_close_gap"
+            ):
                 run.run()
             self.assertEqual(dive.call_count, dives)
 
@@ -289,14 +344,24 @@ class RowSearches(HelperTest):
         plan = Plan.of(week.scenario, week.history, [week.data, week.data])
         for penalty in (None, 10_000):
             run = RowRun(plan, solver, Clock(600.0), lambda rows, _finder: penalty, lambda: None)
-            with mock.patch.object(row_run, "FEW_WEEKS", 1), mock.patch.object(row_run, "Sweeps") as sweeps:
-                with mock.patch.object(WeekDives, "dive", return_value=None), mock.patch.object(RowRun, "_close_gap"):
+            with mock.patch.object(row_run, "FEW_WEEKS", 1), mock.patch.object(
+                row_run, "Sweeps"
+            ) as sweeps:
+                with mock.patch.object(WeekDives, "dive", return_value=None), mock.patch.object(
+                    RowRun, "_close_gap"
+                ):
                     run.run()
             self.assertEqual(sweeps.called, penalty is not None)
 
     def test_a_tree_does_not_begin_at_a_wide_gap(self):
         week = week_of("n005w4")
-        run = RowRun(Plan.of(week.scenario, week.history, [week.data]), None, Clock(600.0), lambda rows, _finder: None, lambda: None)
+        run = RowRun(
+            Plan.of(week.scenario, week.history, [week.data]),
+            None,
+            Clock(600.0),
+            lambda rows, _finder: None,
+            lambda: None,
+        )
         for answers, begins in (([False, True], 1), ([False], 0)):
             clock = Clock(600.0)
 
@@ -305,24 +370,44 @@ class RowSearches(HelperTest):
                     clock.stop()
                 return answers.pop(0)
 
-            with mock.patch.object(run, "_is_narrow", is_narrow), mock.patch.object(run, "_run_tree") as tree:
-                with mock.patch.object(row_run, "WAIT_SECONDS", 0), mock.patch.object(run, "_is_proved", return_value=True):
+            with mock.patch.object(run, "_is_narrow", is_narrow), mock.patch.object(
+                run, "_run_tree"
+            ) as tree:
+                with mock.patch.object(row_run, "WAIT_SECONDS", 0), mock.patch.object(
+                    run, "_is_proved", return_value=True
+                ):
                     run._close_cases(mock.Mock(penalty=None), None, mock.Mock(), clock)
             self.assertEqual(tree.call_count, begins)
 
     def test_a_plan_that_comes_after_the_tree_has_ended_ends_the_search(self):
         week = week_of("n005w4")
-        run = RowRun(Plan.of(week.scenario, week.history, [week.data]), None, Clock(600.0), lambda rows, _finder: None, lambda: None)
+        run = RowRun(
+            Plan.of(week.scenario, week.history, [week.data]),
+            None,
+            Clock(600.0),
+            lambda rows, _finder: None,
+            lambda: None,
+        )
         clock, solver = Clock(600.0), mock.Mock()
-        with mock.patch.object(run, "_is_narrow", return_value=True), mock.patch.object(run, "_run_tree"):
-            with mock.patch.object(row_run, "WAIT_SECONDS", 0), mock.patch.object(run, "_is_proved", side_effect=[False, False, True]):
+        with mock.patch.object(run, "_is_narrow", return_value=True), mock.patch.object(
+            run, "_run_tree"
+        ):
+            with mock.patch.object(row_run, "WAIT_SECONDS", 0), mock.patch.object(
+                run, "_is_proved", side_effect=[False, False, True]
+            ):
                 run._close_cases(mock.Mock(), None, solver, clock)
         self.assertTrue(clock.stopped)
         solver.end_all.assert_called_once_with()
 
     def test_a_proved_plan_is_not_improved(self):
         week = week_of("n005w4")
-        run = RowRun(Plan.of(week.scenario, week.history, [week.data] * 2), None, Clock(600.0), lambda rows, _finder: None, lambda: None)
+        run = RowRun(
+            Plan.of(week.scenario, week.history, [week.data] * 2),
+            None,
+            Clock(600.0),
+            lambda rows, _finder: None,
+            lambda: None,
+        )
         for is_proved in (True, False):
             with mock.patch.object(row_run, "RowParts") as parts:
                 run._improve(mock.Mock(is_proved=is_proved), mock.Mock(), Clock(600.0))
@@ -331,7 +416,14 @@ class RowSearches(HelperTest):
     def test_first_rows_below_minimums_are_not_offered(self):
         week, finders = week_of("n005w4"), []
         plan = Plan.of(week.scenario, week.history, [week.data])
-        run = RowRun(plan, None, Clock(600.0), lambda _rows, finder: finders.append(finder), lambda: None, all_off(plan))
+        run = RowRun(
+            plan,
+            None,
+            Clock(600.0),
+            lambda _rows, finder: finders.append(finder),
+            lambda: None,
+            all_off(plan),
+        )
         run.run()
         self.assertEqual(finders, ["one nurse after another"])
 

@@ -22,23 +22,53 @@ POINT = 1000
 def random_plan(seed, weeks=1, nurses=4, shifts=4):
     """A plan with hostile numbers: limits of 0 and 9999, histories that contradict themselves, nurses without skills."""
     chance = random.Random(seed)
-    number = lambda: chance.choice([0, 0, 1, 1, 2, 3, 4, 5, 6, 7, 9, 15, 9999] if seed % 2 else range(7))  # noqa: E731
+    number = lambda: chance.choice(
+        [0, 0, 1, 1, 2, 3, 4, 5, 6, 7, 9, 15, 9999] if seed % 2 else range(7)
+    )  # noqa: E731
     limits = lambda: records.Limits(number(), number())  # noqa: E731
-    names, skills = [f"s{n}" for n in range(chance.randint(1, shifts))], ["a", "b"][: chance.randint(1, 2)]
-    types = {name: records.ShiftType(name, limits(), tuple(t for t in names if chance.random() < 0.25)) for name in names}
-    contracts = {name: records.Contract(name, limits(), limits(), limits(), number(), chance.random() < 0.5) for name in "cd"}
+    names, skills = [f"s{n}" for n in range(chance.randint(1, shifts))], ["a", "b"][
+        : chance.randint(1, 2)
+    ]
+    types = {
+        name: records.ShiftType(name, limits(), tuple(t for t in names if chance.random() < 0.25))
+        for name in names
+    }
+    contracts = {
+        name: records.Contract(name, limits(), limits(), limits(), number(), chance.random() < 0.5)
+        for name in "cd"
+    }
     people = {
-        f"n{n}": records.Nurse(f"n{n}", chance.choice("cd"), tuple(s for s in skills if chance.random() < 0.8)) for n in range(nurses)
+        f"n{n}": records.Nurse(
+            f"n{n}", chance.choice("cd"), tuple(s for s in skills if chance.random() < 0.8)
+        )
+        for n in range(nurses)
     }
     ward = records.Scenario("x", 3, tuple(skills), types, contracts, people)
     few = lambda: min(number(), 9900)  # noqa: E731
-    pasts = {name: records.NurseHistory(name, few(), few(), chance.choice([None, *names]), number(), number(), number()) for name in people}
+    pasts = {
+        name: records.NurseHistory(
+            name, few(), few(), chance.choice([None, *names]), number(), number(), number()
+        )
+        for name in people
+    }
     history = records.History(chance.randint(0, 3 - weeks), "x", pasts)
     data = []
     for _ in range(weeks):
-        places = [records.Place(*place) for place in itertools.product(range(7), names, skills) if chance.random() < 0.7]
-        asked = {place: records.Requirement(chance.choice([0, 0, 0, 1]), chance.choice([0, 1, 2])) for place in places}
-        requests = [records.Request(chance.choice(list(people)), chance.choice([None, *names]), chance.randrange(7)) for _ in range(6)]
+        places = [
+            records.Place(*place)
+            for place in itertools.product(range(7), names, skills)
+            if chance.random() < 0.7
+        ]
+        asked = {
+            place: records.Requirement(chance.choice([0, 0, 0, 1]), chance.choice([0, 1, 2]))
+            for place in places
+        }
+        requests = [
+            records.Request(
+                chance.choice(list(people)), chance.choice([None, *names]), chance.randrange(7)
+            )
+            for _ in range(6)
+        ]
         data.append(records.WeekData("x", asked, tuple(requests)))
     return Plan.of(ward, history, data, chance.random() < 0.5), chance
 
@@ -64,14 +94,20 @@ def cost_by_rules(plan, nurse, cells):
         if "H3" in broken(week, now):
             return None
         total += sum(nurse_costs(week, now, plan.early)[nurse].values())
-        history = next_history(plan.scenario, history, now) if number + 1 < len(plan.weeks) else history
+        history = (
+            next_history(plan.scenario, history, now) if number + 1 < len(plan.weeks) else history
+        )
     return total
 
 
 def cells_of(plan, nurse, row):
     """The cells of a row, with any skill."""
     shifts = list(plan.scenario.shift_types)
-    return [records.Cell(nurse, day, shifts[choice - 1], "a") for day, choice in enumerate(row) if choice]
+    return [
+        records.Cell(nurse, day, shifts[choice - 1], "a")
+        for day, choice in enumerate(row)
+        if choice
+    ]
 
 
 class Rows(unittest.TestCase):
@@ -81,7 +117,10 @@ class Rows(unittest.TestCase):
             pricing = pricing_of(plan)
             for index, nurse in enumerate(plan.nurses):
                 for _ in range(6):
-                    row = bytes(chance.randrange(len(plan.scenario.shift_types) + 1) for _ in range(plan.days))
+                    row = bytes(
+                        chance.randrange(len(plan.scenario.shift_types) + 1)
+                        for _ in range(plan.days)
+                    )
                     wanted = cost_by_rules(plan, nurse, cells_of(plan, nurse, row))
                     if any(row) and not plan.scenario.nurses[nurse].skills:
                         wanted = None
@@ -95,17 +134,23 @@ class Rows(unittest.TestCase):
             gains = pricing.crews.gains(prices)
             for nurse in range(2):
                 table, values = pricing.crews.of[nurse], {}
-                for choices in itertools.product(range(len(plan.scenario.shift_types) + 1), repeat=7):
+                for choices in itertools.product(
+                    range(len(plan.scenario.shift_types) + 1), repeat=7
+                ):
                     cost = pricing.cost(nurse, bytes(choices))
                     if cost is not None:
-                        values[bytes(choices)] = cost * POINT - sum(gains[table[day][choice]] for day, choice in enumerate(choices))
+                        values[bytes(choices)] = cost * POINT - sum(
+                            gains[table[day][choice]] for day, choice in enumerate(choices)
+                        )
                 best = pricing.cheapest(nurse, gains)
                 self.assertEqual((best.value, values[best.row]), (min(values.values()), best.value))
 
     def test_no_prices_give_a_bound_above_a_roster(self):
         for seed in range(60):
             plan, chance = random_plan(seed)
-            pricing, week = pricing_of(plan), records.Week(plan.scenario, plan.history, plan.weeks[0])
+            pricing, week = pricing_of(plan), records.Week(
+                plan.scenario, plan.history, plan.weeks[0]
+            )
             prices = [chance.choice([0, 15, 30, 200]) * POINT for _ in pricing.crews.places]
             found = [pricing.cheapest(nurse, pricing.crews.gains(prices)) for nurse in range(4)]
             bound = bound_of(pricing, prices)
@@ -118,34 +163,54 @@ class Rows(unittest.TestCase):
                 if rule is None:
                     total = sum(costs(week, roster.cells, plan.early).values())
                     self.assertLessEqual(bound, total * POINT)
-                    self.assertEqual(total, sum(pricing.cost(index, row) for index, row in enumerate(rows)) + 30 * roster.missing)
+                    self.assertEqual(
+                        total,
+                        sum(pricing.cost(index, row) for index, row in enumerate(rows))
+                        + 30 * roster.missing,
+                    )
 
     def test_a_bound_counts_rosters_that_break_absences(self):
         for seed in range(10):
             plan, chance = random_plan(seed)
             away = records.Request(chance.choice(plan.nurses), None, chance.randrange(7))
             data = [replace(plan.weeks[0], requests=(away,) * MARK)]
-            keeping, free = (Plan.of(plan.scenario, plan.history, data, plan.early, keeping=keeping) for keeping in (STRICT, FREE))
-            self.assertTrue(keeping.is_away(away.nurse, away.day, next(iter(plan.scenario.shift_types))))
+            keeping, free = (
+                Plan.of(plan.scenario, plan.history, data, plan.early, keeping=keeping)
+                for keeping in (STRICT, FREE)
+            )
+            self.assertTrue(
+                keeping.is_away(away.nurse, away.day, next(iter(plan.scenario.shift_types)))
+            )
             pricing = pricing_of(keeping)
             prices = [chance.choice([0, 30, 900]) * POINT for _ in pricing.crews.places]
-            self.assertEqual(bound_of(pricing_of(keeping.kept(FREE)), prices), bound_of(pricing_of(free), prices))
+            self.assertEqual(
+                bound_of(pricing_of(keeping.kept(FREE)), prices), bound_of(pricing_of(free), prices)
+            )
             self.assertLessEqual(bound_of(pricing_of(free), prices), bound_of(pricing, prices))
 
     def test_skills_fill_as_many_places_as_they_can(self):
         for seed in range(200):
             plan, chance = random_plan(seed, shifts=1)
             pricing = pricing_of(plan)
-            rows = [bytes([int(bool(plan.scenario.nurses[nurse].skills)), *bytes(6)]) for nurse in plan.nurses]
+            rows = [
+                bytes([int(bool(plan.scenario.nurses[nurse].skills)), *bytes(6)])
+                for nurse in plan.nurses
+            ]
             roster = staffed(plan, pricing.crews, rows)
-            choices = [plan.scenario.nurses[nurse].skills for nurse, row in zip(plan.nurses, rows) if row[0]]
+            choices = [
+                plan.scenario.nurses[nurse].skills
+                for nurse, row in zip(plan.nurses, rows)
+                if row[0]
+            ]
             least = []
             for skills in itertools.product(*choices):
                 below = missing = 0
                 for place, asked in plan.demand.items():
                     number = skills.count(place.skill) if place.day == 0 else 0
                     below += max(0, asked.minimum - number)
-                    missing += asked.optimal - max(number, asked.minimum) if number < asked.optimal else 0
+                    missing += (
+                        asked.optimal - max(number, asked.minimum) if number < asked.optimal else 0
+                    )
                 least.append((below, missing))
             self.assertEqual((roster.below, roster.missing), min(least), seed)
 
@@ -154,7 +219,10 @@ class Rows(unittest.TestCase):
         scenario = files.read_scenario(ward / "ward.txt")
         weeks = [files.read_week(ward / f"week-{number}.txt", scenario) for number in range(4)]
         with self.assertRaises(TimeIsOver):
-            pricing_of(Plan.of(scenario, files.read_history(ward / "history-0.txt", scenario), weeks), Clock(0.0).check)
+            pricing_of(
+                Plan.of(scenario, files.read_history(ward / "history-0.txt", scenario), weeks),
+                Clock(0.0).check,
+            )
 
     def test_rows_that_get_better_one_after_another(self):
         for seed in range(20):

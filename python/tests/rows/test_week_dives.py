@@ -25,7 +25,9 @@ from inrc2pb.solvers.resident_program import DUAL, INFEASIBLE, PRIMAL, LinearPro
 class Kept(unittest.TestCase):
     def test_the_cheapest_rows_with_choices_that_are_kept(self):
         whole, chance = search_of(1), random.Random(3)
-        gains = whole.pricing.crews.gains([chance.choice((0, 7_123, 30_000)) for _ in whole.pricing.crews.places])
+        gains = whole.pricing.crews.gains(
+            [chance.choice((0, 7_123, 30_000)) for _ in whole.pricing.crews.places]
+        )
         row = whole.rows[4]
         kept = whole.pricing.keeping([(4, range(0, 4), row[:4]), (4, range(6, 7), row[6:])])
         values = []
@@ -33,10 +35,20 @@ class Kept(unittest.TestCase):
             other = row[:4] + bytes(two) + row[6:]
             cost = whole.pricing.cost(4, other)
             if cost is not None:
-                values.append(POINT * cost - sum(gains[whole.pricing.crews.of[4][day][choice]] for day, choice in enumerate(other)))
+                values.append(
+                    POINT * cost
+                    - sum(
+                        gains[whole.pricing.crews.of[4][day][choice]]
+                        for day, choice in enumerate(other)
+                    )
+                )
         found = kept.cheapest(4, gains)
-        self.assertEqual((found.value, found.row[:4], found.row[6:]), (min(values), row[:4], row[6:]))
-        self.assertEqual(kept.cheapest_of(range(30), gains), [kept.cheapest(nurse, gains) for nurse in range(30)])
+        self.assertEqual(
+            (found.value, found.row[:4], found.row[6:]), (min(values), row[:4], row[6:])
+        )
+        self.assertEqual(
+            kept.cheapest_of(range(30), gains), [kept.cheapest(nurse, gains) for nurse in range(30)]
+        )
         self.assertEqual(kept.cheapest(5, gains), whole.pricing.cheapest(5, gains))
 
 
@@ -67,7 +79,9 @@ class Dives(DiveTest):
             return solve(program, clock, how)
 
         fixings = mock.Mock(side_effect=search._fix)
-        with mock.patch.object(RowProgram, "solve", watched), mock.patch.object(search, "_fix", fixings):
+        with mock.patch.object(RowProgram, "solve", watched), mock.patch.object(
+            search, "_fix", fixings
+        ):
             self.assertIsNotNone(search.dive(search.clock))
         self.assertEqual(asked[0], PRIMAL)
         self.assertEqual(asked.count(DUAL), fixings.call_count)
@@ -118,9 +132,15 @@ class Dives(DiveTest):
         self.assertEqual(part.iterations, known.program.iterations)
         # In a long period it fixes without care, which takes too long there.
         for few, in_order, care in ((4, False, 8), (4, True, 8), (1, True, 0)):
-            with mock.patch.object(WeekDives, "dive", autospec=True, side_effect=WeekDives.dive) as dive:
+            with mock.patch.object(
+                WeekDives, "dive", autospec=True, side_effect=WeekDives.dive
+            ) as dive:
                 with mock.patch.object(part_search, "FEW_WEEKS", few):
-                    done = parts.dive(search.clock, lambda rows, _finder: offered.append(rows) or True, Dive(0.3, in_order, None, None))
+                    done = parts.dive(
+                        search.clock,
+                        lambda rows, _finder: offered.append(rows) or True,
+                        Dive(0.3, in_order, None, None),
+                    )
             self.assertTrue(done.ended and done.work)
             self.assertEqual(dive.call_args[0][4:], (in_order, care))
             self.assertLess(search.value_of(offered[-1]), search.lower_bound + 100)
@@ -128,19 +148,33 @@ class Dives(DiveTest):
     def test_no_dive_depends_on_those_before_it(self):
         search, offered, begun, programs = self.generated(), [], [], []
         known, before = search.known()._replace(program=search.program), len(search.program.columns)
-        parts, other, whole_dive = PartSearch(search.pricing, known, self.solver.beside(1)), [OFF * 2] * 30, WeekDives.dive
+        parts, other, whole_dive = (
+            PartSearch(search.pricing, known, self.solver.beside(1)),
+            [OFF * 2] * 30,
+            WeekDives.dive,
+        )
 
         def dive(own, *words, **named):
             begun.append((len(own.program.columns), own.penalty, own.rows))
             programs.append(own.program._program)
             return whole_dive(own, *words, **named)
 
-        with mock.patch.object(WeekDives, "dive", dive), mock.patch.object(LinearProgram, "close", autospec=True) as close:
-            for task in (Dive(0.3, False, 7, None), Dive(0.3, False, 7, None), Dive(0.3, False, 7, 9000, other)):
+        with mock.patch.object(WeekDives, "dive", dive), mock.patch.object(
+            LinearProgram, "close", autospec=True
+        ) as close:
+            for task in (
+                Dive(0.3, False, 7, None),
+                Dive(0.3, False, 7, None),
+                Dive(0.3, False, 7, 9000, other),
+            ):
                 offered.append([])
-                done = parts.dive(search.clock, lambda rows, _finder: offered[-1].append(rows) or True, task)
+                done = parts.dive(
+                    search.clock, lambda rows, _finder: offered[-1].append(rows) or True, task
+                )
                 self.assertTrue(done.ended and done.work)
-            self.assertEqual(parts.dive(Clock(0.0), lambda *_: True, Dive(0.3, False, 7, None)), Done(False, 0))
+            self.assertEqual(
+                parts.dive(Clock(0.0), lambda *_: True, Dive(0.3, False, 7, None)), Done(False, 0)
+            )
         columns = begun[0][0]
         self.assertEqual(begun, [(columns, None, None)] * 2 + [(columns, 9000, other)])
         self.assertEqual(offered[0], offered[1])
@@ -156,7 +190,9 @@ class Dives(DiveTest):
         search = self.generated()
         lower, fixings = search.lower_bound, mock.Mock(side_effect=search._fix)
         rounds = mock.Mock(side_effect=week_dives.approach)
-        with mock.patch.object(week_dives, "approach", rounds), mock.patch.object(search, "_fix", fixings):
+        with mock.patch.object(week_dives, "approach", rounds), mock.patch.object(
+            search, "_fix", fixings
+        ):
             search.dive(search.clock, 0.3)
             rounds.assert_not_called()
             fixings.reset_mock()
@@ -188,7 +224,9 @@ class Dives(DiveTest):
     def test_weeks_in_order(self):
         search = self.generated()
         left = [_Week(nurse, number) for number in range(2) for nurse in range(30)]
-        (ordered, some), (free, more) = (search._chosen(search.solved, left, 0.5, None, in_order) for in_order in (True, False))
+        (ordered, some), (free, more) = (
+            search._chosen(search.solved, left, 0.5, None, in_order) for in_order in (True, False)
+        )
         shares = search._shares(search.solved, left)
         whole = {week for week in left if max(shares[week].values()) > week_dives.WHOLE}
         others = [week for week in left if week not in whole]
@@ -213,12 +251,29 @@ class Dives(DiveTest):
         of_weeks = search._shares(search.solved, left)
         # The rows of the smallest shares, which count more only by chance.
         search.rows = [
-            b"".join(min(week, key=week.__getitem__) for week in (of_weeks[_Week(n, 0)], of_weeks[_Week(n, 1)])) for n in range(30)
+            b"".join(
+                min(week, key=week.__getitem__)
+                for week in (of_weeks[_Week(n, 0)], of_weeks[_Week(n, 1)])
+            )
+            for n in range(30)
         ]
-        fixed = [search._chosen(search.solved, left, 0.3, seed, False)[0] for seed in (None, None, chance, chance)]
+        fixed = [
+            search._chosen(search.solved, left, 0.3, seed, False)[0]
+            for seed in (None, None, chance, chance)
+        ]
         self.assertEqual(fixed[0], fixed[1])
-        self.assertTrue(all(of_weeks[week][choices] == max(of_weeks[week].values()) for week, choices in fixed[0].items()))
-        self.assertFalse(all(of_weeks[week][choices] == max(of_weeks[week].values()) for week, choices in fixed[2].items()))
+        self.assertTrue(
+            all(
+                of_weeks[week][choices] == max(of_weeks[week].values())
+                for week, choices in fixed[0].items()
+            )
+        )
+        self.assertFalse(
+            all(
+                of_weeks[week][choices] == max(of_weeks[week].values())
+                for week, choices in fixed[2].items()
+            )
+        )
         # The order of the weeks is by chance, too.
         self.assertNotEqual(list(fixed[2]), list(fixed[3]))
 
@@ -236,7 +291,9 @@ class Dives(DiveTest):
             fixing = search._fix(weeks, others)
             self.assertIsNot(search.pricing, before)
             halved = search._halved(fixing)
-        self.assertEqual(fixings[1], (fixings[0][0][: len(weeks) - others + others // 2], others // 2))
+        self.assertEqual(
+            fixings[1], (fixings[0][0][: len(weeks) - others + others // 2], others // 2)
+        )
         self.assertIs(halved.pricing, before)
         self.assertEqual(set(search.program._shut), set(halved.shut))
         self.assertLess(set(halved.shut), set(fixing.shut))
@@ -252,12 +309,22 @@ class Dives(DiveTest):
 
         for places in (400, 0):
             del fixings[:], asked[:]
-            with mock.patch.multiple(week_dives, MOST_RISE=-1e6, MANY_PLACES=places), mock.patch.object(search, "_fix", see):
+            with mock.patch.multiple(
+                week_dives, MOST_RISE=-1e6, MANY_PLACES=places
+            ), mock.patch.object(search, "_fix", see):
                 with mock.patch.object(RowProgram, "solve", watched):
                     rows = search.dive(search.clock, 0.2)
             numbers = [others for _, others in fixings]
-            self.assertTrue(all(others // 2 == after for others, after in zip(numbers, numbers[1:]) if others > 1))
-            self.assertEqual(asked.count(DUAL), len(numbers) if places else sum(others < 2 for others in numbers))
+            self.assertTrue(
+                all(
+                    others // 2 == after
+                    for others, after in zip(numbers, numbers[1:])
+                    if others > 1
+                )
+            )
+            self.assertEqual(
+                asked.count(DUAL), len(numbers) if places else sum(others < 2 for others in numbers)
+            )
             # Later fewer are fixed at once.
             self.assertLess(max(numbers[numbers.index(1) :]), numbers[0] // 2)
             self.assertLess(search.value_of(rows), search.lower_bound + 100)
@@ -277,7 +344,9 @@ class Dives(DiveTest):
 
         for care in (0, 3):
             del undone[:]
-            with mock.patch.object(search, "_halved", undo), mock.patch.object(search, "_relaxed_with", dearer):
+            with mock.patch.object(search, "_halved", undo), mock.patch.object(
+                search, "_relaxed_with", dearer
+            ):
                 rows = search.dive(search.clock, 0.3, care=care)
             self.assertEqual(len(undone), care)
             self.assertTrue(all(others > 1 for others in undone))
@@ -285,11 +354,19 @@ class Dives(DiveTest):
 
     def test_the_next_share(self):
         steady, rising = 0.0, week_dives.LITTLE_RISE
-        self.assertEqual([week_dives._next_share(0.1, most, steady) for most in (0.3, 0.15)], [0.2, 0.15])
+        self.assertEqual(
+            [week_dives._next_share(0.1, most, steady) for most in (0.3, 0.15)], [0.2, 0.15]
+        )
         self.assertEqual(week_dives._next_share(0.1, 0.3, rising), 0.1)
         self.assertAlmostEqual(week_dives._next_share(0.1, 0.0, steady), 0.15)
         self.assertAlmostEqual(week_dives._next_share(0.1, 0.0, rising), 0.07)
-        self.assertEqual([week_dives._next_share(share, 0.0, rise) for share, rise in ((0.4, steady), (0.02, rising))], [0.5, 0.02])
+        self.assertEqual(
+            [
+                week_dives._next_share(share, 0.0, rise)
+                for share, rise in ((0.4, steady), (0.02, rising))
+            ],
+            [0.5, 0.02],
+        )
 
     def test_no_row_without_the_fixed_weeks(self):
         search, fixed = self.generated(), {}
@@ -307,13 +384,19 @@ class Dives(DiveTest):
         with mock.patch.object(search, "_fix", see):
             rows = search.dive(search.clock, 0.2)
         self.assertEqual(len(fixed), 60)
-        self.assertTrue(all(week.of(rows[week.nurse]) == choices for week, choices in fixed.items()))
+        self.assertTrue(
+            all(week.of(rows[week.nurse]) == choices for week, choices in fixed.items())
+        )
 
     def test_weeks_without_other_choices_by_chance(self):
         search, whole, week = self.generated(), _Week(3, 1), _Week(4, 1)
         search.rows = [OFF * 2] * 30
-        with mock.patch.object(search, "_shares", return_value={whole: {EARLY: 1.0}, week: {EARLY: 0.3, OFF: 0.7}}):
-            weeks, others = search._chosen(search.solved, [whole, week], 0.3, random.Random(1), False)
+        with mock.patch.object(
+            search, "_shares", return_value={whole: {EARLY: 1.0}, week: {EARLY: 0.3, OFF: 0.7}}
+        ):
+            weeks, others = search._chosen(
+                search.solved, [whole, week], 0.3, random.Random(1), False
+            )
         self.assertEqual((list(weeks), others), ([whole, week], 1))
 
     def test_by_chance_choices_of_the_best_roster_are_fixed(self):
@@ -321,7 +404,9 @@ class Dives(DiveTest):
         search.rows = [OFF * 2] * 30
         with mock.patch.object(search, "_shares", return_value={week: {more: 0.5, kept: 0.45}}):
             for chance, choices in ((None, more), (random.Random(1), kept)):
-                self.assertEqual(search._chosen(search.solved, [week], 0.3, chance, False), ({week: choices}, 1))
+                self.assertEqual(
+                    search._chosen(search.solved, [week], 0.3, chance, False), ({week: choices}, 1)
+                )
 
     def test_parts_apart_have_processes(self):
         parts = RowParts(search_of(1), [self.solver], apart=True)
@@ -333,7 +418,9 @@ class Columns(unittest.TestCase):
         program = search_of(1).program
         self.assertEqual([program.shut([0, 1]), program.shut([1, 2])], [[0, 1], [2]])
         program.free([2, 3])
-        upper = [program._program._columns[program.columns[column].number].upper for column in range(4)]
+        upper = [
+            program._program._columns[program.columns[column].number].upper for column in range(4)
+        ]
         self.assertEqual((program._shut, upper), ({0, 1}, [0.0, 0.0, math.inf, math.inf]))
 
     def test_a_part_of_a_program_and_its_new_rows(self):
@@ -341,14 +428,19 @@ class Columns(unittest.TestCase):
         before = list(whole.columns)
         whole.shut([0])
         part = whole.open_part(LinearProgram(None))
-        self.assertEqual([column[:3] for column in part.columns], [column[:3] for column in before[1:]])
+        self.assertEqual(
+            [column[:3] for column in part.columns], [column[:3] for column in before[1:]]
+        )
         # It knows its own rows only.
         self.assertFalse(part.add(*before[1][:3]))
         for row in (before[0], (3, EARLY, 5)):
             self.assertTrue(part.add(*row[:3]))
         part.iterations = 12
         whole.take_new(part)
-        self.assertEqual([column[:3] for column in whole.columns], [column[:3] for column in before] + [(3, EARLY, 5)])
+        self.assertEqual(
+            [column[:3] for column in whole.columns],
+            [column[:3] for column in before] + [(3, EARLY, 5)],
+        )
         self.assertEqual(whole.iterations, 12)
 
 
@@ -357,11 +449,16 @@ class NextDives(unittest.TestCase):
         for few, firsts in ((4, 2), (1, 1)):
             with mock.patch.object(row_parts, "FEW_WEEKS", few):
                 parts = RowParts(search_of(2), [None, None])
-            self.assertEqual([parts._is_due(number, 0.0, 0) for number in range(2)], [True, firsts == 2])
+            self.assertEqual(
+                [parts._is_due(number, 0.0, 0) for number in range(2)], [True, firsts == 2]
+            )
 
     def test_later_dives_have_a_part_of_the_work(self):
         parts = RowParts(search_of(2), [None, None])
-        self.assertEqual([parts._is_due(1, dived, 1000) for dived in (2000, 2001, math.inf)], [True, False, False])
+        self.assertEqual(
+            [parts._is_due(1, dived, 1000) for dived in (2000, 2001, math.inf)],
+            [True, False, False],
+        )
         with mock.patch.object(row_parts, "FEW_WEEKS", 1):
             self.assertFalse(RowParts(search_of(2), [None])._is_due(0, 1, 10**9))
         week = search_of(1)
@@ -378,11 +475,18 @@ class NextDives(unittest.TestCase):
                     clock.stop()
                 return [], 1
 
-            with mock.patch.object(parts, "_dive", dive), mock.patch.object(parts, "improve", lambda *_: Done(True, 10)):
+            with mock.patch.object(parts, "_dive", dive), mock.patch.object(
+                parts, "improve", lambda *_: Done(True, 10)
+            ):
                 with self.assertRaises(TimeIsOver):
                     parts._work(None, clock, number)
-            self.assertEqual([(task.seed is None, task.penalty) for task in dives], [(one, parts._search.penalty) for one in steady])
-            self.assertEqual([task.share for task in dives if task.seed is None], [0.3] * steady.count(True))
+            self.assertEqual(
+                [(task.seed is None, task.penalty) for task in dives],
+                [(one, parts._search.penalty) for one in steady],
+            )
+            self.assertEqual(
+                [task.share for task in dives if task.seed is None], [0.3] * steady.count(True)
+            )
             self.assertTrue(all(task.share in (0.3, 0.2, 0.4) for task in dives))
 
     def test_every_second_thread_fixes_one_week_after_another_and_in_a_long_period_each_one(self):
@@ -390,7 +494,10 @@ class NextDives(unittest.TestCase):
             with mock.patch.object(row_parts, "FEW_WEEKS", few):
                 parts = RowParts(search_of(2), [None] * 3)
             for is_first, penalty in ((True, 1000), (False, 1000), (False, None)):
-                self.assertEqual([parts._dive_of(number, is_first, penalty).in_order for number in range(3)], in_order)
+                self.assertEqual(
+                    [parts._dive_of(number, is_first, penalty).in_order for number in range(3)],
+                    in_order,
+                )
 
 
 if __name__ == "__main__":

@@ -62,7 +62,9 @@ class Order(unittest.TestCase):
 
 class AmongParts(unittest.TestCase):
     def setUp(self):
-        few, rounds = mock.patch.object(row_parts, "FEW_WEEKS", 1), mock.patch.object(windows, "ROUNDS", (1, 1))
+        few, rounds = mock.patch.object(row_parts, "FEW_WEEKS", 1), mock.patch.object(
+            windows, "ROUNDS", (1, 1)
+        )
         for patch in (few, rounds):
             patch.start()
             self.addCleanup(patch.stop)
@@ -74,8 +76,12 @@ class AmongParts(unittest.TestCase):
     def test_windows_come_before_other_neighborhoods(self):
         found = [self.next() for _ in range(4)]
         for number, by_chance in ((0, False), (2, True)):
-            self.assertEqual({part.days for part in found[number : number + 2]}, {range(7), range(7, 14)})
-            self.assertEqual([part.seed is not None for part in found[number : number + 2]], [by_chance] * 2)
+            self.assertEqual(
+                {part.days for part in found[number : number + 2]}, {range(7), range(7, 14)}
+            )
+            self.assertEqual(
+                [part.seed is not None for part in found[number : number + 2]], [by_chance] * 2
+            )
         self.assertEqual({(part.nurses, part.is_window) for part in found}, {(EVERYONE, True)})
         self.assertFalse(self.next().is_window)
 
@@ -87,8 +93,12 @@ class AmongParts(unittest.TestCase):
             """Which windows come again, and how many days are closed, after a neighborhood of all nurses on the first days."""
             for one in (mine, other):
                 all_of(one)
-            self.parts._learn(part._replace(days=range(7)), Done(True, 100, is_better), some, is_best)
-            return [not one.are_over for one in (mine, other)], [len(one.closed) for one in (mine, other)]
+            self.parts._learn(
+                part._replace(days=range(7)), Done(True, 100, is_better), some, is_best
+            )
+            return [not one.are_over for one in (mine, other)], [
+                len(one.closed) for one in (mine, other)
+            ]
 
         self.assertEqual(learned(mine, False, False), ([False, False], [1, 0]))
         self.assertEqual(learned(other, False, False), ([False, False], [1, 1]))
@@ -101,7 +111,11 @@ class AmongParts(unittest.TestCase):
 
     def test_a_window_is_closed_if_it_is_proved_that_it_makes_nothing_better(self):
         mine, part = self.parts._windows, self.next()
-        for done, closed in ((Done(False, 100), set()), (Done(True, 100, True), set()), (Done(True, 100), {part.days})):
+        for done, closed in (
+            (Done(False, 100), set()),
+            (Done(True, 100, True), set()),
+            (Done(True, 100), {part.days}),
+        ):
             self.parts._learn(part, done, mine, False)
             self.assertEqual(mine.closed, closed)
         # Some nurses alone prove nothing of the others.
@@ -164,19 +178,26 @@ class Searched(DiveTest):
 
         for seed in (None, 5):
             part = Part(EVERYONE, range(7), is_window=True, seed=seed)
-            with mock.patch.object(WeekDives, "dive", see), mock.patch.object(WeekDives, "choose") as choose:
+            with mock.patch.object(WeekDives, "dive", see), mock.patch.object(
+                WeekDives, "choose"
+            ) as choose:
                 with mock.patch.object(part_search, "LONG_DAYS", 7):
                     done = parts.improve(Clock(LONG), lambda *_: False, part, search.rows)
             choose.assert_not_called()
             # Its prices do not prove that there is no better roster.
             self.assertFalse(done.ended)
-        self.assertEqual(seeds, [(part_search.WEEKS_SHARE, None), (part_search.WEEKS_SHARE, random.Random(5).random())])
+        self.assertEqual(
+            seeds,
+            [(part_search.WEEKS_SHARE, None), (part_search.WEEKS_SHARE, random.Random(5).random())],
+        )
 
     def test_sweeps_until_all_windows_are_in_vain(self):
         search, finders = search_of(2), []
         before, keep = search.penalty, search.keep
         with mock.patch.object(windows, "FIRST_WINDOW", 1):
-            with mock.patch.object(search, "keep", lambda rows, finder: finders.append(finder) or keep(rows, finder)):
+            with mock.patch.object(
+                search, "keep", lambda rows, finder: finders.append(finder) or keep(rows, finder)
+            ):
                 sweeps = Sweeps(search, self.solver, Clock(LONG))
                 sweeps._done.result()
                 sweeps.end()
@@ -186,7 +207,12 @@ class Searched(DiveTest):
         parts, last = PartSearch(search.pricing, search.known(), self.solver), search.penalty
         for days in (range(7), range(7, 14)):
             part = Part(EVERYONE, days, is_window=True)
-            parts.improve(Clock(LONG), lambda found, finder: search.keep(part.put(search.rows, found), finder), part, search.rows)
+            parts.improve(
+                Clock(LONG),
+                lambda found, finder: search.keep(part.put(search.rows, found), finder),
+                part,
+                search.rows,
+            )
         self.assertEqual(search.penalty, last)
 
     def test_sweeps_go_on_after_a_better_roster(self):
@@ -197,7 +223,9 @@ class Searched(DiveTest):
             search.penalty -= 5 if len(seen) in (2, 3) else 0
             return Done(True, 0)
 
-        with mock.patch.object(windows, "FIRST_WINDOW", 1), mock.patch.object(Worker, "improve", improve):
+        with mock.patch.object(windows, "FIRST_WINDOW", 1), mock.patch.object(
+            Worker, "improve", improve
+        ):
             sweeps = Sweeps(search, self.solver, Clock(LONG))
             sweeps._done.result()
             sweeps.end()
@@ -217,10 +245,14 @@ class Searched(DiveTest):
 
     def test_a_window_whose_rows_are_not_better(self):
         search = search_of(2)
-        parts, part = PartSearch(search.pricing, search.known(), self.solver), Part(EVERYONE, range(7), is_window=True)
+        parts, part = PartSearch(search.pricing, search.known(), self.solver), Part(
+            EVERYONE, range(7), is_window=True
+        )
         with mock.patch.object(WeekDives, "dive", lambda found, *_: list(found.rows)):
             with mock.patch.object(part_search, "LONG_DAYS", 7):
-                self.assertFalse(parts.improve(Clock(LONG), lambda *_: False, part, search.rows).ended)
+                self.assertFalse(
+                    parts.improve(Clock(LONG), lambda *_: False, part, search.rows).ended
+                )
 
 
 if __name__ == "__main__":

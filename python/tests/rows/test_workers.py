@@ -53,15 +53,25 @@ class Workers(HelperTest):
             self.assertEqual(self.improve(self.worker), (done, found))
 
     def test_a_dive_is_the_same(self):
-        for task in (Dive(0.12, True, None, None), Dive(0.06, False, 5, None), Dive(0.06, True, 5, None, self.search.rows)):
+        for task in (
+            Dive(0.12, True, None, None),
+            Dive(0.06, False, 5, None),
+            Dive(0.06, True, 5, None, self.search.rows),
+        ):
             self.found = []
             done, own = self.own.dive(Clock(LONG), self.take, task), self.found
             self.found = []
-            self.assertEqual((self.worker.dive(Clock(LONG), self.take, task), self.found), (done, own))
+            self.assertEqual(
+                (self.worker.dive(Clock(LONG), self.take, task), self.found), (done, own)
+            )
             self.assertTrue(done.ended and own)
 
     def test_processes_that_end(self):
-        for script in ("import os; os.abort()", "print('no answer')", "import os; os.read(0, 9); os.write(1, b'\\0\\0\\0\\2no')"):
+        for script in (
+            "import os; os.abort()",
+            "print('no answer')",
+            "import os; os.read(0, 9); os.write(1, b'\\0\\0\\0\\2no')",
+        ):
             with self.subTest(script=script), self.instead(script):
                 [worker] = workers.workers(self.search.known(), [self.solver])
                 for _ in range(2):
@@ -77,7 +87,9 @@ class Workers(HelperTest):
         self.assertEqual(self.worker._faults, 0)
 
     def test_a_process_that_hangs(self):
-        with self.instead("import time; time.sleep(1000)"), mock.patch.object(workers, "GRACE", 0.1):
+        with self.instead("import time; time.sleep(1000)"), mock.patch.object(
+            workers, "GRACE", 0.1
+        ):
             began = time.monotonic()
             self.assertEqual(self.improve(self.worker, 0.5), (Done(False, 0), []))
         self.assertLess(time.monotonic() - began, ENOUGH)
@@ -124,7 +136,9 @@ class Workers(HelperTest):
             self.worker.close(Clock(0.0), self.take, None)
 
     def test_a_fault_of_all_solvers_of_a_process(self):
-        with mock.patch.object(self.worker, "_answer", return_value=SolverFault("Clp's library ended")) as answer:
+        with mock.patch.object(
+            self.worker, "_answer", return_value=SolverFault("Clp's library ended")
+        ) as answer:
             with self.assertRaisesRegex(SolverFault, "Clp's library ended"):
                 self.improve(self.worker)
         self.assertEqual(answer.call_count, 1)

@@ -64,14 +64,19 @@ class FakeProver(HelperTest):
 class Options(HelperTest):
     def test_weeks_and_their_fix_files_are_counted_from_one(self):
         self.assertEqual(week_options(WEEK_FILES), list(map(str, OPTIONS[:6])))
-        self.assertEqual(week_options(replace(WEEK_FILES, fix=Path("f"), early=True))[6:], ["--fix", "1=f", "--early"])
+        self.assertEqual(
+            week_options(replace(WEEK_FILES, fix=Path("f"), early=True))[6:],
+            ["--fix", "1=f", "--early"],
+        )
         fix = self.folder / "fix.txt"
         fix.write_text("SOLUTION\n1 ward\n\nASSIGNMENTS = 0\n")
         weeks = PlannedWeeks(PeriodFiles(SCENARIO, HISTORY, [WEEK, SECOND], {1: fix}, early=True))
         self.assertEqual(weeks.options(), [*map(str, OPTIONS), "--fix", f"2={fix}", "--early"])
 
     def test_the_facts_of_a_plan(self):
-        ward, past = files.read_scenario(SCENARIO), files.read_history(HISTORY, files.read_scenario(SCENARIO))
+        ward, past = files.read_scenario(SCENARIO), files.read_history(
+            HISTORY, files.read_scenario(SCENARIO)
+        )
         full = ward.contracts["Full"].assignments.maximum
         worked = replace(past.nurses["Amara"], assignments=full + 2)
         past = replace(past, nurses={**past.nurses, "Amara": worked})
@@ -84,7 +89,10 @@ class Options(HelperTest):
         away = (Claim(Choice(2, "Ewa", 0, "Night"), False), Claim(Choice(2, "Chen", 1, None)))
         # What Amara has above her shifts before these weeks cannot be taken back.
         limits = (Claim(Charged("SHIFTS", "Amara", 2)), Claim(Charged("WORK_DAYS", "Ewa", 0)))
-        self.assertEqual([plan.kept(keeping).facts() for keeping in (STRICT, ONLY_ABSENCES, FREE)], [away + limits, away, ()])
+        self.assertEqual(
+            [plan.kept(keeping).facts() for keeping in (STRICT, ONLY_ABSENCES, FREE)],
+            [away + limits, away, ()],
+        )
 
 
 class Proofs(FakeProver):
@@ -92,7 +100,9 @@ class Proofs(FakeProver):
         super().setUp()
         week = files.read_files(SCENARIO, HISTORY, WEEK)
         self.data = replace(week.data, absences=frozenset({Absence("Chen", 1, None)}))
-        self.free, self.away = (Plan.of(week.scenario, week.history, [data]) for data in (week.data, self.data))
+        self.free, self.away = (
+            Plan.of(week.scenario, week.history, [data]) for data in (week.data, self.data)
+        )
         self.target = self.folder / "certificate.txt"
 
     def certified(self, plan, price=5000):
@@ -106,7 +116,9 @@ class Proofs(FakeProver):
 
     def bounds(self, how):
         """Bounds by this program, by none if it is None."""
-        with mock.patch.object(bounds, "find_prover", lambda: None if how is None else self.prover(how)):
+        with mock.patch.object(
+            bounds, "find_prover", lambda: None if how is None else self.prover(how)
+        ):
             return Bounds(week_options(WEEK_FILES), "ward", self.target, self.warnings.append)
 
     def test_a_bound_is_that_of_the_program(self):
@@ -133,7 +145,11 @@ class Proofs(FakeProver):
     def test_the_program_gets_the_facts_that_the_best_roster_keeps(self):
         run = self.certified(self.away)
         facts = facts_text("ward", [Claim(Choice(1, "Chen", 1, None))])
-        for keeping, only, text in ((STRICT, "absences", facts), (ONLY_ABSENCES, "absences", facts), (FREE, "", None)):
+        for keeping, only, text in (
+            (STRICT, "absences", facts),
+            (ONLY_ABSENCES, "absences", facts),
+            (FREE, "", None),
+        ):
             self.assertEqual(self.bounds("45").of(run, keeping, 60.0), Bound(45, PROVER, only))
             self.assertEqual(self.given()["texts"].get("--given"), text)
 
@@ -143,7 +159,9 @@ class Proofs(FakeProver):
             free = plain_bound(self.away.kept(FREE), run.search.prices)
             self.assertLessEqual(free, run.lower_bound)
             self.assertEqual(self.bounds(None).of(run, FREE, 60.0), Bound(free, PLAIN))
-            self.assertEqual(self.bounds(None).of(run, STRICT, 60.0), Bound(run.lower_bound, PLAIN, "absences"))
+            self.assertEqual(
+                self.bounds(None).of(run, STRICT, 60.0), Bound(run.lower_bound, PLAIN, "absences")
+            )
 
     def test_cases_without_a_program(self):
         run = self.certified(self.away)
@@ -192,14 +210,25 @@ class Commands(FakeProver):
     def improve(self, how):
         """The report of a week that prices alone do not prove, and what was said."""
         self.prover(how)
-        words = (*CASES_FILES.options(), "--out", self.folder / "best.txt", "--proof", self.proof, "--time", ENOUGH)
+        words = (
+            *CASES_FILES.options(),
+            "--out",
+            self.folder / "best.txt",
+            "--proof",
+            self.proof,
+            "--time",
+            ENOUGH,
+        )
         status, report, said = run("solve", *words, environment=self.environment)
         self.assertEqual(status, 0, said)
         return report, said
 
     def test_a_week_is_proved_by_cases(self):
         report, said = self.improve("130/135")
-        self.assertTrue(report.endswith(f"lower bound 135 ({PROVER})\nno roster costs less, proved\n"), (report, said))
+        self.assertTrue(
+            report.endswith(f"lower bound 135 ({PROVER})\nno roster costs less, proved\n"),
+            (report, said),
+        )
         text = self.given()["texts"]["--proof"]
         self.assertTrue(text.startswith("CERTIFICATE cases\nWEEKS = 1\nPRICES = "), text)
         self.assertIn("\nSPLIT ", text)
@@ -210,13 +239,22 @@ class Commands(FakeProver):
         self.assertRegex(report, f"\nlower bound 130 \\({PROVER}\\): the gap is 5, 3.7 %\n$")
         report, said = self.improve("140")
         self.assertTrue(report.endswith("\nno lower bound\n"), report)
-        self.assertEqual(said.count(f"the lower bound 140 ({PROVER}) is above the penalty of a roster: it is wrong\n"), 1)
+        self.assertEqual(
+            said.count(
+                f"the lower bound 140 ({PROVER}) is above the penalty of a roster: it is wrong\n"
+            ),
+            1,
+        )
 
     def test_the_bound_of_a_period_is_that_of_the_program(self):
         self.prover(5)
-        status, printed, said = run("solve", *self.words, "--proof", self.proof, environment=self.environment)
+        status, printed, said = run(
+            "solve", *self.words, "--proof", self.proof, environment=self.environment
+        )
         self.assertEqual(status, 0, said)
-        self.assertRegex(printed.splitlines()[-1], f"^lower bound 5 of the sum \\({PROVER}\\): the gap is ")
+        self.assertRegex(
+            printed.splitlines()[-1], f"^lower bound 5 of the sum \\({PROVER}\\): the gap is "
+        )
         self.assertEqual(self.given()["texts"]["--proof"], self.proof.read_text())
         self.assertTrue(self.proof.read_text().startswith("CERTIFICATE ward\nWEEKS = 2\n"))
 
@@ -232,13 +270,17 @@ class Commands(FakeProver):
             status, printed, said = run("solve", *self.words, environment=self.environment)
         self.assertEqual(status, 0, said)
         self.assertEqual(told.read_text(), str(BEYOND))
-        self.assertRegex(printed.splitlines()[-1], f"^lower bound [0-9]+ of the sum \\({PLAIN}\\): ")
+        self.assertRegex(
+            printed.splitlines()[-1], f"^lower bound [0-9]+ of the sum \\({PLAIN}\\): "
+        )
 
     def test_a_stop_ends_the_program(self):
         self.prover("hang")
         command = [sys.executable, str(HELPERS / "inrc2pb-solve"), *map(str, self.words)]
         environment = {**os.environ, **self.environment}
-        with subprocess.Popen(command, stdout=subprocess.PIPE, stderr=subprocess.PIPE, env=environment) as period:
+        with subprocess.Popen(
+            command, stdout=subprocess.PIPE, stderr=subprocess.PIPE, env=environment
+        ) as period:
             self.given()
             self.assertTrue((self.folder / "out" / "roster-1.txt").exists())
             period.send_signal(signal.SIGINT)
@@ -254,11 +296,25 @@ class Commands(FakeProver):
     def test_files_of_certificates_that_do_not_fit(self):
         for words, says in (
             (("--ahead",), "with --ahead there is no certificate: leave out --proof"),
-            (("--solver", "sh -c 'echo s UNKNOWN'"), "with --solver there is no certificate: leave out --proof"),
+            (
+                ("--solver", "sh -c 'echo s UNKNOWN'"),
+                "with --solver there is no certificate: leave out --proof",
+            ),
         ):
-            self.assert_fault(run("solve", *OPTIONS, "--out", self.folder, "--proof", self.proof, *words), f"inrc2pb-solve: {says}")
+            self.assert_fault(
+                run("solve", *OPTIONS, "--out", self.folder, "--proof", self.proof, *words),
+                f"inrc2pb-solve: {says}",
+            )
         self.proof.write_bytes(SECOND.read_bytes())
-        words = (*OPTIONS[:6], "--week", self.proof, "--out", self.folder / "out", "--proof", self.proof)
+        words = (
+            *OPTIONS[:6],
+            "--week",
+            self.proof,
+            "--out",
+            self.folder / "out",
+            "--proof",
+            self.proof,
+        )
         says = f"inrc2pb-solve: {self.proof} is read, so the certificate cannot be written to it: choose another file"
         self.assert_fault(run("solve", *words), says)
 

@@ -10,7 +10,21 @@ import time
 import unittest
 from pathlib import Path
 
-from ward import ENOUGH, HAS_CBC, HELPERS, HISTORY, ROSTER, SCENARIO, WARD, WEEK, WEEK_FILES, WEEK_OPTIONS, HelperTest, program, run
+from ward import (
+    ENOUGH,
+    HAS_CBC,
+    HELPERS,
+    HISTORY,
+    ROSTER,
+    SCENARIO,
+    WARD,
+    WEEK,
+    WEEK_FILES,
+    WEEK_OPTIONS,
+    HelperTest,
+    program,
+    run,
+)
 
 from inrc2pb.search.bounds import find_prover
 
@@ -23,11 +37,18 @@ class ChangingFiles(HelperTest):
 
     def setUp(self):
         super().setUp()
-        self.week, self.target, self.worse = self.folder / "week-0.txt", self.folder / "best.txt", self.swapped("Amara", "Bruno")
+        self.week, self.target, self.worse = (
+            self.folder / "week-0.txt",
+            self.folder / "best.txt",
+            self.swapped("Amara", "Bruno"),
+        )
         shutil.copy(WEEK, self.week)
         self.options = (*WEEK_OPTIONS[:4], "--week", self.week)
         # Many more wishes, so that each roster costs more.
-        rows = "".join(f"Chen Any {day}\nGrace Any {day}\n" for day in ("Mon", "Tue", "Wed", "Thu", "Fri", "Sat", "Sun"))
+        rows = "".join(
+            f"Chen Any {day}\nGrace Any {day}\n"
+            for day in ("Mon", "Tue", "Wed", "Thu", "Fri", "Sat", "Sun")
+        )
         head, _, requests = WEEK.read_text().partition("SHIFT_OFF_REQUESTS = ")
         number, _, old = requests.partition("\n")
         self.edited = self.folder / "edited.txt"
@@ -38,7 +59,9 @@ class ChangingFiles(HelperTest):
     def answer(self, roster, status="SATISFIABLE"):
         """A file with the answer whose roster this is."""
         path = self.folder / f"answer-{Path(roster).stem}-{status[:3]}.txt"
-        path.write_text(program.answer_with(WEEK_FILES, roster).replace("s SATISFIABLE", f"s {status}"))
+        path.write_text(
+            program.answer_with(WEEK_FILES, roster).replace("s SATISFIABLE", f"s {status}")
+        )
         return path
 
     def solve(self, *words, **named):
@@ -61,7 +84,9 @@ class ChangingFiles(HelperTest):
 
 class Inputs(ChangingFiles):
     def test_a_week_that_is_edited_while_a_solver_runs(self):
-        solver = self.solver(f"cp {self.edited} {self.week}", f"cat {self.answer(ROSTER, 'OPTIMUM FOUND')}")
+        solver = self.solver(
+            f"cp {self.edited} {self.week}", f"cat {self.answer(ROSTER, 'OPTIMUM FOUND')}"
+        )
         status, report, said = self.solve("--solver", solver)
         self.assertEqual(status, 0, said)
         self.assertIn("penalty 20\n", report)
@@ -69,10 +94,15 @@ class Inputs(ChangingFiles):
 
     @unittest.skipUnless(HAS_CBC, "needs cbc")
     def test_a_week_that_is_edited_during_a_search(self):
-        status, report, said = self.solve(environment=self.program_that_first(f"cp {self.edited} {self.week}"))
+        status, report, said = self.solve(
+            environment=self.program_that_first(f"cp {self.edited} {self.week}")
+        )
         self.assertEqual(status, 0, said)
         self.assertIn("penalty 20\n", report)
-        self.assertRegex(report, rf"\nlower bound 20 \(.*\)\nno roster costs less.*\n{CHANGED.format(self.week)}\n$")
+        self.assertRegex(
+            report,
+            rf"\nlower bound 20 \(.*\)\nno roster costs less.*\n{CHANGED.format(self.week)}\n$",
+        )
 
     def test_a_file_that_is_saved_again_is_not_changed(self):
         solver = self.solver(f"cp {WEEK} {self.week}", f"cat {self.answer(ROSTER)}")
@@ -84,13 +114,17 @@ class Inputs(ChangingFiles):
         solver = self.solver(f"rm {fix}", f"cat {self.answer(ROSTER)}")
         status, report, said = self.solve("--fix", fix, "--solver", solver)
         self.assertEqual(status, 5 if "no roster" in said else 0, said)
-        self.assertIn(f"{fix} was removed during the search: this is about the old one\n", report + said)
+        self.assertIn(
+            f"{fix} was removed during the search: this is about the old one\n", report + said
+        )
         self.assertNotIn("inrc2pb-inputs", report + said)
 
     def test_a_pipe_or_a_folder_in_place_of_a_week(self):
         for command in ("mkfifo", "mkdir"):
             with self.subTest(command):
-                solver = self.solver(f"rm {self.week}; {command} {self.week}", f"cat {self.answer(ROSTER)}")
+                solver = self.solver(
+                    f"rm {self.week}; {command} {self.week}", f"cat {self.answer(ROSTER)}"
+                )
                 status, report, _ = self.solve("--solver", solver)
                 self.assertEqual((status, report.splitlines()[-1]), (0, CHANGED.format(self.week)))
                 self.assertIn("penalty 20\n", report)
@@ -106,7 +140,9 @@ class Inputs(ChangingFiles):
         self.assertIn("penalty 20\n", report)
 
     def test_a_search_without_a_roster_says_it_too(self):
-        status, report, said = self.solve("--solver", self.solver(f"cp {self.edited} {self.week}", "echo s UNKNOWN"))
+        status, report, said = self.solve(
+            "--solver", self.solver(f"cp {self.edited} {self.week}", "echo s UNKNOWN")
+        )
         self.assertEqual((status, report), (5, ""))
         self.assertIn(f"inrc2pb-solve: {CHANGED.format(self.week)}\n", said)
 
@@ -116,9 +152,13 @@ class Inputs(ChangingFiles):
         self.assertEqual(status, 1)
         self.assertTrue(said.startswith(f"inrc2pb-solve: {self.week} line 1: "), said)
         self.options = (*WEEK_OPTIONS[:4], "--week", "/dev/zero")
-        self.assert_fault(self.solve(), "inrc2pb-solve: /dev/zero: the file has more than 4194304 bytes")
+        self.assert_fault(
+            self.solve(), "inrc2pb-solve: /dev/zero: the file has more than 4194304 bytes"
+        )
         self.options = (*WEEK_OPTIONS[:4], "--week", WEEK, "--week", self.week)
-        status, _, said = run("solve", *self.options, "--out", self.folder / "out", "--time", ENOUGH)
+        status, _, said = run(
+            "solve", *self.options, "--out", self.folder / "out", "--time", ENOUGH
+        )
         self.assertTrue(said.startswith(f"inrc2pb-solve: {self.week} line 1: "), said)
 
     @unittest.skipUnless(HAS_CBC, "needs cbc")
@@ -131,7 +171,9 @@ class Inputs(ChangingFiles):
         self.assertEqual(status, 0, said)
         self.assertEqual(printed.splitlines()[-1], CHANGED.format(second))
         second_week = program.WeekFiles(SCENARIO, out / "history-1.txt", WARD / "week-1.txt")
-        penalties = program.penalty_of(WEEK_FILES, out / "roster-0.txt"), program.penalty_of(second_week, out / "roster-1.txt")
+        penalties = program.penalty_of(WEEK_FILES, out / "roster-0.txt"), program.penalty_of(
+            second_week, out / "roster-1.txt"
+        )
         sums = next(line.split() for line in printed.splitlines() if line.startswith("period"))
         self.assertEqual(int(sums[1]), sum(penalties))
 
@@ -139,14 +181,34 @@ class Inputs(ChangingFiles):
         second, out = self.folder / "week-1.txt", self.folder / "out"
         shutil.copy(WARD / "week-1.txt", second)
         solver = self.solver(f"cp {self.edited} {second}", f"cat {self.answer(ROSTER)}")
-        status, printed, said = run("solve", *self.options, "--week", second, "--out", out, "--time", ENOUGH, "--solver", solver)
+        status, printed, said = run(
+            "solve",
+            *self.options,
+            "--week",
+            second,
+            "--out",
+            out,
+            "--time",
+            ENOUGH,
+            "--solver",
+            solver,
+        )
         self.assertIn(CHANGED.format(second), printed + said)
         self.assertIn(f"week 2, {second}\n", said)
         self.assertIn("week 1: penalty 20, ", printed)
 
     def test_a_week_that_is_edited_during_a_run_of_the_competition(self):
         solver = self.solver(f"cp {self.edited} {self.week}", f"cat {self.answer(ROSTER)}")
-        words = ("--inrc2", *self.options, "--sol", self.target, "--timeout", ENOUGH, "--solver", solver)
+        words = (
+            "--inrc2",
+            *self.options,
+            "--sol",
+            self.target,
+            "--timeout",
+            ENOUGH,
+            "--solver",
+            solver,
+        )
         _, printed, said = run("solve", *words)
         self.assertIn("penalty 20\n", printed)
         self.assertIn(f"inrc2pb-solve: {CHANGED.format(self.week)}\n", said)
@@ -158,11 +220,16 @@ class Rosters(ChangingFiles):
         status, report, said = self.solve("--solver", solver)
         self.assertEqual((status, self.target.read_text()), (0, ROSTER.read_text()), said)
         self.assertIn("penalty 20\n", report)
-        self.assertIn(f"{self.target} has a better roster than this search, which is kept: its penalty is 20\n", said)
+        self.assertIn(
+            f"{self.target} has a better roster than this search, which is kept: its penalty is 20\n",
+            said,
+        )
 
     def test_a_better_roster_that_was_there_before_is_kept_beside_a_given_one(self):
         shutil.copy(ROSTER, self.target)
-        status, report, said = self.solve("--roster", self.worse, "--solver", self.solver("echo s UNKNOWN"))
+        status, report, said = self.solve(
+            "--roster", self.worse, "--solver", self.solver("echo s UNKNOWN")
+        )
         self.assertEqual((status, self.target.read_text()), (0, ROSTER.read_text()), said)
         self.assertIn("penalty 20\n", report)
 
@@ -179,11 +246,18 @@ class Rosters(ChangingFiles):
                 self.assertEqual(status, 0, said)
                 self.assertIn("penalty 20\n", report)
                 self.assertEqual(program.penalty_of(WEEK_FILES, self.target), 20)
-                self.assertIn(f"{self.target} was changed during the search: it has the roster of the search again\n", said)
+                self.assertIn(
+                    f"{self.target} was changed during the search: it has the roster of the search again\n",
+                    said,
+                )
 
     def test_a_pipe_or_a_folder_in_place_of_the_roster_is_a_fault_after_the_report(self):
         for command, says, ends in (
-            (f"mkfifo {self.target}", f"{self.target} is a pipe, which can be written only once: name a file\n", 1),
+            (
+                f"mkfifo {self.target}",
+                f"{self.target} is a pipe, which can be written only once: name a file\n",
+                1,
+            ),
             (f"mkdir {self.target}", f"{self.target}: Is a directory", 3),
         ):
             with self.subTest(command):
@@ -206,17 +280,31 @@ class Rosters(ChangingFiles):
         good, out = self.folder / "good", self.folder / "out"
         self.assertEqual(run("solve", *words, good)[0], 0)
         # Without a solver there is a first plan only.
-        first = {**self.program_that_first(f"/bin/cp {good}/roster-*.txt {out}"), "PATH": str(self.folder / "none")}
+        first = {
+            **self.program_that_first(f"/bin/cp {good}/roster-*.txt {out}"),
+            "PATH": str(self.folder / "none"),
+        }
         status, printed, said = run("solve", *words, out, environment=first)
         self.assertEqual(status, 0, said)
         for name in ("roster-0.txt", "roster-1.txt", "history-1.txt"):
             self.assertEqual((out / name).read_text(), (good / name).read_text())
-        self.assertIn("there is a better plan than that of this search in its folder, which is kept: its penalty is ", said)
+        self.assertIn(
+            "there is a better plan than that of this search in its folder, which is kept: its penalty is ",
+            said,
+        )
 
     @unittest.skipUnless(HAS_CBC, "needs cbc")
     def test_garbage_in_the_folder_is_replaced_by_the_plan(self):
         out = self.folder / "out"
-        words = [*map(str, WEEK_OPTIONS), "--week", str(WARD / "week-1.txt"), "--out", str(out), "--time", "600"]
+        words = [
+            *map(str, WEEK_OPTIONS),
+            "--week",
+            str(WARD / "week-1.txt"),
+            "--out",
+            str(out),
+            "--time",
+            "600",
+        ]
         command = [sys.executable, str(HELPERS / "inrc2pb-solve"), *words]
         with subprocess.Popen(command, stdout=subprocess.PIPE, stderr=subprocess.PIPE) as searching:
             while not (out / "history-2.txt").exists() and searching.poll() is None:
@@ -230,16 +318,33 @@ class Rosters(ChangingFiles):
             printed, said = searching.communicate(timeout=ENOUGH)
         self.assertIn(b"period ", printed, said)
         second_week = program.WeekFiles(SCENARIO, out / "history-1.txt", WARD / "week-1.txt")
-        self.assertIn(f"week 2: penalty {program.penalty_of(second_week, out / 'roster-1.txt')}, ".encode(), printed)
+        self.assertIn(
+            f"week 2: penalty {program.penalty_of(second_week, out / 'roster-1.txt')}, ".encode(),
+            printed,
+        )
 
 
 class Locks(ChangingFiles):
     def running(self, *words):
         """A search that waits for the file `go`, and then finds the roster of the example."""
         running, go = self.folder / "running", self.folder / "go"
-        slow = self.script("slow.sh", f"touch {running}\nwhile ! [ -e {go} ]; do sleep 0.1; done\ncat {self.answer(ROSTER)}\n")
-        command = [sys.executable, HELPERS / "inrc2pb-solve", *self.options, "--time", ENOUGH, "--solver", slow, *words]
-        search = subprocess.Popen([*map(str, command)], stdout=subprocess.PIPE, stderr=subprocess.PIPE)
+        slow = self.script(
+            "slow.sh",
+            f"touch {running}\nwhile ! [ -e {go} ]; do sleep 0.1; done\ncat {self.answer(ROSTER)}\n",
+        )
+        command = [
+            sys.executable,
+            HELPERS / "inrc2pb-solve",
+            *self.options,
+            "--time",
+            ENOUGH,
+            "--solver",
+            slow,
+            *words,
+        ]
+        search = subprocess.Popen(
+            [*map(str, command)], stdout=subprocess.PIPE, stderr=subprocess.PIPE
+        )
         self.addCleanup(search.communicate)
         self.addCleanup(search.kill)
         while not running.exists() and search.poll() is None:
@@ -249,12 +354,16 @@ class Locks(ChangingFiles):
     def test_a_second_run_on_one_file_says_so(self):
         first = self.running("--out", self.target)
         line = f"inrc2pb-solve: another search writes {self.target}: wait until it has ended (--wait), or choose another file"
-        self.assert_fault(self.solve("--solver", self.solver(f"cat {self.answer(self.worse)}")), line, 2)
+        self.assert_fault(
+            self.solve("--solver", self.solver(f"cat {self.answer(self.worse)}")), line, 2
+        )
         link = self.folder / "link.txt"
         link.symlink_to(self.target)
         second = run("solve", *self.options, "--out", link, "--time", ENOUGH)
         self.assert_fault(second, line.replace("best.txt", "link.txt"), 2)
-        period = run("solve", *self.options, "--out", self.folder, "--time", ENOUGH, "--solver", "false")
+        period = run(
+            "solve", *self.options, "--out", self.folder, "--time", ENOUGH, "--solver", "false"
+        )
         self.assertNotEqual(period[0], 2, "the folder has other files")
         (self.folder / "go").touch()
         report, said = first.communicate(timeout=ENOUGH)
@@ -263,11 +372,23 @@ class Locks(ChangingFiles):
 
     def test_a_second_run_waits_if_it_may(self):
         self.running("--out", self.target)
-        words = [*self.options, "--out", self.target, "--wait", "--solver", self.solver("echo s UNKNOWN")]
+        words = [
+            *self.options,
+            "--out",
+            self.target,
+            "--wait",
+            "--solver",
+            self.solver("echo s UNKNOWN"),
+        ]
         command = [sys.executable, HELPERS / "inrc2pb-solve", *words]
-        second = subprocess.Popen([*map(str, command)], stdout=subprocess.PIPE, stderr=subprocess.PIPE)
+        second = subprocess.Popen(
+            [*map(str, command)], stdout=subprocess.PIPE, stderr=subprocess.PIPE
+        )
         said = second.stderr.readline()
-        self.assertEqual(said.decode(), f"inrc2pb-solve: another search writes {self.target}: this one waits until it has ended\n")
+        self.assertEqual(
+            said.decode(),
+            f"inrc2pb-solve: another search writes {self.target}: this one waits until it has ended\n",
+        )
         (self.folder / "go").touch()
         report, _ = second.communicate(timeout=ENOUGH)
         self.assertEqual((second.returncode, b"penalty 20\n" in report), (0, True))
@@ -275,11 +396,18 @@ class Locks(ChangingFiles):
     def test_a_wait_can_be_stopped(self):
         self.running("--out", self.target)
         words = [*map(str, self.options), "--out", str(self.target), "--wait"]
-        second = subprocess.Popen([sys.executable, str(HELPERS / "inrc2pb-solve"), *words], stdout=subprocess.PIPE, stderr=subprocess.PIPE)
+        second = subprocess.Popen(
+            [sys.executable, str(HELPERS / "inrc2pb-solve"), *words],
+            stdout=subprocess.PIPE,
+            stderr=subprocess.PIPE,
+        )
         second.stderr.readline()
         second.terminate()
         _, said = second.communicate(timeout=ENOUGH)
-        self.assertEqual((second.returncode, said.decode()), (5, f"inrc2pb-solve: stopped while another search writes {self.target}\n"))
+        self.assertEqual(
+            (second.returncode, said.decode()),
+            (5, f"inrc2pb-solve: stopped while another search writes {self.target}\n"),
+        )
 
     def test_the_lock_of_a_killed_run_does_not_stay(self):
         first = self.running("--out", self.target)
@@ -296,7 +424,9 @@ class Locks(ChangingFiles):
         self.options = (*self.options, *second)
         self.running("--out", out)
         line = f"another search writes {out / 'roster-0.txt'}: wait until it has ended (--wait), or choose another file"
-        self.assert_fault(run("solve", *self.options, "--out", out, "--time", ENOUGH), f"inrc2pb-solve: {line}", 2)
+        self.assert_fault(
+            run("solve", *self.options, "--out", out, "--time", ENOUGH), f"inrc2pb-solve: {line}", 2
+        )
 
 
 class Protected(ChangingFiles):
@@ -327,7 +457,16 @@ class Protected(ChangingFiles):
         history.chmod(0o444)
         says = f"{self.target}: Permission denied: you may not read or write it: look at its permissions"
         for command, words in (
-            ("solve", (*self.options, "--out", self.target, "--solver", f"sh {self.solver(f'cat {self.answer(ROSTER)}')}")),
+            (
+                "solve",
+                (
+                    *self.options,
+                    "--out",
+                    self.target,
+                    "--solver",
+                    f"sh {self.solver(f'cat {self.answer(ROSTER)}')}",
+                ),
+            ),
             ("solve", ("--inrc2", *self.options, "--sol", self.target, "--timeout", ENOUGH)),
             ("roster", ("why", *self.options, "--roster", self.worse, "--out", self.target)),
             ("roster", ("show", "--roster", self.worse, "--out", self.target)),

@@ -15,7 +15,11 @@ from inrc2pb.search.planned_weeks import PeriodFiles, PlannedWeeks
 from inrc2pb.week.records import Limits
 
 MONTH = ROOT / "examples" / "month"
-FILES = PeriodFiles(MONTH / "ward.txt", MONTH / "history-0.txt", [MONTH / f"week-{number}.txt" for number in range(4)])
+FILES = PeriodFiles(
+    MONTH / "ward.txt",
+    MONTH / "history-0.txt",
+    [MONTH / f"week-{number}.txt" for number in range(4)],
+)
 
 
 class FirstPlans(unittest.TestCase):
@@ -25,7 +29,9 @@ class FirstPlans(unittest.TestCase):
         self.assertEqual((ward.weeks, full.assignments, full.max_weekends), (4, Limits(15, 22), 2))
         part = period_search._part(ward, 3)
         found = part.contracts["FullTime"]
-        self.assertEqual((part.weeks, found.assignments, found.max_weekends), (3, Limits(11, 16), 2))
+        self.assertEqual(
+            (part.weeks, found.assignments, found.max_weekends), (3, Limits(11, 16), 2)
+        )
         self.assertEqual((part.nurses, found.days_off), (ward.nurses, full.days_off))
         self.assertEqual(period_search._part(ward, 4), ward)
 

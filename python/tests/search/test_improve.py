@@ -12,7 +12,19 @@ import unittest
 from types import SimpleNamespace
 from unittest import mock
 
-from ward import EARLY_ANSWER, ENOUGH, HAS_CBC, HELPERS, ROOT, ROSTER, SCENARIO, THIRTY_FILES, WEEK, WEEK_FILES, WEEK_OPTIONS
+from ward import (
+    EARLY_ANSWER,
+    ENOUGH,
+    HAS_CBC,
+    HELPERS,
+    ROOT,
+    ROSTER,
+    SCENARIO,
+    THIRTY_FILES,
+    WEEK,
+    WEEK_FILES,
+    WEEK_OPTIONS,
+)
 from ward import HelperTest, program, run
 
 from inrc2pb.search import bounds, improving
@@ -44,13 +56,19 @@ class Searches(HelperTest):
     @unittest.skipUnless(HAS_CBC, "needs cbc")
     def test_a_small_week_is_proved(self):
         proof = self.folder / "certificate.txt"
-        status, report, progress = run("solve", *WEEK_OPTIONS, "--out", self.target, "--proof", proof)
+        status, report, progress = run(
+            "solve", *WEEK_OPTIONS, "--out", self.target, "--proof", proof
+        )
         self.assertEqual(status, 0)
         self.assertIn("status OPTIMUM FOUND\nobjective 20\npenalty 20\n", report)
-        self.assertRegex(report, f"\nlower bound 20 \\(({PROVER}|{PLAIN})\\)\nno roster costs less(, proved)?\n$")
+        self.assertRegex(
+            report, f"\nlower bound 20 \\(({PROVER}|{PLAIN})\\)\nno roster costs less(, proved)?\n$"
+        )
         self.assertIn("penalty 20", progress)
         self.assertEqual(program.penalty_of(WEEK_FILES, self.target), 20)
-        self.assertTrue(proof.read_text().startswith("CERTIFICATE ward\nWEEKS = 1\nPRICES = 1\nROWS = "))
+        self.assertTrue(
+            proof.read_text().startswith("CERTIFICATE ward\nWEEKS = 1\nPRICES = 1\nROWS = ")
+        )
 
     @unittest.skipUnless(HAS_CBC, "needs cbc")
     def test_it_finds_the_best_roster_from_a_worse_one(self):
@@ -71,11 +89,15 @@ class Searches(HelperTest):
     def test_without_a_solver_a_line_says_what_to_install(self):
         tools = self.folder / "tools"
         tools.mkdir()
-        status, report, said = run("solve", *WEEK_OPTIONS, "--out", self.target, environment={"PATH": str(tools)})
+        status, report, said = run(
+            "solve", *WEEK_OPTIONS, "--out", self.target, environment={"PATH": str(tools)}
+        )
         self.assertEqual(status, 0)
         self.assertTrue(report.endswith("no lower bound\n"))
         self.assertEqual(
-            said.count("there is no cbc, so this is only a first roster: install it (Debian: apt-get install coinor-cbc)\n"),
+            said.count(
+                "there is no cbc, so this is only a first roster: install it (Debian: apt-get install coinor-cbc)\n"
+            ),
             1,
         )
         self.assertIn(f"penalty {program.penalty_of(WEEK_FILES, self.target)}\n", report)
@@ -85,7 +107,9 @@ class Searches(HelperTest):
         tools.mkdir()
         for week, ward, costs in ((0, "ward", True), (1, "ward", False), (0, "other", False)):
             target = self.solution(*rows, week=week, ward=ward)
-            status, report, _ = run("solve", *WEEK_OPTIONS, "--out", target, environment={"PATH": str(tools)})
+            status, report, _ = run(
+                "solve", *WEEK_OPTIONS, "--out", target, environment={"PATH": str(tools)}
+            )
             self.assertEqual((status, "penalty 20\n" in report), (0, costs))
             self.assertTrue(target.read_text().startswith("SOLUTION\n0 ward\n"))
 
@@ -99,7 +123,9 @@ class Searches(HelperTest):
     @unittest.skipUnless(HAS_CBC, "needs cbc")
     def test_held_rows_and_early_stay(self):
         promised = self.solution("Grace Sat Day Nurse", name="promised.txt")
-        status, report, _ = run("solve", *WEEK_OPTIONS, "--fix", promised, "--early", "--out", self.target)
+        status, report, _ = run(
+            "solve", *WEEK_OPTIONS, "--fix", promised, "--early", "--out", self.target
+        )
         self.assertEqual(status, 0)
         self.assertIn("Grace Sat Day Nurse\n", self.target.read_text())
         held = program.WeekFiles(*WEEK_FILES.options()[1::2], promised, True)
@@ -111,7 +137,9 @@ class WrongNumbers(HelperTest):
     @unittest.skipUnless(HAS_CBC, "needs cbc")
     def test_a_wrong_bound_of_plain_python_is_no_bound(self):
         target, cost = self.folder / "roster.txt", Pricing.places_cost
-        too_much = mock.patch.object(Pricing, "places_cost", lambda pricing, prices: cost(pricing, prices) + 200_000)
+        too_much = mock.patch.object(
+            Pricing, "places_cost", lambda pricing, prices: cost(pricing, prices) + 200_000
+        )
         with too_much, mock.patch.object(bounds, "find_prover", lambda: None):
             found = search(WEEK_FILES, target, None, 120.0, None, None, Progress(None))
         self.assertIsInstance(found.fault, WrongBound)
@@ -133,8 +161,16 @@ class Lines(unittest.TestCase):
 
     def test_a_bound_below_the_penalty_is_no_proof(self):
         for bound, proved in ((None, False), (Bound(10, PLAIN), False), (Bound(15, PLAIN), True)):
-            best = SimpleNamespace(penalty=15, report=lambda: SimpleNamespace(penalty=15), breaks=list, exceeds=list, proved=False)
-            found = improving._result(best, SimpleNamespace(bound=bound, verdict=""), False, None, 1.0, [])
+            best = SimpleNamespace(
+                penalty=15,
+                report=lambda: SimpleNamespace(penalty=15),
+                breaks=list,
+                exceeds=list,
+                proved=False,
+            )
+            found = improving._result(
+                best, SimpleNamespace(bound=bound, verdict=""), False, None, 1.0, []
+            )
             self.assertEqual((found.proved, best.proved), (proved, proved))
 
 
@@ -150,12 +186,29 @@ class BadInput(HelperTest):
         two = self.changed(ROSTER, "Amara Mon Day Charge", "Amara Tue Late Charge")
         says = f"inrc2pb-solve: {two} line 6: roster breaks H1: Amara has two places on Tue: correct its file, or leave it out\n"
         self.assert_refused(6, says, *WEEK_OPTIONS, *target, "--roster", two)
-        self.assert_refused(3, "missing.txt", *WEEK_OPTIONS, *target, "--roster", self.folder / "missing.txt")
-        self.assert_refused(3, "no_folder", *WEEK_OPTIONS, "--out", self.folder / "no_folder" / "best.txt")
-        kept = shutil.copy(ROSTER, self.folder / "kept.txt")
-        self.assert_refused(1, f"{kept} is read, so the roster cannot be written to it", *WEEK_OPTIONS, "--out", kept, "--fix", kept)
         self.assert_refused(
-            1, "gets the roster, so the certificate cannot be written to it", *WEEK_OPTIONS, *target, "--proof", self.folder / "best.txt"
+            3, "missing.txt", *WEEK_OPTIONS, *target, "--roster", self.folder / "missing.txt"
+        )
+        self.assert_refused(
+            3, "no_folder", *WEEK_OPTIONS, "--out", self.folder / "no_folder" / "best.txt"
+        )
+        kept = shutil.copy(ROSTER, self.folder / "kept.txt")
+        self.assert_refused(
+            1,
+            f"{kept} is read, so the roster cannot be written to it",
+            *WEEK_OPTIONS,
+            "--out",
+            kept,
+            "--fix",
+            kept,
+        )
+        self.assert_refused(
+            1,
+            "gets the roster, so the certificate cannot be written to it",
+            *WEEK_OPTIONS,
+            *target,
+            "--proof",
+            self.folder / "best.txt",
         )
         says = "no roster was found, and no proof that none exists: try --solver clasp"
         self.assert_refused(5, says, *WEEK_OPTIONS, *target, "--solver", "sh -c 'echo s UNKNOWN'")
@@ -172,27 +225,53 @@ class BadInput(HelperTest):
         writer = threading.Thread(target=lambda: pipe.write_bytes(WEEK.read_bytes()), daemon=True)
         writer.start()
         says = f"{pipe} is a pipe, which can be read only once: give a file\n"
-        self.assert_refused(1, says, *WEEK_OPTIONS[:4], "--week", pipe, "--out", self.folder / "best.txt")
-        self.assert_refused(1, says, *WEEK_OPTIONS, "--roster", pipe, "--out", self.folder / "best.txt")
-        self.assert_refused(1, f"{pipe} is a pipe, which can be written only once: name a file\n", *WEEK_OPTIONS, "--out", pipe)
+        self.assert_refused(
+            1, says, *WEEK_OPTIONS[:4], "--week", pipe, "--out", self.folder / "best.txt"
+        )
+        self.assert_refused(
+            1, says, *WEEK_OPTIONS, "--roster", pipe, "--out", self.folder / "best.txt"
+        )
+        self.assert_refused(
+            1,
+            f"{pipe} is a pipe, which can be written only once: name a file\n",
+            *WEEK_OPTIONS,
+            "--out",
+            pipe,
+        )
         # Nobody has read from the pipe, so the writer still waits.
         self.assertEqual(pipe.read_bytes(), WEEK.read_bytes())
         writer.join()
 
     @unittest.skipUnless(HAS_CBC, "needs cbc")
     def test_held_rows_that_do_not_fit(self):
-        fix, words = self.folder / "rows.txt", (*WEEK_OPTIONS, "--out", self.folder / "best.txt", "--fix", self.folder / "rows.txt")
+        fix, words = self.folder / "rows.txt", (
+            *WEEK_OPTIONS,
+            "--out",
+            self.folder / "best.txt",
+            "--fix",
+            self.folder / "rows.txt",
+        )
         self.solution("Amara Tue Day Charge", "Chen Mon Day Charge")
-        self.assert_refused(1, f"{fix} line 6: Chen does not have the skill Charge: no roster can have this row\n", *words)
+        self.assert_refused(
+            1,
+            f"{fix} line 6: Chen does not have the skill Charge: no roster can have this row\n",
+            *words,
+        )
         self.solution("Zoe Mon Day Nurse", week=2, ward="icu")
         other = "line 2 has 'icu', and the scenario is 'ward': is the file of another ward?\n"
         self.assert_refused(1, other, *words)
         # Every nurse is held on the late shift of Monday, so nobody is left for the others.
-        late = [f"{nurse} Mon Late Nurse" for nurse in ("Amara", "Bruno", "Chen", "Ewa", "Finn", "Grace")]
+        late = [
+            f"{nurse} Mon Late Nurse"
+            for nurse in ("Amara", "Bruno", "Chen", "Ewa", "Finn", "Grace")
+        ]
         self.solution(*late)
         ran = run("solve", *words)
         self.assertEqual((ran[0], ran[1]), (5, ""))
-        self.assertRegex(ran[2], rf"no roster keeps the hard rules and has the rows of {fix} \(({PROVER}|{PLAIN})\): ")
+        self.assertRegex(
+            ran[2],
+            rf"no roster keeps the hard rules and has the rows of {fix} \(({PROVER}|{PLAIN})\): ",
+        )
 
     @unittest.skipUnless(HAS_CBC, "needs cbc")
     def test_files_of_another_week(self):
@@ -207,15 +286,28 @@ class BadInput(HelperTest):
         self.assertEqual(run("solve", *words, "--roster", other)[0], 0)
         self.assertTrue(target.read_text().startswith("SOLUTION\n0 ward\n"))
         broken = self.changed(other, "Amara Tue Day Charge", "Amara Mon Late Nurse")
-        self.assert_refused(6, f"inrc2pb-solve: {broken} breaks a hard rule; {hint}\n", *words, "--roster", broken)
+        self.assert_refused(
+            6, f"inrc2pb-solve: {broken} breaks a hard rule; {hint}\n", *words, "--roster", broken
+        )
 
     @unittest.skipUnless(HAS_CBC, "needs cbc")
     def test_a_week_that_no_roster_meets(self):
         eight = ROOT / "examples" / "eight"
-        words = ("--sce", eight / "ward.txt", "--his", eight / "history-1.txt", "--week", eight / "week-1.txt")
-        status, report, said = run("solve", *words, "--out", self.folder / "best.txt", "--time", ENOUGH)
+        words = (
+            "--sce",
+            eight / "ward.txt",
+            "--his",
+            eight / "history-1.txt",
+            "--week",
+            eight / "week-1.txt",
+        )
+        status, report, said = run(
+            "solve", *words, "--out", self.folder / "best.txt", "--time", ENOUGH
+        )
         self.assertEqual((status, report), (5, ""))
-        self.assertRegex(said.splitlines()[-1], rf"no roster keeps the hard rules \(({PROVER}|{PLAIN})\): ")
+        self.assertRegex(
+            said.splitlines()[-1], rf"no roster keeps the hard rules \(({PROVER}|{PLAIN})\): "
+        )
 
 
 class Stops(HelperTest):
@@ -223,7 +315,12 @@ class Stops(HelperTest):
         """A search of ten minutes that gets Ctrl-C when the file `running` exists: its status and its report."""
         words = [*WEEK_FILES.options(), "--time", "600", *words]
         command = [sys.executable, str(HELPERS / "inrc2pb-solve"), *map(str, words)]
-        search = subprocess.Popen(command, stdout=subprocess.PIPE, stderr=subprocess.DEVNULL, env={**os.environ, **(environment or {})})
+        search = subprocess.Popen(
+            command,
+            stdout=subprocess.PIPE,
+            stderr=subprocess.DEVNULL,
+            env={**os.environ, **(environment or {})},
+        )
         self.addCleanup(search.kill)
         while not running.exists() and search.poll() is None:
             time.sleep(0.05)
@@ -232,9 +329,16 @@ class Stops(HelperTest):
         return search.returncode, report.decode()
 
     def test_before_the_first_roster_a_solver_prints_what_it_has(self):
-        answer, target, running = self.folder / "answer.txt", self.folder / "best.txt", self.folder / "running"
+        answer, target, running = (
+            self.folder / "answer.txt",
+            self.folder / "best.txt",
+            self.folder / "running",
+        )
         answer.write_text(program.answer_with(WEEK_FILES, ROSTER))
-        slow = self.script("slow.sh", f"trap 'cat {answer}; exit' TERM\ntouch {running}\nwhile :; do sleep 0.1; done\n")
+        slow = self.script(
+            "slow.sh",
+            f"trap 'cat {answer}; exit' TERM\ntouch {running}\nwhile :; do sleep 0.1; done\n",
+        )
         status, report = self.stopped(running, "--out", target, "--solver", slow)
         self.assertEqual(status, 0)
         self.assertIn("penalty 20\n", report)
@@ -245,7 +349,15 @@ class Stops(HelperTest):
         slow = self.slow_to_encode(running)
         for start, status, says in ((("--roster", ROSTER), 0, "penalty 20\n"), ((), 5, "")):
             with self.subTest(start):
-                ran = self.stopped(running, "--out", self.folder / f"best-{status}.txt", "--solver", "true", *start, environment=slow)
+                ran = self.stopped(
+                    running,
+                    "--out",
+                    self.folder / f"best-{status}.txt",
+                    "--solver",
+                    "true",
+                    *start,
+                    environment=slow,
+                )
                 self.assertEqual(ran[0], status)
                 self.assertIn(says, ran[1])
             running.unlink(missing_ok=True)
@@ -256,7 +368,9 @@ class Stops(HelperTest):
             target = self.folder / f"{number}.txt"
             words = [*THIRTY_FILES.options(), "--out", target, "--time", "600"]
             search = subprocess.Popen(
-                [sys.executable, str(HELPERS / "inrc2pb-solve"), *map(str, words)], stdout=subprocess.PIPE, stderr=subprocess.PIPE
+                [sys.executable, str(HELPERS / "inrc2pb-solve"), *map(str, words)],
+                stdout=subprocess.PIPE,
+                stderr=subprocess.PIPE,
             )
             line = search.stderr.readline()
             self.assertIn(b"penalty", line)

@@ -3,9 +3,27 @@
 import itertools
 import unittest
 from dataclasses import replace
-from ward import ENOUGH, HAS_CBC, HISTORY, ROSTER, SCENARIO, WEEK, WEEK_OPTIONS, HelperTest, files, run
+from ward import (
+    ENOUGH,
+    HAS_CBC,
+    HISTORY,
+    ROSTER,
+    SCENARIO,
+    WEEK,
+    WEEK_OPTIONS,
+    HelperTest,
+    files,
+    run,
+)
 
-from inrc2pb.judging.limits import exceeded, excess, limits_in_words, limits_way_out, read_given, with_given
+from inrc2pb.judging.limits import (
+    exceeded,
+    excess,
+    limits_in_words,
+    limits_way_out,
+    read_given,
+    with_given,
+)
 from inrc2pb.rows.plan import ABSENCES_KEPT, FEW_BROKEN, FREE, STRICT, Plan
 from inrc2pb.rows.pricing import Crews, Pricing
 from inrc2pb.week.facts import Charged, Choice, Claim, facts_text
@@ -26,15 +44,35 @@ from inrc2pb.week.records import (
 )
 
 WARD, DATA = files.read_scenario(SCENARIO), files.read_week(WEEK, files.read_scenario(SCENARIO))
-ALL_LIMITS = frozenset({KeptLimit("Ann", "WORK_DAYS", 0), KeptLimit("Ann", "SHIFTS", 0), KeptLimit("Ann", "WEEKENDS", 0)})
+ALL_LIMITS = frozenset(
+    {
+        KeptLimit("Ann", "WORK_DAYS", 0),
+        KeptLimit("Ann", "SHIFTS", 0),
+        KeptLimit("Ann", "WEEKENDS", 0),
+    }
+)
 
 
 def ann(past, weeks=4, limits=ALL_LIMITS, absences=(), work=3, shifts=6, weekends=1):
     """The last week of a ward of one nurse, who has Day and Night, at most `work` days in a row, `shifts` and `weekends`."""
-    types = {"Day": ShiftType("Day", Limits(1, 9), ()), "Night": ShiftType("Night", Limits(1, 9), ("Day",))}
+    types = {
+        "Day": ShiftType("Day", Limits(1, 9), ()),
+        "Night": ShiftType("Night", Limits(1, 9), ("Day",)),
+    }
     contract = Contract("Full", Limits(0, shifts), Limits(1, work), Limits(1, 9), weekends, False)
-    scenario = Scenario("small", weeks, ("Nurse",), types, {"Full": contract}, {"Ann": Nurse("Ann", "Full", ("Nurse",))})
-    return Week(scenario, History(weeks - 1, "small", {"Ann": past}), WeekData("small", {}, (), frozenset(absences), limits))
+    scenario = Scenario(
+        "small",
+        weeks,
+        ("Nurse",),
+        types,
+        {"Full": contract},
+        {"Ann": Nurse("Ann", "Full", ("Nurse",))},
+    )
+    return Week(
+        scenario,
+        History(weeks - 1, "small", {"Ann": past}),
+        WeekData("small", {}, (), frozenset(absences), limits),
+    )
 
 
 def kept_by(shifts, past, absences, work, total, weekends):
@@ -44,7 +82,10 @@ def kept_by(shifts, past, absences, work, total, weekends):
         run = run + 1 if shift else 0
         in_row = max(in_row, run if shift else 0)
     at_weekend = bool(shifts[5] or shifts[6])
-    away = any(shift and ((day, None) in absences or (day, shift) in absences) for day, shift in enumerate(shifts))
+    away = any(
+        shift and ((day, None) in absences or (day, shift) in absences)
+        for day, shift in enumerate(shifts)
+    )
     works = sum(map(bool, shifts))
     return (
         not away
@@ -63,7 +104,9 @@ class Rows(unittest.TestCase):
         ):  # fmt: skip
             week = ann(past, absences=[Absence("Ann", day, shift) for day, shift in away])
             plan = Plan.of(week.scenario, week.history, [week.data])
-            pricing, free = (Pricing(one, Crews(one), lambda: None) for one in (plan, plan.kept(FREE)))
+            pricing, free = (
+                Pricing(one, Crews(one), lambda: None) for one in (plan, plan.kept(FREE))
+            )
             for row in itertools.product((0, 1, 2), repeat=7):
                 shifts = [(None, "Day", "Night")[choice] for choice in row]
                 may = free.cost(0, bytes(row)) is not None
@@ -78,7 +121,10 @@ class Rows(unittest.TestCase):
         plan = Plan.of(week.scenario, week.history, [week.data])
         # Monday to Thursday and Sunday: one absence, one day above 3 in a row, 9 shifts of 6, and 2 weekends of 1.
         row = bytes((1, 1, 1, 1, 0, 0, 1))
-        costs = [Pricing(one, Crews(one), lambda: None).cost(0, row) for one in map(plan.kept, (STRICT, ABSENCES_KEPT, FEW_BROKEN, FREE))]
+        costs = [
+            Pricing(one, Crews(one), lambda: None).cost(0, row)
+            for one in map(plan.kept, (STRICT, ABSENCES_KEPT, FEW_BROKEN, FREE))
+        ]
         self.assertEqual(costs, [None, None, costs[3] + 3000 + 600 * (1 + 3 + 1), 30 + 3 * 20 + 30])
 
     def test_before_the_last_week_totals_hold_too(self):
@@ -86,7 +132,10 @@ class Rows(unittest.TestCase):
         week = ann(past)
         plan = Plan.of(week.scenario, replace(week.history, week=0), [week.data])
         pricing = Pricing(plan, Crews(plan), lambda: None)
-        self.assertEqual([pricing.cost(0, bytes(row)) for row in ((1, 0, 0, 0, 0, 0, 0), (1, 0, 1, 0, 0, 0, 0))], [0, None])
+        self.assertEqual(
+            [pricing.cost(0, bytes(row)) for row in ((1, 0, 0, 0, 0, 0, 0), (1, 0, 1, 0, 0, 0, 0))],
+            [0, None],
+        )
 
 
 class Above(unittest.TestCase):
@@ -112,7 +161,10 @@ class Above(unittest.TestCase):
         week = files.read_files(SCENARIO, HISTORY, WEEK)
         cells = [Cell("Ewa", day, "Late", "Nurse") for day in range(6)]
         found = exceeded(week, {KeptLimit("Ewa", "WORK_DAYS", 0)}, cells)
-        self.assertEqual(limits_in_words(found, cells), "Ewa has 6 days of work in a row, Mon to Sat, of at most 3")
+        self.assertEqual(
+            limits_in_words(found, cells),
+            "Ewa has 6 days of work in a row, Mon to Sat, of at most 3",
+        )
         # Full has at most 21 shifts, Half 11, and nobody has worked before this week.
         others = "Amara (21), Bruno (21), Chen (21), Dilek (21), Finn (11) and Grace (21)"
         wanted = f"lower minimum numbers, hold fewer shifts, or allow these nurses more; with these skills shifts are left for {others}"
@@ -134,7 +186,13 @@ class Given(HelperTest):
         self.assertEqual(read_given(self.facts(*claims), WARD), claims)
         data = with_given(WARD, DATA, claims, 1)
         self.assertEqual(data.absences, {Absence("Chen", 5, None), Absence("Ewa", 0, "Night")})
-        self.assertEqual(data.limits, {KeptLimit("Finn", "SHIFTS", 2), *(KeptLimit(nurse, "WEEKENDS", 0) for nurse in WARD.nurses)})
+        self.assertEqual(
+            data.limits,
+            {
+                KeptLimit("Finn", "SHIFTS", 2),
+                *(KeptLimit(nurse, "WEEKENDS", 0) for nurse in WARD.nurses),
+            },
+        )
 
     def test_facts_that_a_search_does_not_keep(self):
         for claim, words in (
@@ -147,7 +205,10 @@ class Given(HelperTest):
         ):
             with self.assertRaises(FileFault) as found:
                 read_given(self.facts(claim), WARD)
-            self.assertEqual(found.exception.message, f"'{words}' is neither an absence nor a limit of a nurse: remove it")
+            self.assertEqual(
+                found.exception.message,
+                f"'{words}' is neither an absence nor a limit of a nurse: remove it",
+            )
 
 
 class Commands(HelperTest):
@@ -171,25 +232,41 @@ class Commands(HelperTest):
         ]
         self.assertEqual(len(worked), 5)
         says = f"Dilek has 5 shifts of at most 3, above on {worked[-2]} and {worked[-1]}"
-        given = self.give(Claim(Choice(1, "Chen", chen.day, None)), Claim(Charged("SHIFTS", "Dilek", 0)))
+        given = self.give(
+            Claim(Choice(1, "Chen", chen.day, None)), Claim(Charged("SHIFTS", "Dilek", 0))
+        )
         words = ("--sce", few, *WEEK_OPTIONS[2:], *given)
         status, printed, _ = run("roster", "check", *words, "--roster", ROSTER)
         day = ("Mon", "Tue", "Wed", "Thu", "Fri", "Sat", "Sun")[chen.day]
-        wanted = [f"{ROSTER}: Chen works {chen.shift} on {day}, and is away", f"{ROSTER}: {says}, and this limit holds"]
-        self.assertEqual((status, [line for line in printed.splitlines() if "warning" not in line]), (1, wanted))
+        wanted = [
+            f"{ROSTER}: Chen works {chen.shift} on {day}, and is away",
+            f"{ROSTER}: {says}, and this limit holds",
+        ]
+        self.assertEqual(
+            (status, [line for line in printed.splitlines() if "warning" not in line]), (1, wanted)
+        )
         table = run("roster", "show", *words, "--roster", ROSTER)[1]
         self.assertIn(f"above a limit that holds: {says}", table)
         self.assertIn("# = on duty while away, or on a shift type that she never works\n", table)
-        self.assertIn(f"above a limit that holds: {says}", run("roster", "why", *words, "--roster", ROSTER)[1])
-        self.assertIn("Dilek: never more than 3 shifts.", run("roster", "check", *words, "--tell")[1])
+        self.assertIn(
+            f"above a limit that holds: {says}", run("roster", "why", *words, "--roster", ROSTER)[1]
+        )
+        self.assertIn(
+            "Dilek: never more than 3 shifts.", run("roster", "check", *words, "--tell")[1]
+        )
 
     def test_the_reason_of_an_absence_is_shown(self):
         off = next(
-            (nurse, day) for nurse in WARD.nurses for day in range(7) if (nurse, day) not in {(cell.nurse, cell.day) for cell in self.rows}
+            (nurse, day)
+            for nurse in WARD.nurses
+            for day in range(7)
+            if (nurse, day) not in {(cell.nurse, cell.day) for cell in self.rows}
         )
         given = self.give(Claim(Choice(1, *off, None)))
         reasons = self.folder / "reasons.txt"
-        reasons.write_text(f"REASONS\nward\n\nROWS = 1\n1 {off[0]} {('Mon', 'Tue', 'Wed', 'Thu', 'Fri', 'Sat', 'Sun')[off[1]]} leave\n")
+        reasons.write_text(
+            f"REASONS\nward\n\nROWS = 1\n1 {off[0]} {('Mon', 'Tue', 'Wed', 'Thu', 'Fri', 'Sat', 'Sun')[off[1]]} leave\n"
+        )
         words = (*WEEK_OPTIONS, *given, "--reasons", reasons, "--roster", ROSTER)
         self.assertIn(" leave ", run("roster", "show", *words)[1])
         self.assertIn(">leave</span>", run("roster", "show", *words, "--html")[1])
@@ -197,14 +274,19 @@ class Commands(HelperTest):
     def test_options_that_need_others(self):
         given = self.give()
         self.assert_fault(
-            run("roster", "check", "--sce", SCENARIO, *given), "inrc2pb-roster: --given needs the whole week: give --sce, --his and --week"
+            run("roster", "check", "--sce", SCENARIO, *given),
+            "inrc2pb-roster: --given needs the whole week: give --sce, --his and --week",
         )
         self.assert_fault(
-            run("roster", "show", *given, "--roster", ROSTER), "inrc2pb-roster: --given needs --sce and --week: give them too"
+            run("roster", "show", *given, "--roster", ROSTER),
+            "inrc2pb-roster: --given needs --sce and --week: give them too",
         )
         wrong = self.give(Claim(Choice(2, "Chen", 4, "Day")))
         line = f"{self.facts}: 'HOLDS CHOICE 2 Chen Fri Day' is neither an absence nor a limit of a nurse: remove it"
-        self.assert_fault(run("solve", *WEEK_OPTIONS, *wrong, "--out", self.folder / "r.txt", "--time", ENOUGH), f"inrc2pb-solve: {line}")
+        self.assert_fault(
+            run("solve", *WEEK_OPTIONS, *wrong, "--out", self.folder / "r.txt", "--time", ENOUGH),
+            f"inrc2pb-solve: {line}",
+        )
 
     @unittest.skipUnless(HAS_CBC, "needs cbc")
     def test_a_search_keeps_absences_and_limits(self):
@@ -214,38 +296,66 @@ class Commands(HelperTest):
             Claim(Choice(1, "Grace", 6, "Day"), False),
             *(Claim(Charged(kind, None, 0)) for kind in ("WORK_DAYS", "WEEKENDS")),
         ]
-        status, report, said = run("solve", *WEEK_OPTIONS, *self.give(*claims), "--out", target, "--time", ENOUGH)
+        status, report, said = run(
+            "solve", *WEEK_OPTIONS, *self.give(*claims), "--out", target, "--time", ENOUGH
+        )
         self.assertEqual((status, "no roster was found" in said), (0, False), said)
         self.assertRegex(report, "\nlower bound [0-9]+ ")
         cells = files.read_solution(target).cells
-        self.assertFalse([cell for cell in cells if cell[:2] == ("Chen", 4) or cell[:3] == ("Grace", 6, "Day")])
-        self.assertEqual(run("roster", "check", *WEEK_OPTIONS, *self.give(*claims), "--roster", target)[1], "No mistake found.\n")
+        self.assertFalse(
+            [cell for cell in cells if cell[:2] == ("Chen", 4) or cell[:3] == ("Grace", 6, "Day")]
+        )
+        self.assertEqual(
+            run("roster", "check", *WEEK_OPTIONS, *self.give(*claims), "--roster", target)[1],
+            "No mistake found.\n",
+        )
 
     @unittest.skipUnless(HAS_CBC, "needs cbc")
     def test_absences_come_before_limits(self):
         # Three nurses have Charge, which one has to have on each day: with two of them away from Monday to Saturday Ewa works six days in
         # a row, and her contract allows three.
-        away = [Claim(Choice(1, nurse, day, None)) for nurse in ("Amara", "Bruno") for day in range(6)]
+        away = [
+            Claim(Choice(1, nurse, day, None)) for nurse in ("Amara", "Bruno") for day in range(6)
+        ]
         target = self.folder / "roster.txt"
         given = self.give(*away, Claim(Charged("WORK_DAYS", "Ewa", 0)))
         status, _, said = run("solve", *WEEK_OPTIONS, *given, "--out", target, "--time", ENOUGH)
         self.assertEqual(status, 0, said)
-        self.assertIn("no roster was found that keeps every limit: Ewa has 6 days of work in a row, Mon to Sat, of at most 3\n", said)
         self.assertIn(
-            "lower minimum numbers, hold fewer shifts, or allow these nurses more; nobody with these skills has shifts left", said
+            "no roster was found that keeps every limit: Ewa has 6 days of work in a row, Mon to Sat, of at most 3\n",
+            said,
         )
-        self.assertFalse([cell for cell in files.read_solution(target).cells if cell.nurse in ("Amara", "Bruno") and cell.day < 6])
+        self.assertIn(
+            "lower minimum numbers, hold fewer shifts, or allow these nurses more; nobody with these skills has shifts left",
+            said,
+        )
+        self.assertFalse(
+            [
+                cell
+                for cell in files.read_solution(target).cells
+                if cell.nurse in ("Amara", "Bruno") and cell.day < 6
+            ]
+        )
         period = self.folder / "period"
-        status, printed, said = run("solve", *WEEK_OPTIONS, "--week", WEEK, *given, "--out", period, "--time", ENOUGH)
+        status, printed, said = run(
+            "solve", *WEEK_OPTIONS, "--week", WEEK, *given, "--out", period, "--time", ENOUGH
+        )
         self.assertEqual(status, 0, said)
-        self.assertIn("week 1: no plan was found that keeps every limit: Ewa has 6 days of work in a row, Mon to Sat, of at most 3\n", said)
+        self.assertIn(
+            "week 1: no plan was found that keeps every limit: Ewa has 6 days of work in a row, Mon to Sat, of at most 3\n",
+            said,
+        )
         self.assertNotIn("absence", said)
 
     @unittest.skipUnless(HAS_CBC, "needs cbc")
     def test_a_period_keeps_totals(self):
         # Both weeks ask for 26 shifts at least; nobody may have more than eight in two weeks, which makes 56.
         few = self.changed(SCENARIO, "WEEKS = 4", "WEEKS = 2", "few.txt")
-        few.write_text(few.read_text().replace("Full (17,21)", "Full (4,8)").replace("Half (8,11)", "Half (4,8)"))
+        few.write_text(
+            few.read_text()
+            .replace("Full (17,21)", "Full (4,8)")
+            .replace("Half (8,11)", "Half (4,8)")
+        )
         words = (
             "--sce",
             few,
@@ -260,8 +370,14 @@ class Commands(HelperTest):
         )
         status, printed, said = run("solve", *words)
         self.assertEqual((status, "no plan was found" in said), (0, False), said)
-        cells = [cell for number in (0, 1) for cell in files.read_solution(self.folder / "period" / f"roster-{number}.txt").cells]
-        self.assertLessEqual(max(sum(cell.nurse == nurse for cell in cells) for nurse in WARD.nurses), 8)
+        cells = [
+            cell
+            for number in (0, 1)
+            for cell in files.read_solution(self.folder / "period" / f"roster-{number}.txt").cells
+        ]
+        self.assertLessEqual(
+            max(sum(cell.nurse == nurse for cell in cells) for nurse in WARD.nurses), 8
+        )
 
 
 if __name__ == "__main__":

@@ -19,18 +19,48 @@ HEEDS = "import os, signal, sys; signal.signal(signal.SIGINT, signal.SIG_DFL); o
 class Stops(HelperTest):
     def setUp(self):
         super().setUp()
-        subprocess.run([str(ROOT / "bench" / "make_weeks.py"), str(self.folder), "500"], check=True, stdout=subprocess.DEVNULL)
+        subprocess.run(
+            [str(ROOT / "bench" / "make_weeks.py"), str(self.folder), "500"],
+            check=True,
+            stdout=subprocess.DEVNULL,
+        )
         ward = self.folder / "ward500"
-        self.week = [str(word) for word in ("--sce", ward / "ward.txt", "--his", ward / "history-3.txt", "--week", ward / "week-3.txt")]
+        self.week = [
+            str(word)
+            for word in (
+                "--sce",
+                ward / "ward.txt",
+                "--his",
+                ward / "history-3.txt",
+                "--week",
+                ward / "week-3.txt",
+            )
+        ]
         self.roster = self.folder / "roster"
 
     def stopped(self, number, seconds, has_roster):
         """The status, the report and the messages of a search that gets this signal so many seconds after its start, or after its first
         roster."""
         self.roster.unlink(missing_ok=True)
-        words = [sys.executable, "-c", HEEDS, str(HELPERS / "inrc2pb-solve"), *self.week, "--out", str(self.roster), "--time", str(ENOUGH)]
-        environment = {"PATH": "/usr/local/bin:/usr/bin:/bin", "TMPDIR": str(self.folder), "INRC2PB": str(program.find_program())}
-        with subprocess.Popen(words, env=environment, stdout=subprocess.PIPE, stderr=subprocess.PIPE, text=True) as search:
+        words = [
+            sys.executable,
+            "-c",
+            HEEDS,
+            str(HELPERS / "inrc2pb-solve"),
+            *self.week,
+            "--out",
+            str(self.roster),
+            "--time",
+            str(ENOUGH),
+        ]
+        environment = {
+            "PATH": "/usr/local/bin:/usr/bin:/bin",
+            "TMPDIR": str(self.folder),
+            "INRC2PB": str(program.find_program()),
+        }
+        with subprocess.Popen(
+            words, env=environment, stdout=subprocess.PIPE, stderr=subprocess.PIPE, text=True
+        ) as search:
             while has_roster and not self.roster.exists() and search.poll() is None:
                 time.sleep(0.01)
             time.sleep(seconds)
@@ -47,9 +77,15 @@ class Stops(HelperTest):
     def test_stops_at_random_moments(self):
         chance = random.Random(1)
         for stop in range(STOPS):
-            number, has_roster, tenths = (signal.SIGTERM, signal.SIGINT)[stop % 2], stop % 4 < 2, chance.randint(0, 40)
+            number, has_roster, tenths = (
+                (signal.SIGTERM, signal.SIGINT)[stop % 2],
+                stop % 4 < 2,
+                chance.randint(0, 40),
+            )
             with self.subTest(signal=number, tenths=tenths, has_roster=has_roster):
-                status, printed, said = self.stopped(number, tenths / (40 if has_roster else 10), has_roster)
+                status, printed, said = self.stopped(
+                    number, tenths / (40 if has_roster else 10), has_roster
+                )
                 self.assertTrue(self.roster.exists() or not has_roster, said)
                 if self.roster.exists():
                     self.assertEqual(status, 0, said)
@@ -57,6 +93,12 @@ class Stops(HelperTest):
                 else:
                     self.assertIn(status, (5, 130, 143, -signal.SIGINT, -signal.SIGTERM), said)
                     self.assertEqual(printed, "")
-                left = [path.name for path in self.folder.iterdir() if path.name.startswith(("inrc2pb-solve-", ".roster."))]
+                left = [
+                    path.name
+                    for path in self.folder.iterdir()
+                    if path.name.startswith(("inrc2pb-solve-", ".roster."))
+                ]
                 self.assertEqual(left, [])
-        self.assertEqual(subprocess.run(["pgrep", "-af", str(self.folder)], stdout=subprocess.PIPE).stdout, b"")
+        self.assertEqual(
+            subprocess.run(["pgrep", "-af", str(self.folder)], stdout=subprocess.PIPE).stdout, b""
+        )

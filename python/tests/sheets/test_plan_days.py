@@ -24,19 +24,43 @@ class Heads(unittest.TestCase):
             (3, "Tue 1", f", row 1, column D: 'Tue 1' should be a Wed: {once}"),
             (1, "2026-12-01", f", row 1, column B: '2026-12-01' should be a Mon: {once}"),
             (1, "46357", f", row 1, column B: '2026-12-01' should be a Mon: {once}"),
-            (1, "2026-02-30", ", row 1, column B: there is no day 2026-02-30: write a date such as 2026-11-30"),
-            (1, "30.11.", f", row 1, column B: '30.11.' is no day of the week: {days}, or {whole}, or begin the head with #"),
+            (
+                1,
+                "2026-02-30",
+                ", row 1, column B: there is no day 2026-02-30: write a date such as 2026-11-30",
+            ),
+            (
+                1,
+                "30.11.",
+                f", row 1, column B: '30.11.' is no day of the week: {days}, or {whole}, or begin the head with #",
+            ),
             *(
-                (1, text, f", row 1, column B: '{text}' may have the day or the month first: write {dates}")
-                for text, dates in (("30/11/2026", "2026-11-30"), ("11-30-2026", "2026-11-30"), ("1/12/2026", "2026-12-01 or 2026-01-12"))
+                (
+                    1,
+                    text,
+                    f", row 1, column B: '{text}' may have the day or the month first: write {dates}",
+                )
+                for text, dates in (
+                    ("30/11/2026", "2026-11-30"),
+                    ("11-30-2026", "2026-11-30"),
+                    ("1/12/2026", "2026-12-01 or 2026-01-12"),
+                )
             ),
             (
                 1,
                 "1900-01-29",
                 ", row 1, column B: a spreadsheet makes 1900-01-29 of the number of a day: write whole dates, such as 2026-11-30",
             ),
-            (15, "Total", f", row 1, column P: 'Total' is no day of the week: {days}, or begin the head with #"),
-            (2, "2026-12-01", ", row 1, column C: '2026-12-01' has a date, unlike the first day: write dates for all days or for none"),
+            (
+                15,
+                "Total",
+                f", row 1, column P: 'Total' is no day of the week: {days}, or begin the head with #",
+            ),
+            (
+                2,
+                "2026-12-01",
+                ", row 1, column C: '2026-12-01' has a date, unlike the first day: write dates for all days or for none",
+            ),
         ):
             with self.subTest(text, column=column), self.assertRaises(FileFault) as caught:
                 texts(changed("plan", 1, column, text))
@@ -44,7 +68,11 @@ class Heads(unittest.TestCase):
 
     def test_mistakes_of_heads_are_reported_with_the_rows_of_other_sheets(self):
         sheets = copy.deepcopy(SHEETS)
-        sheets["plan"][0][3], sheets["contracts"][1][1], sheets["nurses"][0][1] = "Midweek", "many", "kontrakt"
+        sheets["plan"][0][3], sheets["contracts"][1][1], sheets["nurses"][0][1] = (
+            "Midweek",
+            "many",
+            "kontrakt",
+        )
         with self.assertRaises(FileFaults) as caught:
             days_of(Book(Path("ward.ods"), sheets))
         self.assertEqual([one.message.split(": ")[0] for one in caught.exception.faults], [
@@ -54,7 +82,10 @@ class Heads(unittest.TestCase):
 
 class Weeks(unittest.TestCase):
     def test_wrong_weeks(self):
-        last, number = "weeks are counted from 1, so write 2 for the last one", "the sheet plan has none: write the week's number, from 1"
+        last, number = (
+            "weeks are counted from 1, so write 2 for the last one",
+            "the sheet plan has none: write the week's number, from 1",
+        )
         for text, said in (
             ("3", f"there is no week 3: {last}"),
             ("0", f"there is no week 0: {last}"),
@@ -68,19 +99,36 @@ class Weeks(unittest.TestCase):
     def dated(self, *weeks):
         """The example with dates from 30 November on, and these texts in the column week of the row of its second week, and of others."""
         sheets = copy.deepcopy(SHEETS)
-        sheets["plan"][0] = ["nurse", *(f"2026-{'11-30' if not day else f'12-{day:02}'}" for day in range(14))]
+        sheets["plan"][0] = [
+            "nurse",
+            *(f"2026-{'11-30' if not day else f'12-{day:02}'}" for day in range(14)),
+        ]
         for row, week in enumerate(weeks, 5):
             sheets["needs"][row : row + 1] = [[week, *SHEETS["needs"][5][1:]]]
         return sheets
 
     def test_the_week_of_a_bank_holiday(self):
         # Calendar week 50 begins on 7 December.
-        for text in ("2", "2026-12-07", "2026-12-13", "9.12.2026", "50", "CW 50", "cw50", "KW 50", "Calendar week 50", str(46365)):
+        for text in (
+            "2",
+            "2026-12-07",
+            "2026-12-13",
+            "9.12.2026",
+            "50",
+            "CW 50",
+            "cw50",
+            "KW 50",
+            "Calendar week 50",
+            str(46365),
+        ):
             with self.subTest(text):
                 self.assertEqual(texts(self.dated(text)), texts(self.dated("2")))
                 self.assertEqual(made(self.dated(text)).warnings, made(self.dated("2")).warnings)
         for text, said in (
-            ("3", "there is no week 3: weeks are counted from 1, so write 2 for the last one, a calendar week such as CW 50, or a date"),
+            (
+                "3",
+                "there is no week 3: weeks are counted from 1, so write 2 for the last one, a calendar week such as CW 50, or a date",
+            ),
             (
                 "CW 2",
                 "there is no week CW 2: weeks are counted from 1, so write 2 for the last one, a calendar week such as CW 50, or a date",
@@ -92,7 +140,9 @@ class Weeks(unittest.TestCase):
             self.assertEqual(caught.exception.message, f"sheet needs, row 6, column A: {said}")
         with self.assertRaises(FileFault) as caught:
             texts(changed("needs", 6, 0, "2026-12-08"))
-        cure = "'2026-12-08' is a date, and the sheet plan has none: write the week's number, from 1"
+        cure = (
+            "'2026-12-08' is a date, and the sheet plan has none: write the week's number, from 1"
+        )
         self.assertEqual(caught.exception.message, f"sheet needs, row 6, column A: {cure}")
 
     def test_a_date_of_another_period_counts_for_no_week(self):
@@ -101,7 +151,10 @@ class Weeks(unittest.TestCase):
         for text in ("2026-11-29", "2026-12-14", "2025-12-25"):
             found = made(self.dated(text))
             line = f"sheet needs, row 6: {text} is not in this plan, so the row counts for no week: correct the date, or delete the row"
-            self.assertEqual(([one for one in found.warnings if "row 6" in one], found.texts), ([line], texts(without)))
+            self.assertEqual(
+                ([one for one in found.warnings if "row 6" in one], found.texts),
+                ([line], texts(without)),
+            )
 
     def test_a_number_that_is_also_another_week_of_the_calendar(self):
         # The plan begins in calendar week 2.

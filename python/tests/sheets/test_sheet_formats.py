@@ -48,7 +48,9 @@ def excel(path, sheets, dates=False):
                     cells += f'<c {place} t="s"><v>{len(shared) - 1}</v></c>'
             xml += f'<row r="{line}">{cells}</row>'
         space = 'xmlns="http://schemas.openxmlformats.org/spreadsheetml/2006/main"'
-        parts[f"xl/worksheets/sheet{number}.xml"] = f"<worksheet {space}><sheetData>{xml}</sheetData></worksheet>"
+        parts[
+            f"xl/worksheets/sheet{number}.xml"
+        ] = f"<worksheet {space}><sheetData>{xml}</sheetData></worksheet>"
         links.append(
             f'<Relationship Id="rId{number}" Target="/xl/worksheets/sheet{number}.xml"/>'
             if number % 2
@@ -56,7 +58,9 @@ def excel(path, sheets, dates=False):
         )
         named.append(f'<sheet name="{name.title()}" sheetId="{number}" r:id="rId{number}"/>')
     relation = "http://schemas.openxmlformats.org/officeDocument/2006/relationships"
-    parts["xl/workbook.xml"] = f'<workbook {space} xmlns:r="{relation}"><sheets>{"".join(named)}</sheets></workbook>'
+    parts[
+        "xl/workbook.xml"
+    ] = f'<workbook {space} xmlns:r="{relation}"><sheets>{"".join(named)}</sheets></workbook>'
     parts[
         "xl/_rels/workbook.xml.rels"
     ] = f'<Relationships xmlns="http://schemas.openxmlformats.org/package/2006/relationships">{"".join(links)}</Relationships>'
@@ -101,7 +105,10 @@ class Formats(HelperTest):
         sheets = copy.deepcopy(SHEETS)
         # A title, blank rows, a head over two columns with the row below it, and dates as numbers with the days below them.
         head = sheets["contracts"][0]
-        two = [["contract", "shifts", "", "work", "", "off", "", *head[7:]], ["", "min", "max", "min", "max", "min", "max"]]
+        two = [
+            ["contract", "shifts", "", "work", "", "off", "", *head[7:]],
+            ["", "min", "max", "min", "max", "min", "max"],
+        ]
         sheets["contracts"] = [["Contracts of ward 3"], [], *two, [], *sheets["contracts"][1:]]
         first = (MONDAY - datetime.date(1899, 12, 30)).days
         sheets["plan"] = [
@@ -132,7 +139,9 @@ class Formats(HelperTest):
                 (folder / f"ward-{name.title()}.csv").write_bytes(text.getvalue().encode(encoding))
             book = read_book(folder)
             found = ward.ward_files(book, "ward", read_days(book), ()).texts
-            self.assertEqual(found, {name: text.replace("Chen", "Jürgen") for name, text in self.wanted.items()})
+            self.assertEqual(
+                found, {name: text.replace("Chen", "Jürgen") for name, text in self.wanted.items()}
+            )
 
     def test_decomposed_letters_and_other_blanks(self):
         sheets = copy.deepcopy(SHEETS)
@@ -153,10 +162,26 @@ class Formats(HelperTest):
                 b"\xd0\xcf\x11\xe0" + bytes(600),
                 "this is an old Excel file, or one with a password: save it without one as .xlsx or .ods",
             ),
-            ("text.ods", b"nurse;contract\n", "this is no spreadsheet: give an .ods or .xlsx file, or a folder of .csv files"),
-            ("cut.ods", good[:3000], "the spreadsheet is damaged or has a password: open it in its program, and save it again without one"),
-            ("flipped.ods", flipped, "the spreadsheet is damaged or has a password: open it in its program, and save it again without one"),
-            ("other.zip", {"a.txt": "a"}, "this file has no sheets: give an .ods or .xlsx file, or a folder of .csv files"),
+            (
+                "text.ods",
+                b"nurse;contract\n",
+                "this is no spreadsheet: give an .ods or .xlsx file, or a folder of .csv files",
+            ),
+            (
+                "cut.ods",
+                good[:3000],
+                "the spreadsheet is damaged or has a password: open it in its program, and save it again without one",
+            ),
+            (
+                "flipped.ods",
+                flipped,
+                "the spreadsheet is damaged or has a password: open it in its program, and save it again without one",
+            ),
+            (
+                "other.zip",
+                {"a.txt": "a"},
+                "this file has no sheets: give an .ods or .xlsx file, or a folder of .csv files",
+            ),
             (
                 "bomb.ods",
                 {"content.xml": bomb},
@@ -185,7 +210,15 @@ class Formats(HelperTest):
             # A small file that needs all memory: many empty elements, with attributes or without, and many attributes of one.
             ("elements.ods", {"content.xml": f"<x>{'<a/>' * 2_000_001}</x>"}, many),
             ("named.ods", {"content.xml": "<x>" + '<a b="" c="" d=""/>' * 500_001 + "</x>"}, many),
-            ("attributes.ods", {"content.xml": "<x " + " ".join(f'a{number}=""' for number in range(150_000)) + "/>"}, many),
+            (
+                "attributes.ods",
+                {
+                    "content.xml": "<x "
+                    + " ".join(f'a{number}=""' for number in range(150_000))
+                    + "/>"
+                },
+                many,
+            ),
         ):
             path = self.folder / name
             if isinstance(data, bytes):
@@ -201,7 +234,11 @@ class Formats(HelperTest):
     def in_parts(self, path, **changes):
         """The spreadsheet with changed parts, each given as an old text and a new one, or as a new part."""
         with zipfile.ZipFile(path) as archive:
-            parts = {name: archive.read(name).decode() for name in archive.namelist() if name.endswith(".xml") or name.endswith(".rels")}
+            parts = {
+                name: archive.read(name).decode()
+                for name in archive.namelist()
+                if name.endswith(".xml") or name.endswith(".rels")
+            }
         for name, change in changes.items():
             part = next((one for one in parts if one.endswith(f"{name}.xml")), f"xl/{name}.xml")
             if isinstance(change, str):
@@ -224,8 +261,13 @@ class Formats(HelperTest):
             '<fills><fill><patternFill patternType="gray125"/></fill><fill><patternFill patternType="solid"/></fill></fills>'
             '<cellXfs><xf fontId="0" fillId="0"/><xf fontId="1" fillId="0"/><xf fontId="0" fillId="1"/></cellXfs></styleSheet>'
         )
-        plan = [('<c r="G4" t=', '<c r="G4" s="1" t='), ('<row r="3">', '<row r="3"><c r="B3" s="2"/><c r="D3" s="2"/><c r="E3" s="0"/>')]
-        plan += [(f'<row r="{row}">', f'<row r="{row}"><c r="B{row}" s="2"/>') for row in (2, 4, 5, 6)]
+        plan = [
+            ('<c r="G4" t=', '<c r="G4" s="1" t='),
+            ('<row r="3">', '<row r="3"><c r="B3" s="2"/><c r="D3" s="2"/><c r="E3" s="0"/>'),
+        ]
+        plan += [
+            (f'<row r="{row}">', f'<row r="{row}"><c r="B{row}" s="2"/>') for row in (2, 4, 5, 6)
+        ]
         looks = self.in_parts(path, styles=styles, sheet5=plan)
         book = read_book(looks)
         self.assertEqual(list(look_warnings(book, read_days(book))), [
@@ -242,8 +284,16 @@ class Formats(HelperTest):
             '<style:style style:name="red"><style:table-cell-properties fo:background-color="#ff0000"/></style:style>'
         )
         space = ' xmlns:fo="urn:oasis:names:tc:opendocument:xmlns:xsl-fo-compatible:1.0"'
-        content = [("<office:document-content", f"<office:document-content{space}"), ("<office:automatic-styles>", style)]
-        content += [("<text:p>training</text:p>", '<text:p><text:span text:style-name="old">training</text:span></text:p>')]
+        content = [
+            ("<office:document-content", f"<office:document-content{space}"),
+            ("<office:automatic-styles>", style),
+        ]
+        content += [
+            (
+                "<text:p>training</text:p>",
+                '<text:p><text:span text:style-name="old">training</text:span></text:p>',
+            )
+        ]
         content += [("<text:p>Grace</text:p></table:table-cell><table:table-cell/>",
                      '<text:p>Grace</text:p></table:table-cell><table:table-cell table:style-name="red"/>')]  # fmt: skip
         book = read_book(self.in_parts(path, content=content))
@@ -259,14 +309,21 @@ class Formats(HelperTest):
             first, *names = archive.namelist()
             manifest = ElementTree.fromstring(archive.read("META-INF/manifest.xml"))
         self.assertEqual(first, "mimetype")
-        parts = [next(value for name, value in entry.items() if name.endswith("full-path")) for entry in manifest]
-        self.assertEqual(parts, ["/", *(name for name in names if not name.startswith("META-INF/"))])
+        parts = [
+            next(value for name, value in entry.items() if name.endswith("full-path"))
+            for entry in manifest
+        ]
+        self.assertEqual(
+            parts, ["/", *(name for name in names if not name.startswith("META-INF/"))]
+        )
 
     def test_struck_cells_are_named_from_top_to_bottom(self):
         path = self.folder / "ward.ods"
         write_template(path, MONDAY)
         sheets = read_book(path)
-        marks = sheets.marks["plan"]._replace(struck={(row, 0) for row in range(len(sheets.sheets["plan"]))})
+        marks = sheets.marks["plan"]._replace(
+            struck={(row, 0) for row in range(len(sheets.sheets["plan"]))}
+        )
         lines = list(look_warnings(sheets._replace(marks={"plan": marks}), read_days(sheets)))
         rows = [int(re.search("row ([0-9]+)", line)[1]) for line in lines]
         self.assertEqual(rows, sorted(rows))
@@ -276,7 +333,9 @@ class Formats(HelperTest):
         path = self.folder / "ward.ods"
         write_template(path, MONDAY)
         row = '<table:table-row><table:table-cell office:value-type="string"><text:p>Full</text:p>'
-        content = [(row, row.replace("<table:table-row>", '<table:table-row table:visibility="collapse">'))]
+        content = [
+            (row, row.replace("<table:table-row>", '<table:table-row table:visibility="collapse">'))
+        ]
         self.assertEqual(read_book(path).hidden["contracts"], [])
         self.assertEqual(read_book(self.in_parts(path, content=content)).hidden["contracts"], [2])
 
@@ -284,10 +343,16 @@ class Formats(HelperTest):
         paths = sorted(path for path in (DATA / "odd").iterdir() if path.suffix != ".csv")
         self.assertEqual(len(paths), 11)
         for path in paths:
-            wanted = next(other for other in (path.with_name(f"{path.name}.csv"), path.with_suffix(".csv")) if other.exists())
+            wanted = next(
+                other
+                for other in (path.with_name(f"{path.name}.csv"), path.with_suffix(".csv"))
+                if other.exists()
+            )
             with self.subTest(path.name), open(wanted, encoding="utf-8", newline="") as file:
                 self.assertEqual(read_book(path).sheets["plan"], list(csv.reader(file)))
-        self.assertEqual(read_book(DATA / "odd" / "dates_1904.xlsx").day_zero, datetime.date(1904, 1, 1))
+        self.assertEqual(
+            read_book(DATA / "odd" / "dates_1904.xlsx").day_zero, datetime.date(1904, 1, 1)
+        )
 
     def test_formulas_of_a_ward(self):
         for text, said in (
@@ -296,7 +361,10 @@ class Formats(HelperTest):
                 "the value of the formula =A1+1 is not in the file: open the file in a spreadsheet program, and save it again, or write the value",
             ),
             ("#REF!", "a formula has the fault #REF!: correct it, or write its value in its place"),
-            ("Err:502", "a formula has the fault Err:502: correct it, or write its value in its place"),
+            (
+                "Err:502",
+                "a formula has the fault Err:502: correct it, or write its value in its place",
+            ),
             ("=2+1", "'=2+1' is a sum: write 2+1 without the sign =, or 3"),
         ):
             with self.subTest(text), self.assertRaises(FileFault) as caught:
@@ -308,18 +376,28 @@ class Formats(HelperTest):
         book = Book(Path("ward.ods"), changed("needs", 2, 5, ""), {"nurses": [4, 90], "plan": [2]})
         warnings = ward.ward_files(book, "ward", read_days(book), ()).warnings
         self.assertIn("sheet nurses: row 4 hidden, and counted: show it, or delete it", warnings)
-        self.assertIn("sheet needs, row 2: Wed empty, and counted as 0: write 0 if nobody is needed", warnings)
-        self.assertEqual([line for line in warnings if "hidden" in line or "empty" in line], warnings[:2])
+        self.assertIn(
+            "sheet needs, row 2: Wed empty, and counted as 0: write 0 if nobody is needed", warnings
+        )
+        self.assertEqual(
+            [line for line in warnings if "hidden" in line or "empty" in line], warnings[:2]
+        )
 
     def test_folders_that_have_no_sheets(self):
         with self.assertRaises(FileFault) as caught:
             read_book(self.folder)
-        self.assertEqual(caught.exception.message, "this folder has no .csv files: save each sheet as one, such as shifts.csv")
+        self.assertEqual(
+            caught.exception.message,
+            "this folder has no .csv files: save each sheet as one, such as shifts.csv",
+        )
         for name in ("plan.csv", "ward-plan.csv"):
             (self.folder / name).write_text("nurse;Mon\n")
         with self.assertRaises(FileFault) as caught:
             read_book(self.folder)
-        self.assertEqual(caught.exception.message, "plan.csv and ward-plan.csv are both the sheet plan: leave one of them")
+        self.assertEqual(
+            caught.exception.message,
+            "plan.csv and ward-plan.csv are both the sheet plan: leave one of them",
+        )
 
 
 if __name__ == "__main__":

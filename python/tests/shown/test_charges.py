@@ -47,14 +47,25 @@ def sums(printed):
 
 
 def options(week):
-    return ["--sce", week.scenario, "--his", week.history, "--week", week.week, *["--early"] * week.early]
+    return [
+        "--sce",
+        week.scenario,
+        "--his",
+        week.history,
+        "--week",
+        week.week,
+        *["--early"] * week.early,
+    ]
 
 
 class Words(unittest.TestCase):
     def charged(self, has, before, least, greatest):
         base = rules.Charge("S3", "off", "Chen", 30)
         days = [letter == "#" for letter in has]
-        return [(charge.times, in_words(charge)) for charge in rules.run_charges(base, days, before, records.Limits(least, greatest))]
+        return [
+            (charge.times, in_words(charge))
+            for charge in rules.run_charges(base, days, before, records.Limits(least, greatest))
+        ]
 
     def test_runs(self):
         # The first is the example of docs/rules.md.
@@ -63,11 +74,19 @@ class Words(unittest.TestCase):
                 "###.#.#",
                 1,
                 (2, 3),
-                [(1, "Chen, Mon to Wed: 4 days off in a row (1 before Monday), at most 3"), (1, "Chen, Fri: only 1 day off, at least 2")],
+                [
+                    (1, "Chen, Mon to Wed: 4 days off in a row (1 before Monday), at most 3"),
+                    (1, "Chen, Fri: only 1 day off, at least 2"),
+                ],
             ),
             ("####...", 0, (2, 3), [(1, "Chen, Mon to Thu: 4 days off in a row, at most 3")]),
             (".......", 1, (3, 9), [(2, "Chen, before Monday: only 1 day off, at least 3")]),
-            ("#......", 9, (0, 3), [(1, "Chen, Mon: 10 days off in a row (9 before Monday), at most 3")]),
+            (
+                "#......",
+                9,
+                (0, 3),
+                [(1, "Chen, Mon: 10 days off in a row (9 before Monday), at most 3")],
+            ),
             (".......", 9, (0, 3), []),
             ("......#", 0, (9, 9), []),
             ("#######", 0, (0, 0), [(7, "Chen, Mon to Sun: 7 days off in a row, at most 0")]),
@@ -75,7 +94,10 @@ class Words(unittest.TestCase):
                 ".##....",
                 0,
                 (4, 1),
-                [(1, "Chen, Tue to Wed: 2 days off in a row, at most 1"), (2, "Chen, Tue to Wed: only 2 days off in a row, at least 4")],
+                [
+                    (1, "Chen, Tue to Wed: 2 days off in a row, at most 1"),
+                    (2, "Chen, Tue to Wed: only 2 days off in a row, at least 4"),
+                ],
             ),
         ):
             with self.subTest(has, before=before, limits=limits):
@@ -84,7 +106,9 @@ class Words(unittest.TestCase):
 
 class Why(HelperTest):
     def test_each_rule_has_its_words(self):
-        ward = self.changed(SCENARIO, "Full (17,21) (3,5) (2,3) 2 1", "Full (3,4) (2,2) (1,1) 0 1", "ward.txt")
+        ward = self.changed(
+            SCENARIO, "Full (17,21) (3,5) (2,3) 2 1", "Full (3,4) (2,2) (1,1) 0 1", "ward.txt"
+        )
         ward.write_text(ward.read_text().replace("WEEKS = 4", "WEEKS = 1"))
         ward.write_text(
             "\n".join(
@@ -95,19 +119,32 @@ class Why(HelperTest):
             + "\n"
         )
         history = self.folder / "history.txt"
-        history.write_text("HISTORY\n0 ward\n\nNURSE_HISTORY\nAmara 2 0 None 0 0 1\nChen 0 0 Late 1 1 0\n")
+        history.write_text(
+            "HISTORY\n0 ward\n\nNURSE_HISTORY\nAmara 2 0 None 0 0 1\nChen 0 0 Late 1 1 0\n"
+        )
         week = self.folder / "week.txt"
         asked = ["Amara Any Wed"] * 2 + ["Amara Day Wed"] + ["Chen Any Fri"] * 30
         week.write_text(
             "\n".join(
-                ["WEEK_DATA\nward\n\nREQUIREMENTS", "Day Nurse" + " (0,0)" * 6 + " (0,2)", f"SHIFT_OFF_REQUESTS = {len(asked)}", *asked]
+                [
+                    "WEEK_DATA\nward\n\nREQUIREMENTS",
+                    "Day Nurse" + " (0,0)" * 6 + " (0,2)",
+                    f"SHIFT_OFF_REQUESTS = {len(asked)}",
+                    *asked,
+                ]
             )
             + "\n"
         )
         roster = self.solution(
-            "Amara Tue Day Nurse", "Amara Wed Day Nurse", "Amara Thu Day Nurse", "Amara Sun Day Nurse", "Chen Fri Late Nurse"
+            "Amara Tue Day Nurse",
+            "Amara Wed Day Nurse",
+            "Amara Thu Day Nurse",
+            "Amara Sun Day Nurse",
+            "Chen Fri Late Nurse",
         )
-        status, printed, _ = run("roster", "why", "--sce", ward, "--his", history, "--week", week, "--roster", roster)
+        status, printed, _ = run(
+            "roster", "why", "--sce", ward, "--his", history, "--week", week, "--roster", roster
+        )
         self.assertEqual(status, 0)
         self.assertEqual(printed.splitlines(), [
             "   30  S1  Day Nurse, Sun: 1 of 2 nurses",
@@ -129,10 +166,15 @@ class Why(HelperTest):
             "   40  S6  Chen: 1 shift in the period (0 before Monday), at least 3",
             "  800  in all: S1 30 + S2 120 + S3 180 + S4 330 + S5 30 + S6 80 + S7 30",
         ])  # fmt: skip
-        self.assertEqual(sums(printed), program.extend(program.WeekFiles(ward, history, week), roster)[1].by_rule)
+        self.assertEqual(
+            sums(printed), program.extend(program.WeekFiles(ward, history, week), roster)[1].by_rule
+        )
 
     def test_the_lines_add_up_to_the_report(self):
-        for week, answer in ((FIVE_FILES, FIVE / "answers" / "clasp-optimum.txt"), (replace(THIRTY_FILES, early=True), EARLY_ANSWER)):
+        for week, answer in (
+            (FIVE_FILES, FIVE / "answers" / "clasp-optimum.txt"),
+            (replace(THIRTY_FILES, early=True), EARLY_ANSWER),
+        ):
             roster = self.folder / "roster.txt"
             report = program.decode(week, answer.read_text(), roster)
             printed = run("roster", "why", *options(week), "--roster", roster)[1]
@@ -147,15 +189,22 @@ class Why(HelperTest):
                 week, rows = drafts.week_of(draft), drafts.rows(drafts.read_roster(case["roster"]))
                 held = drafts.rows(drafts.read_roster(case["fix"])) if "fix" in case else []
                 found = breaches(week, rows, held)
-                self.assertEqual([breach.rule for breach in found][:1], list(rules.broken(week, rows, held))[:1])
+                self.assertEqual(
+                    [breach.rule for breach in found][:1], list(rules.broken(week, rows, held))[:1]
+                )
                 if found:
                     continue
                 paths = {name: self.folder / name for name in ("sce", "his", "week", "roster")}
                 for name, path in paths.items():
                     path.write_text(case[name])
-                of_week = program.WeekFiles(paths["sce"], paths["his"], paths["week"], early="early" in case)
+                of_week = program.WeekFiles(
+                    paths["sce"], paths["his"], paths["week"], early="early" in case
+                )
                 report = program.extend(of_week, paths["roster"])[1]
-                self.assertEqual(sums(run("roster", "why", *options(of_week), "--roster", paths["roster"])[1]), report.by_rule)
+                self.assertEqual(
+                    sums(run("roster", "why", *options(of_week), "--roster", paths["roster"])[1]),
+                    report.by_rule,
+                )
                 kept += 1
         self.assertGreater(kept, 30)
 
@@ -169,48 +218,83 @@ class Why(HelperTest):
 
 class Swaps(HelperTest):
     def test_a_swap_and_the_same_change_by_hand(self):
-        status, printed, said = run("roster", "swap", "Chen Mon", "Grace Mon", *WEEK_OPTIONS, "--roster", ROSTER)
+        status, printed, said = run(
+            "roster", "swap", "Chen Mon", "Grace Mon", *WEEK_OPTIONS, "--roster", ROSTER
+        )
         self.assertEqual((status, said), (0, ""))
-        self.assertEqual(printed.splitlines()[:2], ["Chen Mon: Day Nurse instead of off", "Grace Mon: off instead of Day Nurse"])
+        self.assertEqual(
+            printed.splitlines()[:2],
+            ["Chen Mon: Day Nurse instead of off", "Grace Mon: off instead of Day Nurse"],
+        )
         self.assertIn("  +60  S2  Chen, Mon: only 1 day with work, at least 3\n", printed)
         other = self.changed(ROSTER, "Grace Mon Day Nurse", "Chen Mon Day Nurse")
-        self.assertEqual(run("roster", "why", *WEEK_OPTIONS, "--old", ROSTER, "--roster", other)[1], printed)
+        self.assertEqual(
+            run("roster", "why", *WEEK_OPTIONS, "--old", ROSTER, "--roster", other)[1], printed
+        )
         before, now = (program.penalty_of(WEEK_FILES, roster) for roster in (ROSTER, other))
-        self.assertTrue(printed.splitlines()[-1].endswith(f"; penalty {now} instead of {before}"), printed)
+        self.assertTrue(
+            printed.splitlines()[-1].endswith(f"; penalty {now} instead of {before}"), printed
+        )
         changed = sum(int(line.split()[0]) for line in printed.splitlines()[2:-1])
         self.assertEqual(changed, now - before)
 
     def test_a_swap_back_changes_nothing(self):
         words = ("Chen Mon", "Grace Tue")
         self.assertEqual(
-            run("roster", "swap", *words, *words, *WEEK_OPTIONS, "--roster", ROSTER), (0, "   +0  in all; penalty 20 instead of 20\n", "")
+            run("roster", "swap", *words, *words, *WEEK_OPTIONS, "--roster", ROSTER),
+            (0, "   +0  in all; penalty 20 instead of 20\n", ""),
         )
 
     def test_a_swap_that_breaks_a_hard_rule(self):
         for pair, rule in (
-            (("Chen Fri", "Grace Fri"), "the new roster breaks H3: Chen may not work Day on Fri after Late on Thu"),
-            (("Amara Mon", "Grace Mon"), "the new roster breaks H4: Grace does not have the skill Charge"),
-            (("Ewa Tue", "Ewa Fri"), "the new roster breaks H2: Tue Night Nurse has 0 nurses and needs at least 1"),
+            (
+                ("Chen Fri", "Grace Fri"),
+                "the new roster breaks H3: Chen may not work Day on Fri after Late on Thu",
+            ),
+            (
+                ("Amara Mon", "Grace Mon"),
+                "the new roster breaks H4: Grace does not have the skill Charge",
+            ),
+            (
+                ("Ewa Tue", "Ewa Fri"),
+                "the new roster breaks H2: Tue Night Nurse has 0 nurses and needs at least 1",
+            ),
         ):
             status, printed, _ = run("roster", "swap", *pair, *WEEK_OPTIONS, "--roster", ROSTER)
             self.assertEqual((status, printed.splitlines()[2]), (6, rule))
 
     def test_faults(self):
         for words, line in (
-            (("Chan Fri", "Grace Fri"), "swap \"Chan Fri\": 'Chan' is no nurse: did you mean Chen?"),
-            (("Chen Fri", "Grace Friday"), "swap \"Grace Friday\": 'Friday' is no day: did you mean Fri?"),
-            (("Chen Fri", "X Fri"), "swap \"X Fri\": 'X' is no nurse: give one of Amara, Bruno, Chen, Dilek, Ewa, Finn, Grace"),
+            (
+                ("Chan Fri", "Grace Fri"),
+                "swap \"Chan Fri\": 'Chan' is no nurse: did you mean Chen?",
+            ),
+            (
+                ("Chen Fri", "Grace Friday"),
+                "swap \"Grace Friday\": 'Friday' is no day: did you mean Fri?",
+            ),
+            (
+                ("Chen Fri", "X Fri"),
+                "swap \"X Fri\": 'X' is no nurse: give one of Amara, Bruno, Chen, Dilek, Ewa, Finn, Grace",
+            ),
             (("Chen", "Grace Fri"), 'swap "Chen": give a nurse and a day, as in "Chen Fri"'),
             (("Chen Fri", "Chen Fri"), 'swap "Chen Fri" "Chen Fri": these are one cell: give two'),
-            (("Chen Fri",), '"Chen Fri" has no second day: give pairs, as in "Chen Fri" "Grace Fri"'),
+            (
+                ("Chen Fri",),
+                '"Chen Fri" has no second day: give pairs, as in "Chen Fri" "Grace Fri"',
+            ),
             (
                 ("Chen Fri", "Ewa Fri", "--week", WARD / "week-1.txt", "--roster", ROSTER),
                 "swap is for one roster: change a copy of one of these, and give the others to why, with --old",
             ),
         ):
             with self.subTest(words[-3:]):
-                status, printed, said = run("roster", "swap", *words, *WEEK_OPTIONS, "--roster", ROSTER)
-                self.assertEqual((status, printed, said.splitlines()[-1]), (1, "", f"inrc2pb-roster: {line}"))
+                status, printed, said = run(
+                    "roster", "swap", *words, *WEEK_OPTIONS, "--roster", ROSTER
+                )
+                self.assertEqual(
+                    (status, printed, said.splitlines()[-1]), (1, "", f"inrc2pb-roster: {line}")
+                )
 
 
 class Older(HelperTest):
@@ -218,21 +302,42 @@ class Older(HelperTest):
         other = self.solution("Ada Mon Day Nurse", ward="icu", name="other.txt")
         later = self.changed(ROSTER, "0 ward", "1 ward", "later.txt")
         for words, line in (
-            (("--old", other, "--roster", ROSTER), f"{other} is a roster of 'icu', and {ROSTER} of 'ward': give two rosters of one ward"),
-            (("--old", later, "--roster", ROSTER), f"{later} is a roster of week 1, and {ROSTER} of week 0: give two rosters of one week"),
-            (("--csv", "--old", ROSTER, "--roster", ROSTER), "--old is for the table and --html: leave it out"),
-            (("--old", ROSTER, ROSTER, "--roster", ROSTER), "--old has 2 files for 1 roster: give one for each, in their order"),
+            (
+                ("--old", other, "--roster", ROSTER),
+                f"{other} is a roster of 'icu', and {ROSTER} of 'ward': give two rosters of one ward",
+            ),
+            (
+                ("--old", later, "--roster", ROSTER),
+                f"{later} is a roster of week 1, and {ROSTER} of week 0: give two rosters of one week",
+            ),
+            (
+                ("--csv", "--old", ROSTER, "--roster", ROSTER),
+                "--old is for the table and --html: leave it out",
+            ),
+            (
+                ("--old", ROSTER, ROSTER, "--roster", ROSTER),
+                "--old has 2 files for 1 roster: give one for each, in their order",
+            ),
         ):
             self.assert_fault(run("roster", "show", *words), f"inrc2pb-roster: {line}")
 
     def test_the_changes_below_a_table(self):
         other = self.changed(ROSTER, "Grace Mon Day Nurse", "Chen Mon Late Nurse")
         lines = run("roster", "show", "--old", ROSTER, "--roster", other)[1].splitlines()
-        self.assertEqual(lines[-2:], ["changed: Chen Mon: Late Nurse instead of off", "changed: Grace Mon: off instead of Day Nurse"])
         self.assertEqual(
-            Counter(line.startswith("changed") for line in run("roster", "show", "--old", ROSTER, "--roster", ROSTER)[1].splitlines())[
-                True
+            lines[-2:],
+            [
+                "changed: Chen Mon: Late Nurse instead of off",
+                "changed: Grace Mon: off instead of Day Nurse",
             ],
+        )
+        self.assertEqual(
+            Counter(
+                line.startswith("changed")
+                for line in run("roster", "show", "--old", ROSTER, "--roster", ROSTER)[
+                    1
+                ].splitlines()
+            )[True],
             0,
         )
 
@@ -240,7 +345,9 @@ class Older(HelperTest):
         two = ("--sce", SCENARIO, "--his", HISTORY, "--week", WEEK, "--week", WARD / "week-1.txt")
         later = self.changed(ROSTER, "0 ward", "1 ward", "later.txt")
         other = self.changed(ROSTER, "Grace Mon Day Nurse", "Chen Mon Day Nurse", "other.txt")
-        status, printed, said = run("roster", "why", *two, "--roster", other, later, "--old", ROSTER, "--old", later)
+        status, printed, said = run(
+            "roster", "why", *two, "--roster", other, later, "--old", ROSTER, "--old", later
+        )
         self.assertEqual((status, said), (0, ""))
         self.assertIn("week 1: Chen Mon: Day Nurse instead of off\n", printed)
         self.assertIn("  +60  S2  week 1: Chen, Mon: only 1 day with work, at least 3\n", printed)

@@ -12,7 +12,9 @@ import unittest
 from ward import HELPERS, ROOT, HelperTest, program, run
 
 EXAMPLE = ROOT / "examples" / "n005w4"
-WARD, HISTORY, WEEK, PROMISED = (EXAMPLE / name for name in ("ward.txt", "history-0.txt", "week-0.txt", "promised.txt"))
+WARD, HISTORY, WEEK, PROMISED = (
+    EXAMPLE / name for name in ("ward.txt", "history-0.txt", "week-0.txt", "promised.txt")
+)
 WEEK_OPTIONS = ("--sce", WARD, "--his", HISTORY, "--week", WEEK)
 
 
@@ -20,8 +22,19 @@ class Tables(HelperTest):
     def decoded(self, answer, *options):
         """The roster of an answer, and the numbers of its report."""
         roster = self.folder / "plain.txt"
-        words = [program.find_program(), "decode", *WEEK_OPTIONS, *options, "--answer", EXAMPLE / "answers" / answer, "--sol", roster]
-        ran = subprocess.run([str(word) for word in words], stdout=subprocess.PIPE, text=True, check=True)
+        words = [
+            program.find_program(),
+            "decode",
+            *WEEK_OPTIONS,
+            *options,
+            "--answer",
+            EXAMPLE / "answers" / answer,
+            "--sol",
+            roster,
+        ]
+        ran = subprocess.run(
+            [str(word) for word in words], stdout=subprocess.PIPE, text=True, check=True
+        )
         return roster, dict(line.split(" ", 1) for line in ran.stdout.splitlines())
 
     def shows(self, *words):
@@ -31,7 +44,9 @@ class Tables(HelperTest):
 
     def assert_adds_up(self, table, report):
         """The costs of the nurses in a spreadsheet add up to the report's, rule by rule."""
-        rows, found = list(csv.reader(io.StringIO(table))), dict.fromkeys(("S2", "S3", "S4", "S5", "S6", "S7"), 0)
+        rows, found = list(csv.reader(io.StringIO(table))), dict.fromkeys(
+            ("S2", "S3", "S4", "S5", "S6", "S7"), 0
+        )
         self.assertEqual((rows[0][8:10], len(rows)), (["cost", "rules"], 6))
         for row in rows[1:]:
             paid = [part.split() for part in row[9].split(" + ") if part]
@@ -58,14 +73,18 @@ class Tables(HelperTest):
         self.assertIn(f"penalty {report['penalty']}", self.shows(*WEEK_OPTIONS, "--roster", roster))
 
     def test_a_held_cell_that_is_not_in_the_roster(self):
-        printed = self.shows(*WEEK_OPTIONS, "--fix", PROMISED, "--roster", self.decoded("clasp-optimum.txt")[0])
+        printed = self.shows(
+            *WEEK_OPTIONS, "--fix", PROMISED, "--roster", self.decoded("clasp-optimum.txt")[0]
+        )
         self.assertIn("held, and not in the roster: Stefaan Tue Late Nurse", printed)
         self.assertIn("roster breaks H5", printed)
 
     def test_a_held_cell(self):
         roster, report = self.decoded("clasp-held.txt", "--fix", PROMISED)
         held = (*WEEK_OPTIONS, "--fix", PROMISED)
-        printed, table = self.shows(*held, "--roster", roster), self.shows(*held, "--csv", "--roster", roster)
+        printed, table = self.shows(*held, "--roster", roster), self.shows(
+            *held, "--csv", "--roster", roster
+        )
         self.assertIn("Late Nu*", printed)
         self.assertIn("* = held", printed)
         self.assertIn("Late Nurse *", table)
@@ -81,7 +100,10 @@ class Tables(HelperTest):
         for words, told in (
             ((*WEEK_OPTIONS, "--roster", other), "'Paul' is no nurse of NURSES: it has Patrick"),
             (("--sce", ward, "--roster", roster), "'Patrick' is no nurse of NURSES"),
-            (("--roster", "unwritten.txt"), "inrc2pb-roster: unwritten.txt: No such file or directory: look at its name and folder"),
+            (
+                ("--roster", "unwritten.txt"),
+                "inrc2pb-roster: unwritten.txt: No such file or directory: look at its name and folder",
+            ),
             (("--his", HISTORY, "--roster", roster), "--his"),
         ):
             status, printed, said = run("roster", "show", *words)
@@ -92,7 +114,11 @@ class Tables(HelperTest):
     def test_a_place_below_its_minimum(self):
         rows = self.decoded("clasp-optimum.txt")[0].read_text().splitlines()
         kept = [line for line in rows if not line.startswith("Sara Mon")]
-        text = re.sub("(?m)^(ASSIGNMENTS = )([0-9]+)", lambda found: f"{found[1]}{int(found[2]) - 1}", "\n".join(kept))
+        text = re.sub(
+            "(?m)^(ASSIGNMENTS = )([0-9]+)",
+            lambda found: f"{found[1]}{int(found[2]) - 1}",
+            "\n".join(kept),
+        )
         self.assertEqual(len(kept), len(rows) - 1)
         (self.folder / "other.txt").write_text(f"{text}\n")
         printed = self.shows(*WEEK_OPTIONS, "--roster", self.folder / "other.txt")
@@ -100,13 +126,20 @@ class Tables(HelperTest):
         self.assertIn(", at least 1)", printed)
 
     def test_shift_types_with_long_names(self):
-        (self.folder / "other.txt").write_text(self.decoded("clasp-optimum.txt")[0].read_text().replace("Early", "Earliest"))
+        (self.folder / "other.txt").write_text(
+            self.decoded("clasp-optimum.txt")[0].read_text().replace("Early", "Earliest")
+        )
         self.assertIn("Earli = Earliest", self.shows("--roster", self.folder / "other.txt"))
 
     @unittest.skipUnless(shutil.which("script"), "needs script")
     def test_colors_in_a_terminal_unless_no_color_is_set(self):
         roster = self.decoded("clasp-optimum.txt")[0]
-        command = ["script", "-qec", f"{HELPERS / 'inrc2pb-roster'} show --roster {roster}", "/dev/null"]
+        command = [
+            "script",
+            "-qec",
+            f"{HELPERS / 'inrc2pb-roster'} show --roster {roster}",
+            "/dev/null",
+        ]
         texts = [
             subprocess.run(
                 command,

@@ -11,11 +11,23 @@ THREE = ROOT / "crates" / "who_fits"
 
 class Fits(HelperTest):
     def test_the_nurses_are_those_of_the_example_in_rattle(self):
-        files = ("--sce", THREE / "data" / "scenario.txt", "--his", THREE / "data" / "history.txt", "--week", THREE / "data" / "week.txt")
+        files = (
+            "--sce",
+            THREE / "data" / "scenario.txt",
+            "--his",
+            THREE / "data" / "history.txt",
+            "--week",
+            THREE / "data" / "week.txt",
+        )
         status, printed, said = run("roster", "fits", *files)
         # After each nurse the example has her variable.
-        wanted = [[word for word in line.split() if not word.startswith("x")] for line in (THREE / "stdout").read_text().splitlines()]
-        self.assertEqual((status, said, [line.split() for line in printed.splitlines()]), (0, "", wanted))
+        wanted = [
+            [word for word in line.split() if not word.startswith("x")]
+            for line in (THREE / "stdout").read_text().splitlines()
+        ]
+        self.assertEqual(
+            (status, said, [line.split() for line in printed.splitlines()]), (0, "", wanted)
+        )
 
     def test_who_is_away_does_not_fit(self):
         facts = self.folder / "facts.txt"
@@ -23,7 +35,12 @@ class Fits(HelperTest):
         facts.write_text(facts_text("ward", [*claims, Claim(Choice(1, "Ewa", 0, "Day"), False)]))
         lines = run("roster", "fits", *WEEK_OPTIONS, "--given", facts)[1].splitlines()
         self.assertEqual(
-            lines[:3], ["Mon Day Charge (1,1): nobody", "Mon Day Nurse (1,2): Chen Grace", "Mon Late Nurse (1,1): Chen Ewa Finn Grace"]
+            lines[:3],
+            [
+                "Mon Day Charge (1,1): nobody",
+                "Mon Day Nurse (1,2): Chen Grace",
+                "Mon Late Nurse (1,1): Chen Ewa Finn Grace",
+            ],
         )
 
     def test_a_fault_of_a_file(self):

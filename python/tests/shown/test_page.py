@@ -13,7 +13,12 @@ from inrc2pb.shown.roster_text import COLORS
 
 MONDAY = ("--monday", "2026-11-30")
 # Names that would be markup, a path, or a second line, and one whose accent is a letter of its own.
-HOSTILE = {"Amara": "<b>\"&'</b>", "Chen": "../../x", "Grace": "Jose\u0301;\\n\x07", "Night": "</td><script>"}
+HOSTILE = {
+    "Amara": "<b>\"&'</b>",
+    "Chen": "../../x",
+    "Grace": "Jose\u0301;\\n\x07",
+    "Night": "</td><script>",
+}
 
 
 def words(part):
@@ -52,7 +57,8 @@ class PageTest(HelperTest):
 class Markup(unittest.TestCase):
     def test_elements(self):
         self.assertEqual(
-            element("td", "a<b", hidden("&"), class_='x"y'), '<td class="x&quot;y">a&lt;b<span class="hidden">&amp;</span></td>'
+            element("td", "a<b", hidden("&"), class_='x"y'),
+            '<td class="x&quot;y">a&lt;b<span class="hidden">&amp;</span></td>',
         )
         self.assertEqual(element("meta", charset="utf-8", name=None), '<meta charset="utf-8"/>')
         self.assertEqual(element("p", "\x00\x1b\udce4"), "<p>\ufffd\ufffd\ufffd</p>")
@@ -61,38 +67,78 @@ class Markup(unittest.TestCase):
 class Page(PageTest):
     def test_each_table_can_be_heard(self):
         page = self.page(
-            *WEEK_OPTIONS, *MONDAY, "--old", ROSTER, "--roster", self.changed(ROSTER, "Grace Mon Day Nurse", "Chen Mon Late Nurse")
+            *WEEK_OPTIONS,
+            *MONDAY,
+            "--old",
+            ROSTER,
+            "--roster",
+            self.changed(ROSTER, "Grace Mon Day Nurse", "Chen Mon Late Nurse"),
         )
         tables = list(page.iter("table"))
         self.assertEqual(len(tables), 5)
         for one in tables:
             self.assertTrue(words(one.find("caption")))
-            self.assertTrue(all(head.get("scope") in ("col", "colgroup", "row") for head in one.iter("th")))
+            self.assertTrue(
+                all(head.get("scope") in ("col", "colgroup", "row") for head in one.iter("th"))
+            )
             self.assertTrue(all(row[0].get("scope") == "row" for row in one.find("tbody")))
         self.assertEqual(
-            [part.tag for part in page.iter() if part.get("src") or part.get("href") or part.tag in ("script", "link", "img")], []
+            [
+                part.tag
+                for part in page.iter()
+                if part.get("src") or part.get("href") or part.tag in ("script", "link", "img")
+            ],
+            [],
         )
         self.assertNotIn("url(", page.find("head/style").text)
         # A mark for eyes has its words next to it.
-        marks = [part for part in page.iter("td") if any(inner.get("class") == "mark" for inner in part)]
+        marks = [
+            part for part in page.iter("td") if any(inner.get("class") == "mark" for inner in part)
+        ]
         self.assertGreater(len(marks), 3)
-        self.assertTrue(all(any(inner.get("class") == "hidden" for inner in part) for part in marks))
+        self.assertTrue(
+            all(any(inner.get("class") == "hidden" for inner in part) for part in marks)
+        )
 
     def test_places_with_fewer_nurses_than_best_have_a_fold_after_the_nurses(self):
         roster = self.folder / "few.txt"
-        roster.write_text(ROSTER.read_text().replace("Bruno Mon Day Nurse\n", "").replace("ASSIGNMENTS = 33", "ASSIGNMENTS = 32"))
-        *others, places = [words(part) for part in self.page(*WEEK_OPTIONS, "--roster", roster).iter("details")]
-        self.assertEqual(places, "Places with fewer nurses than best: 30 (S1 30)30 (S1) Day Nurse, Mon: 1 of 2 nurses")
+        roster.write_text(
+            ROSTER.read_text()
+            .replace("Bruno Mon Day Nurse\n", "")
+            .replace("ASSIGNMENTS = 33", "ASSIGNMENTS = 32")
+        )
+        *others, places = [
+            words(part) for part in self.page(*WEEK_OPTIONS, "--roster", roster).iter("details")
+        ]
+        self.assertEqual(
+            places,
+            "Places with fewer nurses than best: 30 (S1 30)30 (S1) Day Nurse, Mon: 1 of 2 nurses",
+        )
         self.assertFalse([text for text in others if "S1" in text])
 
     def test_absences_in_tables_of_text(self):
         ill = self.away("Amara=Thu")
         self.assertRegex(
-            run("roster", "show", "--sce", SCENARIO, "--week", ill, "--roster", ROSTER)[1], r"(?m)^Amara  (Day..... +){3}away +\.  "
+            run("roster", "show", "--sce", SCENARIO, "--week", ill, "--roster", ROSTER)[1],
+            r"(?m)^Amara  (Day..... +){3}away +\.  ",
         )
         later = self.changed(ROSTER, "0 ward", "1 ward", "later.txt")
-        printed = run("roster", "show", "--sce", SCENARIO, "--week", ill, "--week", WARD / "week-1.txt", "--roster", ROSTER, later)[1]
-        self.assertRegex(printed, r"(?m)^Amara  D  D  D  -  \.  \| D  D   \|\|  D  D  D! \.  \.  \|")
+        printed = run(
+            "roster",
+            "show",
+            "--sce",
+            SCENARIO,
+            "--week",
+            ill,
+            "--week",
+            WARD / "week-1.txt",
+            "--roster",
+            ROSTER,
+            later,
+        )[1]
+        self.assertRegex(
+            printed, r"(?m)^Amara  D  D  D  -  \.  \| D  D   \|\|  D  D  D! \.  \.  \|"
+        )
         self.assertIn("\n- = away\n", printed)
 
     def test_colors_are_printed(self):
@@ -114,19 +160,49 @@ class Page(PageTest):
         week = (*WEEK_OPTIONS, "--roster", ROSTER)
         none = self.folder / "none" / "page.html"
         for given, line in (
-            (("--html", *MONDAY, "--out", none), f"{none}: No such file or directory: look at its name and folder"),
-            (("--html", "--out", self.folder), f"{self.folder}: Is a directory: this is a folder: name a file in it"),
-            (("--html", "--out", ROSTER), f"{ROSTER} is read, so the table cannot be written to it: choose another file"),
-            (("--html", "--monday", "2026-12-01"), "--monday 2026-12-01: this is a Tuesday: give a Monday, such as 2026-11-30"),
-            (("--html", "--monday", "30.11.2026"), "--monday 30.11.2026: this is no date: give year, month and day, such as 2026-11-30"),
-            (("--html", "--monday", "2026-13-01"), "--monday 2026-13-01: this is no date: give year, month and day, such as 2026-11-30"),
-            (("--html", "--monday", "9999-12-27"), "--monday 9999-12-27: give a date of this century, such as 2026-11-30"),
+            (
+                ("--html", *MONDAY, "--out", none),
+                f"{none}: No such file or directory: look at its name and folder",
+            ),
+            (
+                ("--html", "--out", self.folder),
+                f"{self.folder}: Is a directory: this is a folder: name a file in it",
+            ),
+            (
+                ("--html", "--out", ROSTER),
+                f"{ROSTER} is read, so the table cannot be written to it: choose another file",
+            ),
+            (
+                ("--html", "--monday", "2026-12-01"),
+                "--monday 2026-12-01: this is a Tuesday: give a Monday, such as 2026-11-30",
+            ),
+            (
+                ("--html", "--monday", "30.11.2026"),
+                "--monday 30.11.2026: this is no date: give year, month and day, such as 2026-11-30",
+            ),
+            (
+                ("--html", "--monday", "2026-13-01"),
+                "--monday 2026-13-01: this is no date: give year, month and day, such as 2026-11-30",
+            ),
+            (
+                ("--html", "--monday", "9999-12-27"),
+                "--monday 9999-12-27: give a date of this century, such as 2026-11-30",
+            ),
             (MONDAY, "--monday is for --html and --ics: give one of them"),
             (("--times", "Day=06:00-14:00"), "--times is for --html and --ics: give one of them"),
-            (("--ics", self.folder), "--ics needs --monday: give the date of the first Monday, such as 2026-11-30"),
+            (
+                ("--ics", self.folder),
+                "--ics needs --monday: give the date of the first Monday, such as 2026-11-30",
+            ),
             (("--only-table",), "--only-table is for --html: give both"),
-            (("--html", "--times", "Day"), "--times Day: give a shift type, its start and its end, such as Early=06:00-14:15"),
-            (("--html", "--times", "Day=6-14"), "--times Day=6-14: give a shift type, its start and its end, such as Early=06:00-14:15"),
+            (
+                ("--html", "--times", "Day"),
+                "--times Day: give a shift type, its start and its end, such as Early=06:00-14:15",
+            ),
+            (
+                ("--html", "--times", "Day=6-14"),
+                "--times Day=6-14: give a shift type, its start and its end, such as Early=06:00-14:15",
+            ),
             (
                 ("--html", "--times", "Day=06:00-24:30"),
                 "--times Day=06:00-24:30: 24:30 is no time of a day: give hours from 0 to 24 and minutes from 00 to 59",
@@ -135,23 +211,46 @@ class Page(PageTest):
                 ("--html", "--times", "Day=06:60-14:00"),
                 "--times Day=06:60-14:00: 06:60 is no time of a day: give hours from 0 to 24 and minutes from 00 to 59",
             ),
-            (("--html", "--times", "Dy=06:00-14:00"), "--times Dy=06:00-14:00: 'Dy' is no shift type: did you mean Day?"),
-            (("--html", *["--times", "Day=06:00-14:00"] * 2), "--times Day=06:00-14:00: Day has two times: give one"),
+            (
+                ("--html", "--times", "Dy=06:00-14:00"),
+                "--times Dy=06:00-14:00: 'Dy' is no shift type: did you mean Day?",
+            ),
+            (
+                ("--html", *["--times", "Day=06:00-14:00"] * 2),
+                "--times Day=06:00-14:00: Day has two times: give one",
+            ),
             (
                 ("--html", "--times", "Day=06:00-14:00"),
                 "--times has no times of Late, Night: give them too, such as --times Late=06:00-14:15",
             ),
         ):
             with self.subTest(given):
-                self.assertEqual(run("roster", "show", *week, *given)[1:], ("", f"inrc2pb-roster: {line}\n"))
+                self.assertEqual(
+                    run("roster", "show", *week, *given)[1:], ("", f"inrc2pb-roster: {line}\n")
+                )
         self.assertEqual(list(self.folder.iterdir()), [])
 
     def test_an_older_page_stays_after_a_fault(self):
         page = self.folder / "page.html"
         page.write_text("older")
-        self.assertEqual(run("roster", "show", *WEEK_OPTIONS, "--html", "--out", page, "--roster", self.folder / "none.txt")[0], 3)
+        self.assertEqual(
+            run(
+                "roster",
+                "show",
+                *WEEK_OPTIONS,
+                "--html",
+                "--out",
+                page,
+                "--roster",
+                self.folder / "none.txt",
+            )[0],
+            3,
+        )
         self.assertEqual(page.read_text(), "older")
-        self.assertEqual(run("roster", "show", *WEEK_OPTIONS, "--html", "--out", page, "--roster", ROSTER), (0, "", ""))
+        self.assertEqual(
+            run("roster", "show", *WEEK_OPTIONS, "--html", "--out", page, "--roster", ROSTER),
+            (0, "", ""),
+        )
         ElementTree.fromstring(page.read_text())
 
 
@@ -159,7 +258,9 @@ class Calendars(PageTest):
     def calendars(self, *given):
         """The lines of each calendar, unfolded."""
         folder = self.folder / "calendars"
-        self.assertEqual(run("roster", "show", "--csv", *MONDAY, "--ics", folder, *given)[::2], (0, ""))
+        self.assertEqual(
+            run("roster", "show", "--csv", *MONDAY, "--ics", folder, *given)[::2], (0, "")
+        )
         found = {}
         for path in sorted(folder.iterdir()):
             data = path.read_bytes()
@@ -171,10 +272,20 @@ class Calendars(PageTest):
 
     def test_the_events_are_the_shifts(self):
         found = self.calendars(
-            "--times", "Late=13:00-21:15", "--times", "Day=06:00-14:15", "--times", "Night=22:00-06:15", "--roster", ROSTER
+            "--times",
+            "Late=13:00-21:15",
+            "--times",
+            "Day=06:00-14:15",
+            "--times",
+            "Night=22:00-06:15",
+            "--roster",
+            ROSTER,
         )
         rows = files.read_solution(ROSTER).cells
-        self.assertEqual({name: lines.count("BEGIN:VEVENT") for name, lines in found.items()}, Counter(f"{row.nurse}.ics" for row in rows))
+        self.assertEqual(
+            {name: lines.count("BEGIN:VEVENT") for name, lines in found.items()},
+            Counter(f"{row.nurse}.ics" for row in rows),
+        )
         chen = found["Chen.ics"]
         for lines in (
             ("DTSTART:20261202T130000", "DTEND:20261202T211500", "SUMMARY:Late Nurse"),
@@ -187,23 +298,47 @@ class Calendars(PageTest):
         self.assertTrue(all("DTSTAMP:20261130T000000Z" in lines for lines in found.values()))
         self.assertEqual(
             found,
-            self.calendars("--times", "Late=13:00-21:15", "--times", "Day=06:00-14:15", "--times", "Night=22:00-06:15", "--roster", ROSTER),
+            self.calendars(
+                "--times",
+                "Late=13:00-21:15",
+                "--times",
+                "Day=06:00-14:15",
+                "--times",
+                "Night=22:00-06:15",
+                "--roster",
+                ROSTER,
+            ),
         )
 
     def test_a_nurse_without_shifts_and_hostile_names(self):
         found = self.calendars(*self.hostile_week())
         self.assertEqual(
             sorted(found),
-            sorted(["_b__&'__b_.ics", "_._.._x.ics", "Jose\u0301;_n_.ics", *(f"{name}.ics" for name in ("Bruno", "Dilek", "Ewa", "Finn"))]),
+            sorted(
+                [
+                    "_b__&'__b_.ics",
+                    "_._.._x.ics",
+                    "Jose\u0301;_n_.ics",
+                    *(f"{name}.ics" for name in ("Bruno", "Dilek", "Ewa", "Finn")),
+                ]
+            ),
         )
         self.assertIn("SUMMARY:</td><script> Nurse", found["Ewa.ics"])
-        roster = self.solution("Grace Mon Day Nurse", "Ben Sun Late \u00e9" + "\u00e9" * 60 + ";\\x", name="rows.txt")
+        roster = self.solution(
+            "Grace Mon Day Nurse", "Ben Sun Late \u00e9" + "\u00e9" * 60 + ";\\x", name="rows.txt"
+        )
         found = self.calendars("--roster", roster)
         self.assertIn("SUMMARY:Late " + "\u00e9" * 61 + "\\;\\\\x", found["Ben.ics"])
         found = self.calendars("--sce", SCENARIO, "--roster", self.solution(name="none.txt"))
         event = found["Finn.ics"]
         self.assertEqual(
-            event[-6:-2], ["DTSTART;VALUE=DATE:20261130", "DTEND;VALUE=DATE:20261207", "TRANSP:TRANSPARENT", "SUMMARY:no shift"]
+            event[-6:-2],
+            [
+                "DTSTART;VALUE=DATE:20261130",
+                "DTEND;VALUE=DATE:20261207",
+                "TRANSP:TRANSPARENT",
+                "SUMMARY:no shift",
+            ],
         )
 
     def test_names_that_differ_in_case_or_signs_only(self):
@@ -214,11 +349,26 @@ class Calendars(PageTest):
         blocked = self.folder / "blocked"
         blocked.write_text("no folder")
         ran = run("roster", "show", "--csv", *MONDAY, "--ics", blocked, "--roster", ROSTER)
-        self.assert_fault(ran, f"inrc2pb-roster: {blocked}: File exists: choose another name, or remove this file", 3)
+        self.assert_fault(
+            ran,
+            f"inrc2pb-roster: {blocked}: File exists: choose another name, or remove this file",
+            3,
+        )
         inside = self.folder / "calendars" / "Chen.ics"
         inside.mkdir(parents=True)
-        ran = run("roster", "show", "--csv", *MONDAY, "--ics", self.folder / "calendars", "--roster", ROSTER)
-        self.assert_fault(ran, f"inrc2pb-roster: {inside}: Is a directory: this is a folder: name a file in it", 3)
+        ran = run(
+            "roster",
+            "show",
+            "--csv",
+            *MONDAY,
+            "--ics",
+            self.folder / "calendars",
+            "--roster",
+            ROSTER,
+        )
+        self.assert_fault(
+            ran, f"inrc2pb-roster: {inside}: Is a directory: this is a folder: name a file in it", 3
+        )
 
 
 if __name__ == "__main__":

@@ -40,7 +40,10 @@ class Results(HelperTest):
         self.assertEqual(rows[3], [str(paths[2]), "250", "250", "0.0", "proved", "-"])
         self.assertEqual(rows[4], [str(paths[3]), "320", "320", "0.0", "no", "-"])
         self.assertEqual(rows[5], [str(paths[4]), "-", "-", "-", "no", "roster", "-"])
-        self.assertEqual(printed.splitlines()[-1], "reports: 5; with a roster: 4, proved the best: 2; penalty 1290 in all")
+        self.assertEqual(
+            printed.splitlines()[-1],
+            "reports: 5; with a roster: 4, proved the best: 2; penalty 1290 in all",
+        )
 
     def test_a_file_that_is_no_log(self):
         report = self.reports(PROVED)[0]
@@ -52,13 +55,31 @@ class Results(HelperTest):
         log, reports = self.folder / "jobs.log", self.folder / "reports"
         reports.mkdir()
         command = f"printf 'penalty %d0\\nlower bound 10\\n' {{}} > {reports}/{{#}}.txt"
-        words = ["parallel", "--will-cite", "--joblog", str(log), "--resume", "-j", "2", command, ":::"]
+        words = [
+            "parallel",
+            "--will-cite",
+            "--joblog",
+            str(log),
+            "--resume",
+            "-j",
+            "2",
+            command,
+            ":::",
+        ]
         subprocess.run([*words, "1", "2"], check=True)
         # Started again, it runs only what the log does not have.
         (reports / "1.txt").write_text("penalty 70\nlower bound 7\n")
         subprocess.run([*words, "1", "2", "3"], check=True)
-        status, printed, _ = run("roster", "results", *(reports / f"{number}.txt" for number in (1, 2, 3)), "--joblog", log)
-        self.assertEqual([line.split()[1] for line in printed.splitlines()[1:4]], ["70", "20", "30"])
+        status, printed, _ = run(
+            "roster",
+            "results",
+            *(reports / f"{number}.txt" for number in (1, 2, 3)),
+            "--joblog",
+            log,
+        )
+        self.assertEqual(
+            [line.split()[1] for line in printed.splitlines()[1:4]], ["70", "20", "30"]
+        )
         self.assertNotIn("-", [line.split()[-1] for line in printed.splitlines()[1:4]])
 
 

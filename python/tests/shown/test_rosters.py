@@ -9,7 +9,19 @@ import xml.dom.minidom
 
 from ward import HELPERS, HISTORY, ROSTER, SCENARIO, WARD, WEEK, WEEK_OPTIONS, HelperTest, run
 
-TWO_WEEKS = ("--sce", SCENARIO, "--his", HISTORY, "--week", WEEK, "--week", WARD / "week-1.txt", "--roster", ROSTER, ROSTER)
+TWO_WEEKS = (
+    "--sce",
+    SCENARIO,
+    "--his",
+    HISTORY,
+    "--week",
+    WEEK,
+    "--week",
+    WARD / "week-1.txt",
+    "--roster",
+    ROSTER,
+    ROSTER,
+)
 
 
 class Tables(HelperTest):
@@ -21,7 +33,9 @@ class Tables(HelperTest):
         self.assertIn("ward, weeks 1 to 2: 66 assignments\n", printed)
         self.assertIn("D = Day  L = Late  N = Night\n", printed)
         self.assertIn("week 2: cost: of the nurses 100", printed)
-        penalties = [int(number) for number in re.findall(r"; penalty ([0-9]+)$", printed, re.MULTILINE)]
+        penalties = [
+            int(number) for number in re.findall(r"; penalty ([0-9]+)$", printed, re.MULTILINE)
+        ]
         self.assertEqual(len(penalties), 2)
         self.assertIn(f"all 2 weeks: penalty {sum(penalties)}\n", printed)
         self.assertNotIn("all 1", run("roster", "show", *WEEK_OPTIONS, "--roster", ROSTER)[1])
@@ -30,7 +44,9 @@ class Tables(HelperTest):
         for words in ((ROSTER, "--roster", ROSTER), ("--roster", ROSTER, "--csv", ROSTER)):
             status, _, said = run("roster", "show", *words)
             line = f"unrecognized arguments: {ROSTER}: give rosters after --roster, and each other file after its option"
-            self.assertEqual((status, said.splitlines()[-1]), (2, f"inrc2pb-roster show: error: {line}"))
+            self.assertEqual(
+                (status, said.splitlines()[-1]), (2, f"inrc2pb-roster show: error: {line}")
+            )
 
     def test_a_week_after_the_last_one_needs_its_history(self):
         ward = self.changed(SCENARIO, "WEEKS = 4", "WEEKS = 1", "short.txt")
@@ -46,7 +62,10 @@ class Tables(HelperTest):
         fitting = self.changed(ROSTER, "0 ward", "1 ward", "roster-1.txt")
         for form in ("--html", "--csv"):
             status, _, said = run("roster", "show", *week, form, "--roster", ROSTER, "--fix", fix)
-            lines = [f"inrc2pb-roster: {ROSTER}: {self.other_week}", f"inrc2pb-roster: {fix}: {other_ward}"]
+            lines = [
+                f"inrc2pb-roster: {ROSTER}: {self.other_week}",
+                f"inrc2pb-roster: {fix}: {other_ward}",
+            ]
             self.assertEqual((status, said.splitlines()), (0, lines))
             self.assertEqual(run("roster", "show", *week, form, "--roster", fitting)[::2], (0, ""))
 
@@ -59,12 +78,37 @@ class Tables(HelperTest):
     def test_places_with_too_many_nurses_are_named(self):
         row = next(line for line in WEEK.read_text().splitlines() if line.startswith("Day Nurse"))
         less = self.changed(WEEK, row, "Day Nurse (1,1) (0,0) (9,9)" + " (1,9)" * 4)
-        _, printed, _ = run("roster", "show", "--sce", SCENARIO, "--his", HISTORY, "--week", less, "--roster", ROSTER)
+        _, printed, _ = run(
+            "roster",
+            "show",
+            "--sce",
+            SCENARIO,
+            "--his",
+            HISTORY,
+            "--week",
+            less,
+            "--roster",
+            ROSTER,
+        )
         lines = printed.splitlines()
         self.assertTrue(lines[-3].startswith("missing on Sun: Day Nurse ("), printed)
-        self.assertEqual(lines[-2:], ["too many on Mon: Day Nurse (2 of 1)", "too many on Tue: Day Nurse (2 of 0)"])
+        self.assertEqual(
+            lines[-2:],
+            ["too many on Mon: Day Nurse (2 of 1)", "too many on Tue: Day Nurse (2 of 0)"],
+        )
         less.write_text(WEEK.read_text().replace(row + "\n", ""))
-        _, printed, _ = run("roster", "show", "--sce", SCENARIO, "--his", HISTORY, "--week", less, "--roster", ROSTER)
+        _, printed, _ = run(
+            "roster",
+            "show",
+            "--sce",
+            SCENARIO,
+            "--his",
+            HISTORY,
+            "--week",
+            less,
+            "--roster",
+            ROSTER,
+        )
         self.assertIn("too many on Sun: Day Nurse (1 of 0)", printed)
         self.assertNotIn("too many", run("roster", "show", *WEEK_OPTIONS, "--roster", ROSTER)[1])
 
@@ -72,7 +116,9 @@ class Tables(HelperTest):
         roster = self.folder / "latin.txt"
         roster.write_bytes(ROSTER.read_bytes().replace(b"Amara", b"Am\xe4ra"))
         page = subprocess.run(
-            [str(HELPERS / "inrc2pb-roster"), "show", "--html", "--roster", str(roster)], stdout=subprocess.PIPE, check=True
+            [str(HELPERS / "inrc2pb-roster"), "show", "--html", "--roster", str(roster)],
+            stdout=subprocess.PIPE,
+            check=True,
         ).stdout
         self.assertIn("Am\ufffdra", page.decode("utf-8"))
         xml.dom.minidom.parseString(page)
@@ -82,26 +128,46 @@ class Tables(HelperTest):
             roster = self.changed(ROSTER, "Amara", name)
             roster.write_text(roster.read_text().replace("Amara", name))
             lines = run("roster", "show", "--roster", roster)[1].splitlines()
-            row, other = (next(line for line in lines if line.startswith(begin)) for begin in (name, "Bruno"))
+            row, other = (
+                next(line for line in lines if line.startswith(begin)) for begin in (name, "Bruno")
+            )
             self.assertEqual(row.index("|") + more, other.index("|"))
 
     def test_a_name_that_was_cut_is_spelled_out(self):
         roster = self.changed(ROSTER, "Amara Mon", "Annemarie_Schmidt Mon")
-        self.assertIn("\nAnnemarie_Sc = Annemarie_Schmidt  ", run("roster", "show", "--roster", roster)[1])
+        self.assertIn(
+            "\nAnnemarie_Sc = Annemarie_Schmidt  ", run("roster", "show", "--roster", roster)[1]
+        )
 
     def test_a_full_disk(self):
         with open("/dev/full", "w") as full:
-            ran = subprocess.run([str(HELPERS / "inrc2pb-roster"), "show", "--roster", str(ROSTER)], stdout=full, stderr=subprocess.PIPE)
+            ran = subprocess.run(
+                [str(HELPERS / "inrc2pb-roster"), "show", "--roster", str(ROSTER)],
+                stdout=full,
+                stderr=subprocess.PIPE,
+            )
         line = b"inrc2pb-roster: No space left on device: the disk is full: "
-        self.assertEqual((ran.returncode, ran.stderr[: len(line)], ran.stderr.count(b"\n")), (3, line, 1))
+        self.assertEqual(
+            (ran.returncode, ran.stderr[: len(line)], ran.stderr.count(b"\n")), (3, line, 1)
+        )
 
     def test_numbers_of_files(self):
-        _, _, said = run("roster", "show", "--sce", SCENARIO, "--week", WEEK, "--roster", ROSTER, ROSTER)
-        self.assertEqual(said, "inrc2pb-roster: --week has 1 file for 2 rosters: give one for each, in their order\n")
-        _, _, said = run("roster", "show", "--sce", SCENARIO, "--week", WEEK, "--week", WEEK, "--roster", ROSTER)
+        _, _, said = run(
+            "roster", "show", "--sce", SCENARIO, "--week", WEEK, "--roster", ROSTER, ROSTER
+        )
+        self.assertEqual(
+            said,
+            "inrc2pb-roster: --week has 1 file for 2 rosters: give one for each, in their order\n",
+        )
+        _, _, said = run(
+            "roster", "show", "--sce", SCENARIO, "--week", WEEK, "--week", WEEK, "--roster", ROSTER
+        )
         self.assertIn("--week has 2 files for 1 roster: ", said)
         _, _, said = run("roster", "show", "--fix", ROSTER, "--fix", ROSTER, "--roster", ROSTER)
-        self.assertEqual(said, f"inrc2pb-roster: --fix {ROSTER}: week 1 has the file {ROSTER}: put all rows into one file\n")
+        self.assertEqual(
+            said,
+            f"inrc2pb-roster: --fix {ROSTER}: week 1 has the file {ROSTER}: put all rows into one file\n",
+        )
 
     def test_held_shifts_of_one_of_two_weeks(self):
         later = self.changed(ROSTER, "0 ward", "1 ward", "roster-1.txt")
@@ -111,8 +177,14 @@ class Tables(HelperTest):
         amara = next(row for row in csv.reader(io.StringIO(printed)) if row[0] == "Amara")
         self.assertEqual((status, said, amara[1], amara[8]), (0, "", "Day Charge", "Day Charge *"))
         _, _, said = run("roster", "show", *two_weeks, "--fix", f"3={fix}")
-        self.assertEqual(said, f"inrc2pb-roster: --fix 3={fix}: there is no week 3: give 1 for the first week, and 2 for the last\n")
-        self.assertIn("give the week's number, 1 for the first week, and its file", run("roster", "show", *two_weeks, "--fix", fix)[2])
+        self.assertEqual(
+            said,
+            f"inrc2pb-roster: --fix 3={fix}: there is no week 3: give 1 for the first week, and 2 for the last\n",
+        )
+        self.assertIn(
+            "give the week's number, 1 for the first week, and its file",
+            run("roster", "show", *two_weeks, "--fix", fix)[2],
+        )
 
 
 if __name__ == "__main__":

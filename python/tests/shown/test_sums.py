@@ -12,7 +12,10 @@ from inrc2pb.week.records import Request
 WARD = files.read_scenario(SCENARIO)
 CELLS = files.read_solution(ROSTER).cells
 # The times of the example: 8:30, 8:30 and 8:45 hours.
-TIMES = {name: times_of(text, name) for name, text in (("Day", "07:00-15:30"), ("Late", "14:30-23:00"), ("Night", "22:30-07:15"))}
+TIMES = {
+    name: times_of(text, name)
+    for name, text in (("Day", "07:00-15:30"), ("Late", "14:30-23:00"), ("Night", "22:30-07:15"))
+}
 
 
 class Numbers(unittest.TestCase):
@@ -42,7 +45,10 @@ class Numbers(unittest.TestCase):
 
     def test_periods_are_added(self):
         one = Sums(5, datetime.timedelta(hours=40), 3, 1, 4, 2)
-        self.assertEqual(one.plus(Sums(1, datetime.timedelta(hours=8), 1, 0, 1, 1)), Sums(6, datetime.timedelta(hours=48), 4, 1, 5, 3))
+        self.assertEqual(
+            one.plus(Sums(1, datetime.timedelta(hours=8), 1, 0, 1, 1)),
+            Sums(6, datetime.timedelta(hours=48), 4, 1, 5, 3),
+        )
         self.assertEqual(Sums().plus(one), one)
 
 

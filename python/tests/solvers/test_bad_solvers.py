@@ -64,10 +64,23 @@ class OwnSolvers(HelperTest):
         # Without inrc2pb-bound beside it nothing is proved.
         alone, eight = self.folder / "inrc2pb", ROOT / "examples" / "eight"
         alone.symlink_to(program.find_program())
-        words = ("--sce", eight / "ward.txt", "--his", eight / "history-1.txt", "--week", eight / "week-1.txt", "--solver", fake("liar"))
-        status, report, faults = run("solve", *words, "--out", self.folder / "best.txt", environment={"INRC2PB": str(alone)})
+        words = (
+            "--sce",
+            eight / "ward.txt",
+            "--his",
+            eight / "history-1.txt",
+            "--week",
+            eight / "week-1.txt",
+            "--solver",
+            fake("liar"),
+        )
+        status, report, faults = run(
+            "solve", *words, "--out", self.folder / "best.txt", environment={"INRC2PB": str(alone)}
+        )
         self.assertEqual((status, report), (5, ""))
-        self.assertRegex(faults, "no roster keeps the hard rules, says [^ ]*python[^ ]*, which is not proved: ")
+        self.assertRegex(
+            faults, "no roster keeps the hard rules, says [^ ]*python[^ ]*, which is not proved: "
+        )
 
     @unittest.skipUnless(HAS_CBC, "needs cbc")
     def test_places_for_an_lp_a_result_file_and_the_seconds(self):
@@ -77,7 +90,9 @@ class OwnSolvers(HelperTest):
 
     def test_after_a_fault_the_roster_is_reported(self):
         # The solver removes the folder of the search, so that its answer cannot be kept.
-        status, report, faults = self.improve("--roster", ROSTER, "--solver", f"sh -c 'rm -r \"${{0%/*}}\"; cat {self.answer()}' {{}}")
+        status, report, faults = self.improve(
+            "--roster", ROSTER, "--solver", f"sh -c 'rm -r \"${{0%/*}}\"; cat {self.answer()}' {{}}"
+        )
         self.assertEqual(status, 3)
         self.assertIn("penalty 20\n", report)
         self.assertEqual(faults.splitlines()[-1].count("write failed"), 1, faults)
@@ -90,13 +105,23 @@ class OwnSolvers(HelperTest):
 
     def test_after_a_fault_that_allows_no_report_there_is_the_fault_alone(self):
         mine = shutil.copy(program.find_program(), self.folder / "inrc2pb")
-        words = ("--out", self.folder / "best.txt", "--solver", f"sh -c 'rm {mine}; echo s UNKNOWN'")
-        status, report, faults = run("solve", *WEEK_OPTIONS, *words, environment={"INRC2PB": str(mine)})
+        words = (
+            "--out",
+            self.folder / "best.txt",
+            "--solver",
+            f"sh -c 'rm {mine}; echo s UNKNOWN'",
+        )
+        status, report, faults = run(
+            "solve", *WEEK_OPTIONS, *words, environment={"INRC2PB": str(mine)}
+        )
         self.assertEqual((status, report), (127, ""))
         self.assertIn(f"there is no program {mine}", faults.splitlines()[-1])
 
     def test_a_solver_that_does_not_end_is_ended(self):
-        for how, says in (("deaf", "no roster was found in 1 s: "), ("flood", "no roster was found in 1 s: |it printed more than 256 MiB")):
+        for how, says in (
+            ("deaf", "no roster was found in 1 s: "),
+            ("flood", "no roster was found in 1 s: |it printed more than 256 MiB"),
+        ):
             with self.subTest(how=how):
                 began = time.monotonic()
                 status, _, faults = self.improve("--time", 1, "--solver", fake(how))
@@ -111,16 +136,33 @@ class OwnSolvers(HelperTest):
         outcome = find_solver("true")._outcome(Ended(-15, flood, True), None)
         self.assertEqual(outcome, Outcome("s UNKNOWN\n"))
         self.assertLess(time.process_time() - began, 2)
-        for text, has in ((b"s UNKNOWN", True), (b"c x\ns UNKNOWN\n", True), (b"solved\n", False), (b"o 3\ns", True), (b"c s \n", False)):
-            self.assertEqual(bool(find_solver("true")._outcome(Ended(0, text, True), None).answer == text.decode()), has, text)
+        for text, has in (
+            (b"s UNKNOWN", True),
+            (b"c x\ns UNKNOWN\n", True),
+            (b"solved\n", False),
+            (b"o 3\ns", True),
+            (b"c s \n", False),
+        ):
+            self.assertEqual(
+                bool(
+                    find_solver("true")._outcome(Ended(0, text, True), None).answer == text.decode()
+                ),
+                has,
+                text,
+            )
 
     def test_a_flood_is_a_fault(self):
         with mock.patch("inrc2pb.programs.processes.MAX_OUTPUT", 100_000):
             outcome = find_solver(fake("flood")).solve(WEEK_FILES, 60, self.folder, Processes())
-        self.assertEqual(outcome, Outcome("", "it printed more than 256 MiB, too much for an answer"))
+        self.assertEqual(
+            outcome, Outcome("", "it printed more than 256 MiB, too much for an answer")
+        )
 
     def test_a_solver_that_cannot_be_run(self):
-        rows = {"no_such_solver": "there is no solver no_such_solver", "clasp 'x": "No closing quotation: correct its quotes"}
+        rows = {
+            "no_such_solver": "there is no solver no_such_solver",
+            "clasp 'x": "No closing quotation: correct its quotes",
+        }
         for solver, says in rows.items():
             status, _, faults = self.improve("--solver", solver)
             self.assertEqual(status, 1)
@@ -131,17 +173,30 @@ class OwnSolvers(HelperTest):
         script = self.folder / "my solver.sh"
         script.write_text("#!/bin/sh\n")
         _, _, faults = self.improve("--solver", f"'{script}' {{}}")
-        self.assertIn(f"the solver {script} is not executable: type chmod +x '{script}', or choose another with --solver\n", faults)
+        self.assertIn(
+            f"the solver {script} is not executable: type chmod +x '{script}', or choose another with --solver\n",
+            faults,
+        )
         script.chmod(0o755)
-        with mock.patch("pathlib.Path.is_file", return_value=True), mock.patch("os.access", return_value=True):
-            with self.assertRaisesRegex(Misuse, "^there is no solver mine.sh in PATH: name the one in this folder ./mine.sh, or"):
+        with mock.patch("pathlib.Path.is_file", return_value=True), mock.patch(
+            "os.access", return_value=True
+        ):
+            with self.assertRaisesRegex(
+                Misuse,
+                "^there is no solver mine.sh in PATH: name the one in this folder ./mine.sh, or",
+            ):
                 find_solver("mine.sh")
 
     def test_the_last_line_of_standard_error(self):
-        script = "echo first >&2; yes '' | head -c 300000 >&2; echo the license has ended >&2; exit 7"
+        script = (
+            "echo first >&2; yes '' | head -c 300000 >&2; echo the license has ended >&2; exit 7"
+        )
         status, _, faults = self.improve("--solver", f"sh -c '{script}'", "--roster", ROSTER)
         self.assertEqual(status, 1)
-        self.assertIn("sh has no answer: it printed no answer and ended with status 7: the license has ended; try", faults)
+        self.assertIn(
+            "sh has no answer: it printed no answer and ended with status 7: the license has ended; try",
+            faults,
+        )
 
     def test_a_solver_in_the_users_folder(self):
         self.script("mine.sh", f"cat {self.answer().name}\n")
@@ -151,11 +206,15 @@ class OwnSolvers(HelperTest):
             solver = find_solver("./mine.sh")
         finally:
             os.chdir(before)
-        self.assertTrue(solver.solve(WEEK_FILES, 10, self.folder, Processes()).answer.startswith("o 20\n"))
+        self.assertTrue(
+            solver.solve(WEEK_FILES, 10, self.folder, Processes()).answer.startswith("o 20\n")
+        )
 
     @unittest.skipUnless(shutil.which("glpsol"), "needs glpsol")
     def test_the_solver_of_the_page_on_commands(self):
-        command = re.search('--solver "(glpsol .*)"$', (ROOT / "docs" / "commands.md").read_text(), re.MULTILINE)[1]
+        command = re.search(
+            '--solver "(glpsol .*)"$', (ROOT / "docs" / "commands.md").read_text(), re.MULTILINE
+        )[1]
         held = replace(WEEK_FILES, fix=ROSTER)
         outcome = find_solver(command).solve(held, 60, self.folder, Processes())
         self.assertEqual(program.decode(held, outcome.answer).penalty, 20)

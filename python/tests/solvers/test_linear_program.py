@@ -13,7 +13,13 @@ from unittest import mock
 
 from ward import HELPERS, HelperTest, run
 
-from inrc2pb.solvers.linear_program import ModelFault, ModelSize, _write_constraint, convert, write_linear_program
+from inrc2pb.solvers.linear_program import (
+    ModelFault,
+    ModelSize,
+    _write_constraint,
+    convert,
+    write_linear_program,
+)
 from inrc2pb.solvers.mip_solution import SolutionFault, read_answer
 from inrc2pb.solvers.solvers import answer_of as answer_of_file
 
@@ -22,7 +28,12 @@ SOLUTIONS = HERE / "data" / "solutions"
 COMMAND = HELPERS / "inrc2pb-solve"
 MAX_LINE = 560
 
-STATUS_OF = {"optimal": "OPTIMUM FOUND", "stopped": "SATISFIABLE", "none": "UNKNOWN", "infeasible": "UNSATISFIABLE"}
+STATUS_OF = {
+    "optimal": "OPTIMUM FOUND",
+    "stopped": "SATISFIABLE",
+    "none": "UNKNOWN",
+    "infeasible": "UNSATISFIABLE",
+}
 BEST = "o 15\nv x1 x3\n"
 
 
@@ -72,7 +83,10 @@ def lp_of(text):
 class NoResult(HelperTest):
     def test_a_result_file_that_is_missing(self):
         missing = self.folder / "week.sol"
-        self.assertEqual(run("solve", "--answer", missing, "--status", "infeasible"), (0, "s UNSATISFIABLE\n", ""))
+        self.assertEqual(
+            run("solve", "--answer", missing, "--status", "infeasible"),
+            (0, "s UNSATISFIABLE\n", ""),
+        )
         self.assertEqual(run("solve", "--answer", missing, "--status", "optimal")[0], 3)
         self.assertEqual(run("solve", "--answer", missing)[0], 3)
 
@@ -80,10 +94,14 @@ class NoResult(HelperTest):
         huge = self.folder / "week.sol"
         huge.touch()
         os.truncate(huge, 1 << 42)
-        self.assert_fault(run("solve", "--answer", huge), f"inrc2pb-solve: {huge} has more than 256 MiB: this is no answer")
+        self.assert_fault(
+            run("solve", "--answer", huge),
+            f"inrc2pb-solve: {huge} has more than 256 MiB: this is no answer",
+        )
         outcome = answer_of_file(huge)
         self.assertEqual(
-            (outcome.answer, outcome.fault), ("", f"its result file has a fault: {huge} has more than 256 MiB: this is no answer")
+            (outcome.answer, outcome.fault),
+            ("", f"its result file has a fault: {huge} has more than 256 MiB: this is no answer"),
         )
 
 
@@ -98,9 +116,14 @@ class LinearPrograms(unittest.TestCase):
         )
 
     def test_an_objective_whose_coefficients_are_zero(self):
-        text, size = lp_of("* #variable= 2 #constraint= 1\nmin: +0 x1 +0 x2 ;\n+1 x1 +1 x2 >= 1 ;\n")
+        text, size = lp_of(
+            "* #variable= 2 #constraint= 1\nmin: +0 x1 +0 x2 ;\n+1 x1 +1 x2 >= 1 ;\n"
+        )
         self.assertEqual(size, ModelSize(2, 1, 0))
-        self.assertEqual(text, "Minimize\n obj: +0 x1 +0 x2\nSubject To\n c1: +1 x1 +1 x2 >= 1\nBinary\n x1 x2\nEnd\n")
+        self.assertEqual(
+            text,
+            "Minimize\n obj: +0 x1 +0 x2\nSubject To\n c1: +1 x1 +1 x2 >= 1\nBinary\n x1 x2\nEnd\n",
+        )
 
     def test_without_an_objective(self):
         text, size = lp_of("* #variable= 1 #constraint= 1\n+1 x1 >= 1 ;\n")
@@ -114,12 +137,18 @@ class LinearPrograms(unittest.TestCase):
         count = 60_000
         objective = "".join(f" +{7 * (1 + n % 5)} x{n}" for n in range(1, count + 1))
         row = " ".join(f"+1 x{n}" for n in range(1, count + 1))
-        text, size = lp_of(f"* #variable= {count} #constraint= 2\nmin:{objective} ;\n{row} >= 1 ;\n-1 x1 >= -1 ;\n")
+        text, size = lp_of(
+            f"* #variable= {count} #constraint= 2\nmin:{objective} ;\n{row} >= 1 ;\n-1 x1 >= -1 ;\n"
+        )
         self.assertEqual(size, ModelSize(count, 2, 7))
         self.assertLessEqual(max(map(len, text.split("\n"))), MAX_LINE)
         words = text.split()
-        self.assertEqual(" ".join(words[words.index("obj:") + 1 : words.index("Subject")]), objective.strip())
-        self.assertEqual(" ".join(words[words.index("c1:") + 1 : words.index("c2:")]), f"{row} >= 1")
+        self.assertEqual(
+            " ".join(words[words.index("obj:") + 1 : words.index("Subject")]), objective.strip()
+        )
+        self.assertEqual(
+            " ".join(words[words.index("c1:") + 1 : words.index("c2:")]), f"{row} >= 1"
+        )
 
     def test_longest_terms_fit_a_line(self):
         terms = " ".join([f"-{'9' * 17} x{'9' * 10}"] * 100)
@@ -168,13 +197,22 @@ class LinearPrograms(unittest.TestCase):
                 convert(model, lp)
             self.assertEqual((lp.read_text(), len(list(Path(folder).iterdir()))), ("old", 2))
             convert(SOLUTIONS / "model.opb", lp)
-            self.assertEqual((lp.read_text()[:8], len(list(Path(folder).iterdir()))), ("Minimize", 2))
+            self.assertEqual(
+                (lp.read_text()[:8], len(list(Path(folder).iterdir()))), ("Minimize", 2)
+            )
 
     def test_a_long_model_needs_little_memory(self):
         with tempfile.TemporaryDirectory() as folder:
             model = Path(folder, "week.opb")
             write_model(model, LONG_MODEL)
-            words = [sys.executable, "-c", MEASURED, str(HELPERS), str(model), str(Path(folder, "week.lp"))]
+            words = [
+                sys.executable,
+                "-c",
+                MEASURED,
+                str(HELPERS),
+                str(model),
+                str(Path(folder, "week.lp")),
+            ]
             ran = subprocess.run(words, stdout=subprocess.PIPE, check=True, timeout=600)
             self.assertLess(int(ran.stdout), MAX_MEMORY)
 
@@ -196,14 +234,21 @@ class Solutions(unittest.TestCase):
         self.assertEqual(answer_of("", "infeasible"), "s UNSATISFIABLE\n")
 
     def test_toulbar2_has_to_print_names(self):
-        text = (SOLUTIONS / "toulbar2-optimal.sol").read_text().replace("x1=v1 x2=v0 x3=v1", "1 0 1")
-        with self.assertRaisesRegex(SolutionFault, "^toulbar2 printed no names of variables: give it the option -s=3$"):
+        text = (
+            (SOLUTIONS / "toulbar2-optimal.sol").read_text().replace("x1=v1 x2=v0 x3=v1", "1 0 1")
+        )
+        with self.assertRaisesRegex(
+            SolutionFault, "^toulbar2 printed no names of variables: give it the option -s=3$"
+        ):
             answer_of(text)
 
     def test_the_last_solution_of_toulbar2_counts(self):
         text = (SOLUTIONS / "toulbar2-stopped.sol").read_text()
         worse = "New solution: 25 (0 backtracks, 0 nodes, depth 2)\n x1=v0 x2=v1 x3=v1\n"
-        self.assertEqual(answer_of(text.replace("New solution", f"{worse}New solution")), f"s SATISFIABLE\n{BEST}")
+        self.assertEqual(
+            answer_of(text.replace("New solution", f"{worse}New solution")),
+            f"s SATISFIABLE\n{BEST}",
+        )
 
     def test_an_endless_line_ends_at_a_limit(self):
         for text in ("Optimal - objective value 15" + "0" * 100, "x1 1\n" * 300):
@@ -211,7 +256,10 @@ class Solutions(unittest.TestCase):
                 with self.assertRaisesRegex(SolutionFault, "this is no answer"):
                     answer_of(text)
         ran = subprocess.run(
-            [str(COMMAND), "--answer", "/dev/zero"], stdout=subprocess.PIPE, stderr=subprocess.PIPE, preexec_fn=_limit_memory
+            [str(COMMAND), "--answer", "/dev/zero"],
+            stdout=subprocess.PIPE,
+            stderr=subprocess.PIPE,
+            preexec_fn=_limit_memory,
         )
         self.assertEqual((ran.returncode, ran.stdout), (1, b""), ran.stderr)
         self.assertIn(b"this is no answer", ran.stderr)
@@ -226,16 +274,26 @@ class Solutions(unittest.TestCase):
         for value in ("0.0000009", "-0.0000009", "-0", "1e-9"):
             self.assertEqual(answer_of(f"x1 1\nx2 {value}\n"), "s SATISFIABLE\nv x1\n")
         for value in ("nan", "inf", "v1"):
-            with self.subTest(value=value), self.assertRaisesRegex(SolutionFault, "line 2: '.*' is no value for x2"):
+            with self.subTest(value=value), self.assertRaisesRegex(
+                SolutionFault, "line 2: '.*' is no value for x2"
+            ):
                 answer_of(f"x1 1\nx2 {value}\n")
 
     def test_a_value_that_is_no_integer_has_its_advice(self):
         for values, says in (
-            (("1.0000011", "0.9999989", "0.0000011", "-1e-5", "0.99999", "1.00099"), "off by more than a millionth: .*IntFeasTol=1e-9"),
-            (("0.5", "2", "-1", "0.002", "1e999"), "neither 0 nor 1: let the solver solve the model with integers"),
+            (
+                ("1.0000011", "0.9999989", "0.0000011", "-1e-5", "0.99999", "1.00099"),
+                "off by more than a millionth: .*IntFeasTol=1e-9",
+            ),
+            (
+                ("0.5", "2", "-1", "0.002", "1e999"),
+                "neither 0 nor 1: let the solver solve the model with integers",
+            ),
         ):
             for value in values:
-                with self.subTest(value=value), self.assertRaisesRegex(SolutionFault, f"line 2: x2 is {value}, {says}"):
+                with self.subTest(value=value), self.assertRaisesRegex(
+                    SolutionFault, f"line 2: x2 is {value}, {says}"
+                ):
                     answer_of(f"x1 1\nx2 {value}\n")
 
     def test_faults(self):
@@ -278,20 +336,31 @@ class InstalledSolvers(unittest.TestCase):
                 self.assertEqual(answer_of(sol.read_text()), f"s OPTIMUM FOUND\n{BEST}")
 
     def test_solvers_that_print_their_solution(self):
-        for name, command in {"symphony": ["symphony", "-L", "{lp}"], "toulbar2": ["toulbar2", "{opb}", "-s=3"]}.items():
+        for name, command in {
+            "symphony": ["symphony", "-L", "{lp}"],
+            "toulbar2": ["toulbar2", "{opb}", "-s=3"],
+        }.items():
             if not shutil.which(name):
                 continue
             with self.subTest(solver=name), tempfile.TemporaryDirectory() as folder:
                 lp = Path(folder, "model.lp")
                 convert(SOLUTIONS / "model.opb", lp)
                 words = [word.format(lp=lp, opb=SOLUTIONS / "model.opb") for word in command]
-                ran = subprocess.run(words, stdout=subprocess.PIPE, stderr=subprocess.DEVNULL, text=True, timeout=600)
+                ran = subprocess.run(
+                    words, stdout=subprocess.PIPE, stderr=subprocess.DEVNULL, text=True, timeout=600
+                )
                 self.assertEqual(answer_of(ran.stdout), f"s OPTIMUM FOUND\n{BEST}")
 
 
 class Command(unittest.TestCase):
     def run_it(self, *words, given=""):
-        return subprocess.run([str(COMMAND), *map(str, words)], input=given, stdout=subprocess.PIPE, stderr=subprocess.PIPE, text=True)
+        return subprocess.run(
+            [str(COMMAND), *map(str, words)],
+            input=given,
+            stdout=subprocess.PIPE,
+            stderr=subprocess.PIPE,
+            text=True,
+        )
 
     def test_a_cut_model(self):
         cut = "* #variable= 1 #constraint= 2\n+1 x1 >= 1 ;\n"
@@ -300,7 +369,9 @@ class Command(unittest.TestCase):
             for words, ends in (((), advice), (("--out", Path(folder, "week.lp")), "")):
                 ran = self.run_it("--model", *words, given=cut)
                 self.assertEqual(ran.returncode, 1)
-                self.assertTrue(ran.stderr.endswith(f"it is cut, so encode the week again{ends}\n"), ran.stderr)
+                self.assertTrue(
+                    ran.stderr.endswith(f"it is cut, so encode the week again{ends}\n"), ran.stderr
+                )
 
     def test_both_directions(self):
         model = (SOLUTIONS / "model.opb").read_text()
@@ -308,13 +379,19 @@ class Command(unittest.TestCase):
         self.assertEqual((ran.returncode, ran.stdout), (0, lp_of(model)[0]))
         with tempfile.TemporaryDirectory() as folder:
             lp = Path(folder, "model.lp")
-            self.assertEqual(self.run_it("--model", SOLUTIONS / "model.opb", "--out", lp).returncode, 0)
+            self.assertEqual(
+                self.run_it("--model", SOLUTIONS / "model.opb", "--out", lp).returncode, 0
+            )
             self.assertEqual(lp.read_text(), ran.stdout)
         ran = self.run_it("--answer", SOLUTIONS / "cbc-optimal.sol")
         self.assertEqual((ran.returncode, ran.stdout), (0, f"s OPTIMUM FOUND\n{BEST}"))
 
     def test_faults_are_one_line(self):
-        for words in (("--answer", "missing.sol"), ("--model", "missing.opb"), ("--answer", SOLUTIONS / "model.opb")):
+        for words in (
+            ("--answer", "missing.sol"),
+            ("--model", "missing.opb"),
+            ("--answer", SOLUTIONS / "model.opb"),
+        ):
             with self.subTest(words=words):
                 ran = self.run_it(*words)
                 self.assertNotEqual(ran.returncode, 0)

@@ -19,7 +19,16 @@ from inrc2pb.programs.clock import Clock, TimeIsOver
 from inrc2pb.programs.processes import Processes
 from inrc2pb.solvers import clp_child
 from inrc2pb.solvers.answers import MAX_FAULTS, SolverFault
-from inrc2pb.solvers.resident_program import DUAL, INFEASIBLE, OPTIMAL, PRIMAL, STOPPED, Child, Column, LinearProgram
+from inrc2pb.solvers.resident_program import (
+    DUAL,
+    INFEASIBLE,
+    OPTIMAL,
+    PRIMAL,
+    STOPPED,
+    Child,
+    Column,
+    LinearProgram,
+)
 
 try:
     clp_child.load()
@@ -52,7 +61,10 @@ class Solutions(Programs):
     def test_a_program_by_hand(self):
         found = self.small().solve(Clock(600))
         # Two of the first column and one of the second: one more would cost 3.
-        self.assertEqual((found.status, found.value, list(found.columns), list(found.prices)), (OPTIMAL, 7.0, [2.0, 1.0], [3.0]))
+        self.assertEqual(
+            (found.status, found.value, list(found.columns), list(found.prices)),
+            (OPTIMAL, 7.0, [2.0, 1.0], [3.0]),
+        )
 
     def test_changes(self):
         program = self.small()
@@ -82,7 +94,14 @@ class Solutions(Programs):
     def test_two_programs_of_one_child(self):
         one, other = self.small(), self.small()
         other.bound_rows({0: (1.0, INF)})
-        self.assertEqual([one.solve(Clock(600)).value, other.solve(Clock(600)).value, one.solve(Clock(600)).value], [7.0, 2.0, 7.0])
+        self.assertEqual(
+            [
+                one.solve(Clock(600)).value,
+                other.solve(Clock(600)).value,
+                one.solve(Clock(600)).value,
+            ],
+            [7.0, 2.0, 7.0],
+        )
         one.close()
         self.assertEqual(other.solve(Clock(600)).value, 2.0)
 
@@ -105,14 +124,23 @@ class Solutions(Programs):
         whole = covering(self.program(), 200)
         first = whole.solve(Clock(600))
         # As another process gets it.
-        copied = pickle.loads(pickle.dumps(whole)).part(range(whole.columns), self.program()).solve(Clock(600))
+        copied = (
+            pickle.loads(pickle.dumps(whole))
+            .part(range(whole.columns), self.program())
+            .solve(Clock(600))
+        )
         self.assertAlmostEqual(copied.value, first.value, 6)
         self.assertEqual(copied.iterations, 0)
-        left = [number for number, value in enumerate(first.columns) if value > 1e-9 or number % 3 == 0]
+        left = [
+            number for number, value in enumerate(first.columns) if value > 1e-9 or number % 3 == 0
+        ]
         part = whole.part(left, self.program())
         found = part.solve(Clock(600))
         self.assertEqual((part.columns, found.iterations), (len(left), 0))
-        self.assertEqual([round(value, 6) for value in found.columns], [round(first.columns[number], 6) for number in left])
+        self.assertEqual(
+            [round(value, 6) for value in found.columns],
+            [round(first.columns[number], 6) for number in left],
+        )
 
     def test_a_limit_of_iterations(self):
         program = covering(self.program(), 200)
@@ -126,10 +154,16 @@ class Solutions(Programs):
             found = program.solve(Clock(600), how)
             model, answer = self.folder / "model.mps", self.folder / "answer.txt"
             model.write_text(program.text([f"v{number}" for number in range(program.columns)], "x"))
-            subprocess.run(["cbc", str(model), "solve", "solution", str(answer)], stdout=subprocess.DEVNULL, check=True)
+            subprocess.run(
+                ["cbc", str(model), "solve", "solution", str(answer)],
+                stdout=subprocess.DEVNULL,
+                check=True,
+            )
             self.assertAlmostEqual(found.value, float(answer.read_text().split()[4]), 4)
             # By duality the prices have this value, too.
-            self.assertAlmostEqual(sum(price * (1 + row % 3) for row, price in enumerate(found.prices)), found.value, 4)
+            self.assertAlmostEqual(
+                sum(price * (1 + row % 3) for row, price in enumerate(found.prices)), found.value, 4
+            )
 
 
 def covering(program, columns, seed=5):
@@ -137,8 +171,15 @@ def covering(program, columns, seed=5):
     chance = random.Random(seed)
     rows = 12
     program.add_rows([(1.0 + row % 3, INF) for row in range(rows)])
-    made = [chance.sample(range(rows), chance.randint(1, 4)) for _ in range(columns)] + [[row] for row in range(rows)]
-    program.add_columns([Column(float(chance.randint(5, 30)), 0.0, INF, [(row, 1.0) for row in entries]) for entries in made])
+    made = [chance.sample(range(rows), chance.randint(1, 4)) for _ in range(columns)] + [
+        [row] for row in range(rows)
+    ]
+    program.add_columns(
+        [
+            Column(float(chance.randint(5, 30)), 0.0, INF, [(row, 1.0) for row in entries])
+            for entries in made
+        ]
+    )
     return program
 
 
@@ -208,16 +249,40 @@ class Faults(Programs):
             "one, two = pack('d', 1.0), pack('2d', 1.0, 1.0)\nanswers.send(({}, b'', b''))\nos.read(0, 1)\n"
         )
         children = {
-            "no library": (f"import sys\nsys.exit({clp_child.NO_LIBRARY})", "libClp.so.1 is missing: install it"),
-            "crash": ("import os, signal\nos.kill(os.getpid(), signal.SIGSEGV)", "Clp's library ended"),
+            "no library": (
+                f"import sys\nsys.exit({clp_child.NO_LIBRARY})",
+                "libClp.so.1 is missing: install it",
+            ),
+            "crash": (
+                "import os, signal\nos.kill(os.getpid(), signal.SIGSEGV)",
+                "Clp's library ended",
+            ),
             "cut": ("import os\nos.read(0, 10)\nos.write(1, b'abc')", "Clp's library ended"),
-            "abandoned": (answer.format("4, 0, 7.0, one, two"), "Clp's library ended with status 4"),
-            "no numbers": (answer.format("0, 0, 7.0, one, pack('2d', 1.0, float('nan'))"), "numbers that are none"),
-            "no prices": (answer.format("0, 0, 7.0, pack('d', float('nan')), two"), "numbers that are none"),
-            "few columns": (answer.format("0, 0, 7.0, one, one"), "Clp's library ended with status 0"),
-            "many prices": (answer.format("0, 0, 7.0, two, two"), "Clp's library ended with status 0"),
+            "abandoned": (
+                answer.format("4, 0, 7.0, one, two"),
+                "Clp's library ended with status 4",
+            ),
+            "no numbers": (
+                answer.format("0, 0, 7.0, one, pack('2d', 1.0, float('nan'))"),
+                "numbers that are none",
+            ),
+            "no prices": (
+                answer.format("0, 0, 7.0, pack('d', float('nan')), two"),
+                "numbers that are none",
+            ),
+            "few columns": (
+                answer.format("0, 0, 7.0, one, one"),
+                "Clp's library ended with status 0",
+            ),
+            "many prices": (
+                answer.format("0, 0, 7.0, two, two"),
+                "Clp's library ended with status 0",
+            ),
             "no value": (answer.format("0, 0, float('nan'), one, two"), "numbers that are none"),
-            "other sizes": (answer.format("0, 0, 7.0, two, one"), "Clp's library ended with status 0"),
+            "other sizes": (
+                answer.format("0, 0, 7.0, two, one"),
+                "Clp's library ended with status 0",
+            ),
         }
         for how, (script, fault) in children.items():
             with self.subTest(how=how), self.child_that(script):
@@ -243,7 +308,13 @@ class Texts(Programs):
         self.assertEqual(words[2:8], [["N", "obj"], *kinds])
         self.assertIn(["RNG", "c2", "1"], words)
         self.assertIn(["MI", "BND", "v2", "-1e+30"], words)
-        for line in (["v0", "obj", "2"], ["v2", "c2", "-1"], ["RHS", "c0", "3"], ["RHS", "c2", "2"], ["UP", "BND", "v0", "2"]):
+        for line in (
+            ["v0", "obj", "2"],
+            ["v2", "c2", "-1"],
+            ["RHS", "c0", "3"],
+            ["RHS", "c2", "2"],
+            ["UP", "BND", "v0", "2"],
+        ):
             self.assertIn(line, words)
 
 

@@ -31,7 +31,10 @@ class RoundTrips(HelperTest):
         with self.assertRaises(OSError):
             writing.write_text(self.folder / "missing" / "roster.txt", "new")
         writing.write_text(target, "new")
-        self.assertEqual((target.read_text(), [path.name for path in self.folder.iterdir()]), ("new", ["roster.txt"]))
+        self.assertEqual(
+            (target.read_text(), [path.name for path in self.folder.iterdir()]),
+            ("new", ["roster.txt"]),
+        )
 
     def test_a_new_file_has_the_permissions_of_the_umask(self):
         new, private = self.folder / "new.txt", self.folder / "private.txt"
@@ -53,7 +56,9 @@ class RoundTrips(HelperTest):
             resource.setrlimit(resource.RLIMIT_FSIZE, (20, hard))
             with self.assertRaises(OSError) as caught:
                 writing.write_text(target, "new" * 100)
-            self.assertEqual((caught.exception.filename, target.read_text()), (str(target), "old text"))
+            self.assertEqual(
+                (caught.exception.filename, target.read_text()), (str(target), "old text")
+            )
             writing.write_text(target, "new")
         self.assertEqual((target.read_text(), len(list(self.folder.iterdir()))), ("new", 1))
 

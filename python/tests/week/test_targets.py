@@ -8,7 +8,18 @@ import unittest
 from pathlib import Path
 from unittest import mock
 
-from ward import ENOUGH, HISTORY, ROSTER, SCENARIO, WEEK, WEEK_FILES, WEEK_OPTIONS, HelperTest, program, run
+from ward import (
+    ENOUGH,
+    HISTORY,
+    ROSTER,
+    SCENARIO,
+    WEEK,
+    WEEK_FILES,
+    WEEK_OPTIONS,
+    HelperTest,
+    program,
+    run,
+)
 
 from inrc2pb.commands import command
 from inrc2pb.commands.solve import main
@@ -33,16 +44,24 @@ class Targets(HelperTest):
         self.assert_not_written("/dev/full", FULL)
 
     def test_a_missing_folder(self):
-        self.assert_not_written(self.folder / "none" / "best.txt", "No such file or directory: look at its name and folder")
+        self.assert_not_written(
+            self.folder / "none" / "best.txt",
+            "No such file or directory: look at its name and folder",
+        )
 
     def test_a_file_in_place_of_a_folder(self):
-        self.assert_not_written(ROSTER / "best.txt", "Not a directory: a part of its path is no folder")
+        self.assert_not_written(
+            ROSTER / "best.txt", "Not a directory: a part of its path is no folder"
+        )
 
     @unittest.skipUnless(Path("/sys").is_dir(), "needs /sys")
     def test_a_folder_in_which_nobody_may_write(self):
         status, printed, said = self.improve("/sys/best.txt")
         self.assertEqual((status, printed), (3, ""), said)
-        self.assertRegex(said, f"^inrc2pb-solve: /sys/best.txt: [A-Z][a-z -]+: ({RIGHTS}|choose another folder)\n$")
+        self.assertRegex(
+            said,
+            f"^inrc2pb-solve: /sys/best.txt: [A-Z][a-z -]+: ({RIGHTS}|choose another folder)\n$",
+        )
 
     @unittest.skipIf(os.geteuid() == 0, "needs a user who is not root")
     def test_a_folder_without_write_permission(self):
@@ -65,18 +84,30 @@ class Targets(HelperTest):
         start = self.swapped("Amara", "Bruno")
         link.symlink_to(roster)
         for target in (roster, link):
-            with self.subTest(target.name), contextlib.redirect_stderr(io.TextIOWrapper(io.BytesIO())) as said:
+            with self.subTest(target.name), contextlib.redirect_stderr(
+                io.TextIOWrapper(io.BytesIO())
+            ) as said:
                 shutil.copy(start, roster)
                 words = [*WEEK_OPTIONS, "--roster", start, "--out", target, "--time", ENOUGH]
                 unchanged = mock.patch("inrc2pb.commands.command._catch_signals")
-                with mock.patch("sys.argv", ["inrc2pb-solve"]), mock.patch("os.open", self.full_after(2)), unchanged:
-                    with self.assertRaises(SystemExit) as ended, contextlib.redirect_stdout(io.TextIOWrapper(io.BytesIO())):
+                with mock.patch("sys.argv", ["inrc2pb-solve"]), mock.patch(
+                    "os.open", self.full_after(2)
+                ), unchanged:
+                    with self.assertRaises(SystemExit) as ended, contextlib.redirect_stdout(
+                        io.TextIOWrapper(io.BytesIO())
+                    ):
                         command.run(lambda: main([str(word) for word in words]))
                 said.seek(0)
-                self.assertEqual((ended.exception.code, said.readlines()[-1]), (3, f"inrc2pb-solve: {target}: {FULL}\n"))
+                self.assertEqual(
+                    (ended.exception.code, said.readlines()[-1]),
+                    (3, f"inrc2pb-solve: {target}: {FULL}\n"),
+                )
                 self.assertEqual(program.penalty_of(WEEK_FILES, roster), 110)
                 self.assertTrue(link.is_symlink())
-                self.assertEqual(sorted(path.name for path in self.folder.iterdir()), ["link.txt", "roster.txt", "start.txt"])
+                self.assertEqual(
+                    sorted(path.name for path in self.folder.iterdir()),
+                    ["link.txt", "roster.txt", "start.txt"],
+                )
 
     def full_after(self, count):
         """As `os.open`, but after so many files next to the roster, what is written to one goes to a full disk."""
@@ -102,20 +133,63 @@ class InputsStay(HelperTest):
         roster, model = self.folder / "roster-0.txt", self.folder / "week.opb"
         program.encode(WEEK_FILES, model)
         shutil.copy(ROSTER, roster)
-        week = {name: shutil.copy(path, self.folder / name) for name, path in (("history-1.txt", HISTORY), ("week.txt", WEEK))}
+        week = {
+            name: shutil.copy(path, self.folder / name)
+            for name, path in (("history-1.txt", HISTORY), ("week.txt", WEEK))
+        }
         of_week = ("--sce", SCENARIO, "--his", HISTORY, "--week", week["week.txt"])
-        period = ("solve", "--time", ENOUGH, "--out", self.folder, "--solver", "false", "--sce", SCENARIO, "--his")
-        goes_on, competes = ("roster", "next", "--sce", SCENARIO, "--his"), ("solve", "--inrc2", *of_week)
+        period = (
+            "solve",
+            "--time",
+            ENOUGH,
+            "--out",
+            self.folder,
+            "--solver",
+            "false",
+            "--sce",
+            SCENARIO,
+            "--his",
+        )
+        goes_on, competes = ("roster", "next", "--sce", SCENARIO, "--his"), (
+            "solve",
+            "--inrc2",
+            *of_week,
+        )
         for input_file, target, what, words in (
             (roster, "file", "the next history", (*goes_on, HISTORY, "--roster", roster, "--out")),
-            (week["history-1.txt"], "file", "the next history", (*goes_on, week["history-1.txt"], "--roster", roster, "--out")),
+            (
+                week["history-1.txt"],
+                "file",
+                "the next history",
+                (*goes_on, week["history-1.txt"], "--roster", roster, "--out"),
+            ),
             (roster, "file", "the table", ("roster", "show", "--roster", roster, "--out")),
-            (roster, "file", "the charges", ("roster", "why", *WEEK_OPTIONS, "--roster", roster, "--out")),
+            (
+                roster,
+                "file",
+                "the charges",
+                ("roster", "why", *WEEK_OPTIONS, "--roster", roster, "--out"),
+            ),
             (model, "file", "the LP file", ("solve", "--model", model, "--out")),
             (week["week.txt"], "file", "the roster", (*competes, "--solver", "false", "--sol")),
-            (week["week.txt"], "file", "the number of the next week", (*competes, "--sol", "/dev/null", "--cusOut")),
-            (roster, "folder", "the roster of week 1", (*period, HISTORY, "--week", WEEK, "--fix", f"1={roster}")),
-            (week["history-1.txt"], "folder", "the history of week 2", (*period, week["history-1.txt"], "--week", WEEK)),
+            (
+                week["week.txt"],
+                "file",
+                "the number of the next week",
+                (*competes, "--sol", "/dev/null", "--cusOut"),
+            ),
+            (
+                roster,
+                "folder",
+                "the roster of week 1",
+                (*period, HISTORY, "--week", WEEK, "--fix", f"1={roster}"),
+            ),
+            (
+                week["history-1.txt"],
+                "folder",
+                "the history of week 2",
+                (*period, week["history-1.txt"], "--week", WEEK),
+            ),
         ):
             before = Path(input_file).read_bytes()
             link = self.folder / "link.txt"
